@@ -139,6 +139,31 @@ static void offer_to_both(uint8_t *packet, size_t len) {
     want("dropped", smoltcp_udp_process(&server, &of_b, packet, len), SMOLTCP_OK);
 }
 
+/* Datagrams are written and read where they lie in the queues, which have two places each. */
+static void datagrams_in_place(const struct smoltcp_udp_metadata *to) {
+    struct smoltcp_udp_metadata from;
+    const uint8_t *came = NULL;
+    uint8_t *at = NULL;
+    int k;
+    want("too long", smoltcp_udp_send_place(&client, to, QUEUE + 1, &at), SMOLTCP_ERROR_ROOM);
+    want("null", smoltcp_udp_send_place(&client, to, 8, NULL), SMOLTCP_ERROR_NULL);
+    for (k = 0; k < 2; k++) {
+        want("place", smoltcp_udp_send_place(&client, to, 8, &at), SMOLTCP_OK);
+        if (at) memcpy(at, k ? "in place" : "at first", 8);
+    }
+    want("no place", smoltcp_udp_send_place(&client, to, 8, &at), SMOLTCP_ERROR_ROOM);
+    want("carry", carry(&client, &of_a, &server, &of_b), SMOLTCP_OK);
+    want("peek", smoltcp_udp_peek_place(&server, &from, &came), 8);
+    want("as written", came && memcmp(came, "at first", 8) == 0, 1);
+    want("stays", smoltcp_udp_recv_place(&server, &from, &came), 8);
+    want("as written", came && memcmp(came, "at first", 8) == 0, 1);
+    want("the second", smoltcp_udp_recv_place(&server, &from, &came), 8);
+    want("as written", came && memcmp(came, "in place", 8) == 0, 1);
+    want("port", from.endpoint.port, 49152);
+    want("empty", smoltcp_udp_recv_place(&server, &from, &came), SMOLTCP_ERROR_EMPTY);
+    want("empty", smoltcp_udp_peek_place(&server, &from, &came), SMOLTCP_ERROR_EMPTY);
+}
+
 /* A datagram from a port of a to a socket of b, and one back to where it came from. */
 static void datagrams(void) {
     static const uint8_t text[] = "which address?";
@@ -173,6 +198,7 @@ static void datagrams(void) {
     want("answer", smoltcp_udp_send(&server, &from, text, 5), SMOLTCP_OK);
     want("carry", carry(&server, &of_b, &client, &of_a), SMOLTCP_OK);
     want("answer", smoltcp_udp_recv(&client, &from, bytes, sizeof bytes), 5);
+    datagrams_in_place(&meta);
     want("close", smoltcp_udp_close(&server), SMOLTCP_OK);
     want("close", smoltcp_udp_close(&client), SMOLTCP_OK);
 }

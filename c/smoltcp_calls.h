@@ -201,6 +201,39 @@ SMOLTCP_INLINE int64_t smoltcp_udp_release(struct smoltcp_udp *s, struct smoltcp
     return answer;
 }
 
+SMOLTCP_INLINE int64_t smoltcp_udp_send_place(struct smoltcp_udp *s, const struct smoltcp_udp_metadata *meta,
+                                              size_t size, uint8_t **at) {
+    struct smoltcp_udp_handle h = {SMOLTCP_AT(s)};
+    struct smoltcp_place place = {NULL, 0};
+    int64_t answer;
+    if (!s || !meta || !at) return SMOLTCP_ERROR_NULL;
+    answer = smoltcp_udp_send_place_nonnull(&h, meta, size, &place);
+    if (answer == 0) *at = SMOLTCP_AT(place.at);
+    return answer;
+}
+
+SMOLTCP_INLINE int64_t smoltcp_udp_recv_place(struct smoltcp_udp *s, struct smoltcp_udp_metadata *meta,
+                                              const uint8_t **at) {
+    struct smoltcp_udp_handle h = {SMOLTCP_AT(s)};
+    struct smoltcp_place place = {NULL, 0};
+    int64_t answer;
+    if (!s || !meta || !at) return SMOLTCP_ERROR_NULL;
+    answer = smoltcp_udp_recv_place_nonnull(&h, meta, &place);
+    if (answer >= 0) *at = place.at;
+    return answer;
+}
+
+SMOLTCP_INLINE int64_t smoltcp_udp_peek_place(struct smoltcp_udp *s, struct smoltcp_udp_metadata *meta,
+                                              const uint8_t **at) {
+    struct smoltcp_udp_handle h = {SMOLTCP_AT(s)};
+    struct smoltcp_place place = {NULL, 0};
+    int64_t answer;
+    if (!s || !meta || !at) return SMOLTCP_ERROR_NULL;
+    answer = smoltcp_udp_peek_place_nonnull(&h, meta, &place);
+    if (answer >= 0) *at = place.at;
+    return answer;
+}
+
 SMOLTCP_INLINE int64_t smoltcp_udp_poll_at(const struct smoltcp_udp *s, const struct smoltcp_context *cx) {
     struct smoltcp_udp_handle h = {SMOLTCP_AT(s)};
     int64_t at = 0, answer;
@@ -266,6 +299,36 @@ SMOLTCP_INLINE int64_t smoltcp_raw_ip_protocol(const struct smoltcp_raw *s) {
     return s && answer < 0 ? (int64_t)SMOLTCP_RAW_ANY : answer;
 }
 
+SMOLTCP_INLINE int64_t smoltcp_raw_send_place(struct smoltcp_raw *s, size_t size, uint8_t **at) {
+    struct smoltcp_raw_handle h = {SMOLTCP_AT(s)};
+    struct smoltcp_place place = {NULL, 0};
+    int64_t answer;
+    if (!s || !at) return SMOLTCP_ERROR_NULL;
+    answer = smoltcp_raw_send_place_nonnull(&h, size, &place);
+    if (answer == 0) *at = SMOLTCP_AT(place.at);
+    return answer;
+}
+
+SMOLTCP_INLINE int64_t smoltcp_raw_recv_place(struct smoltcp_raw *s, const uint8_t **at) {
+    struct smoltcp_raw_handle h = {SMOLTCP_AT(s)};
+    struct smoltcp_place place = {NULL, 0};
+    int64_t answer;
+    if (!s || !at) return SMOLTCP_ERROR_NULL;
+    answer = smoltcp_raw_recv_place_nonnull(&h, &place);
+    if (answer >= 0) *at = place.at;
+    return answer;
+}
+
+SMOLTCP_INLINE int64_t smoltcp_raw_peek_place(struct smoltcp_raw *s, const uint8_t **at) {
+    struct smoltcp_raw_handle h = {SMOLTCP_AT(s)};
+    struct smoltcp_place place = {NULL, 0};
+    int64_t answer;
+    if (!s || !at) return SMOLTCP_ERROR_NULL;
+    answer = smoltcp_raw_peek_place_nonnull(&h, &place);
+    if (answer >= 0) *at = place.at;
+    return answer;
+}
+
 SMOLTCP_INLINE int64_t smoltcp_raw_poll_at(const struct smoltcp_raw *s, const struct smoltcp_context *cx) {
     struct smoltcp_raw_handle h = {SMOLTCP_AT(s)};
     int64_t at = 0, answer;
@@ -321,6 +384,28 @@ SMOLTCP_INLINE int64_t smoltcp_icmp_release(struct smoltcp_icmp *s, struct smolt
         tx->bytes = of_tx.at;
         tx->len = of_tx.len;
     }
+    return answer;
+}
+
+SMOLTCP_INLINE int64_t smoltcp_icmp_send_place(struct smoltcp_icmp *s, const struct smoltcp_address *remote,
+                                               size_t size, uint8_t **at) {
+    struct smoltcp_icmp_handle h = {SMOLTCP_AT(s)};
+    struct smoltcp_place place = {NULL, 0};
+    int64_t answer;
+    if (!s || !remote || !at) return SMOLTCP_ERROR_NULL;
+    answer = smoltcp_icmp_send_place_nonnull(&h, remote, size, &place);
+    if (answer == 0) *at = SMOLTCP_AT(place.at);
+    return answer;
+}
+
+SMOLTCP_INLINE int64_t smoltcp_icmp_recv_place(struct smoltcp_icmp *s, struct smoltcp_address *remote,
+                                               const uint8_t **at) {
+    struct smoltcp_icmp_handle h = {SMOLTCP_AT(s)};
+    struct smoltcp_place place = {NULL, 0};
+    int64_t answer;
+    if (!s || !remote || !at) return SMOLTCP_ERROR_NULL;
+    answer = smoltcp_icmp_recv_place_nonnull(&h, remote, &place);
+    if (answer >= 0) *at = place.at;
     return answer;
 }
 

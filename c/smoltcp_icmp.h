@@ -107,6 +107,19 @@ int64_t smoltcp_icmp_send(struct smoltcp_icmp *s, const struct smoltcp_address *
  * Errors: SMOLTCP_ERROR_EMPTY, SMOLTCP_ERROR_ROOM, SMOLTCP_ERROR_NULL. */
 int64_t smoltcp_icmp_recv(struct smoltcp_icmp *s, struct smoltcp_address *remote, uint8_t *data, size_t cap);
 
+/* Puts a message of size bytes into the transmit queue, and lends them where they lie, without a copy: where in at.
+ * They may be written until the next call on the socket: what stands there then is the message. Refused as send.
+ *
+ * Errors: SMOLTCP_ERROR_ADDRESS, SMOLTCP_ERROR_ROOM, SMOLTCP_ERROR_NULL. */
+int64_t smoltcp_icmp_send_place(struct smoltcp_icmp *s, const struct smoltcp_address *remote, size_t size,
+                                uint8_t **at);
+
+/* Takes the first message of the receive queue, and lends it where it lies, without a copy: the answer is its length,
+ * where it lies stands in at, and its source in remote. It may be read until the next call on the socket.
+ *
+ * Errors: SMOLTCP_ERROR_EMPTY, SMOLTCP_ERROR_NULL. */
+int64_t smoltcp_icmp_recv_place(struct smoltcp_icmp *s, struct smoltcp_address *remote, const uint8_t **at);
+
 /* 1 where the IP packet carries a whole message for the socket, so that process takes it, else 0.
  *
  * Errors: SMOLTCP_ERROR_CONTEXT, SMOLTCP_ERROR_NULL. */

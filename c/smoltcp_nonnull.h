@@ -101,17 +101,23 @@ int64_t smoltcp_udp_init_nonnull(struct smoltcp_places rx_places, struct smoltcp
                                  struct smoltcp_udp_handle *room);
 int64_t smoltcp_udp_peek_nonnull(struct smoltcp_udp_handle *h, struct smoltcp_udp_metadata *meta, uint8_t *data,
                                  size_t cap);
+int64_t smoltcp_udp_peek_place_nonnull(struct smoltcp_udp_handle *h, struct smoltcp_udp_metadata *meta,
+                                       struct smoltcp_place *out);
 int64_t smoltcp_udp_place_nonnull(struct smoltcp_udp_handle *room);
 int64_t smoltcp_udp_poll_at_nonnull(struct smoltcp_udp_handle *h, const struct smoltcp_context *cx, int64_t *at);
 int64_t smoltcp_udp_process_nonnull(struct smoltcp_udp_handle *h, const struct smoltcp_context *cx,
                                     const uint8_t *packet, size_t len);
 int64_t smoltcp_udp_recv_nonnull(struct smoltcp_udp_handle *h, struct smoltcp_udp_metadata *meta, uint8_t *data,
                                  size_t cap);
+int64_t smoltcp_udp_recv_place_nonnull(struct smoltcp_udp_handle *h, struct smoltcp_udp_metadata *meta,
+                                       struct smoltcp_place *out);
 int64_t smoltcp_udp_release_nonnull(struct smoltcp_udp_handle *room, struct smoltcp_places *rx_places,
                                     struct smoltcp_bytes *rx, struct smoltcp_places *tx_places,
                                     struct smoltcp_bytes *tx);
 int64_t smoltcp_udp_send_nonnull(struct smoltcp_udp_handle *h, const struct smoltcp_udp_metadata *meta,
                                  const uint8_t *data, size_t len);
+int64_t smoltcp_udp_send_place_nonnull(struct smoltcp_udp_handle *h, const struct smoltcp_udp_metadata *meta,
+                                       size_t size, struct smoltcp_place *out);
 int64_t smoltcp_udp_set_hop_limit_nonnull(struct smoltcp_udp_handle *h, uint8_t hop_limit);
 int64_t smoltcp_raw_accepts_nonnull(struct smoltcp_raw_handle *h, const uint8_t *packet, size_t len);
 int64_t smoltcp_raw_ask_nonnull(struct smoltcp_raw_handle *h, uint32_t what);
@@ -121,15 +127,18 @@ int64_t smoltcp_raw_init_nonnull(struct smoltcp_places rx_places, struct smoltcp
                                  struct smoltcp_places tx_places, struct smoltcp_bytes tx,
                                  const struct smoltcp_raw_filter *filter, struct smoltcp_raw_handle *room);
 int64_t smoltcp_raw_peek_nonnull(struct smoltcp_raw_handle *h, uint8_t *data, size_t cap);
+int64_t smoltcp_raw_peek_place_nonnull(struct smoltcp_raw_handle *h, struct smoltcp_place *out);
 int64_t smoltcp_raw_place_nonnull(struct smoltcp_raw_handle *room);
 int64_t smoltcp_raw_poll_at_nonnull(struct smoltcp_raw_handle *h, const struct smoltcp_context *cx, int64_t *at);
 int64_t smoltcp_raw_process_nonnull(struct smoltcp_raw_handle *h, const struct smoltcp_context *cx,
                                     const uint8_t *packet, size_t len);
 int64_t smoltcp_raw_recv_nonnull(struct smoltcp_raw_handle *h, uint8_t *data, size_t cap);
+int64_t smoltcp_raw_recv_place_nonnull(struct smoltcp_raw_handle *h, struct smoltcp_place *out);
 int64_t smoltcp_raw_release_nonnull(struct smoltcp_raw_handle *room, struct smoltcp_places *rx_places,
                                     struct smoltcp_bytes *rx, struct smoltcp_places *tx_places,
                                     struct smoltcp_bytes *tx);
 int64_t smoltcp_raw_send_nonnull(struct smoltcp_raw_handle *h, const uint8_t *data, size_t len);
+int64_t smoltcp_raw_send_place_nonnull(struct smoltcp_raw_handle *h, size_t size, struct smoltcp_place *out);
 int64_t smoltcp_icmp_accepts_nonnull(struct smoltcp_icmp_handle *h, const struct smoltcp_context *cx,
                                      const uint8_t *packet, size_t len);
 int64_t smoltcp_icmp_ask_nonnull(struct smoltcp_icmp_handle *h, uint32_t what);
@@ -145,11 +154,15 @@ int64_t smoltcp_icmp_process_nonnull(struct smoltcp_icmp_handle *h, const struct
                                      const uint8_t *packet, size_t len);
 int64_t smoltcp_icmp_recv_nonnull(struct smoltcp_icmp_handle *h, struct smoltcp_address *remote, uint8_t *data,
                                   size_t cap);
+int64_t smoltcp_icmp_recv_place_nonnull(struct smoltcp_icmp_handle *h, struct smoltcp_address *remote,
+                                        struct smoltcp_place *out);
 int64_t smoltcp_icmp_release_nonnull(struct smoltcp_icmp_handle *room, struct smoltcp_places *rx_places,
                                      struct smoltcp_bytes *rx, struct smoltcp_places *tx_places,
                                      struct smoltcp_bytes *tx);
 int64_t smoltcp_icmp_send_nonnull(struct smoltcp_icmp_handle *h, const struct smoltcp_address *remote,
                                   const uint8_t *data, size_t len);
+int64_t smoltcp_icmp_send_place_nonnull(struct smoltcp_icmp_handle *h, const struct smoltcp_address *remote,
+                                        size_t size, struct smoltcp_place *out);
 int64_t smoltcp_icmp_set_hop_limit_nonnull(struct smoltcp_icmp_handle *h, uint8_t hop_limit);
 
 #ifdef __cplusplus

@@ -100,6 +100,23 @@ int64_t smoltcp_raw_recv(struct smoltcp_raw *s, uint8_t *data, size_t cap);
  * Errors: SMOLTCP_ERROR_EMPTY, SMOLTCP_ERROR_ROOM, SMOLTCP_ERROR_NULL. */
 int64_t smoltcp_raw_peek(struct smoltcp_raw *s, uint8_t *data, size_t cap);
 
+/* Puts a packet of size bytes into the transmit queue, and lends them where they lie, without a copy: where in at. They
+ * may be written until the next call on the socket: what stands there then is the packet. Refused as send.
+ *
+ * Errors: SMOLTCP_ERROR_ROOM, SMOLTCP_ERROR_NULL. */
+int64_t smoltcp_raw_send_place(struct smoltcp_raw *s, size_t size, uint8_t **at);
+
+/* Takes the first packet of the receive queue, and lends it where it lies, without a copy: the answer is its length,
+ * and where it lies stands in at. It may be read until the next call on the socket.
+ *
+ * Errors: SMOLTCP_ERROR_EMPTY, SMOLTCP_ERROR_NULL. */
+int64_t smoltcp_raw_recv_place(struct smoltcp_raw *s, const uint8_t **at);
+
+/* The same, and the packet stays.
+ *
+ * Errors: SMOLTCP_ERROR_EMPTY, SMOLTCP_ERROR_NULL. */
+int64_t smoltcp_raw_peek_place(struct smoltcp_raw *s, const uint8_t **at);
+
 /* 1 where the IP packet is whole and for the socket, so that process takes it, else 0.
  *
  * Errors: SMOLTCP_ERROR_NULL. */

@@ -123,6 +123,24 @@ int64_t smoltcp_udp_recv(struct smoltcp_udp *s, struct smoltcp_udp_metadata *met
  * Errors: SMOLTCP_ERROR_EMPTY, SMOLTCP_ERROR_ROOM, SMOLTCP_ERROR_NULL. */
 int64_t smoltcp_udp_peek(struct smoltcp_udp *s, struct smoltcp_udp_metadata *meta, uint8_t *data, size_t cap);
 
+/* Puts a datagram of size bytes into the transmit queue, and lends them where they lie, without a copy: where in at.
+ * They may be written until the next call on the socket: what stands there then is the payload. Refused as send.
+ *
+ * Errors: SMOLTCP_ERROR_ADDRESS, SMOLTCP_ERROR_ROOM, SMOLTCP_ERROR_NULL. */
+int64_t smoltcp_udp_send_place(struct smoltcp_udp *s, const struct smoltcp_udp_metadata *meta, size_t size,
+                               uint8_t **at);
+
+/* Takes the first datagram of the receive queue, and lends its payload where it lies, without a copy: the answer is its
+ * length, where it lies stands in at, and where it came from in meta. It may be read until the next call on the socket.
+ *
+ * Errors: SMOLTCP_ERROR_EMPTY, SMOLTCP_ERROR_NULL. */
+int64_t smoltcp_udp_recv_place(struct smoltcp_udp *s, struct smoltcp_udp_metadata *meta, const uint8_t **at);
+
+/* The same, and the datagram stays.
+ *
+ * Errors: SMOLTCP_ERROR_EMPTY, SMOLTCP_ERROR_NULL. */
+int64_t smoltcp_udp_peek_place(struct smoltcp_udp *s, struct smoltcp_udp_metadata *meta, const uint8_t **at);
+
 /* 1 where the IP packet carries a whole datagram (RFC 768) for the socket, so that process takes it, else 0.
  *
  * Errors: SMOLTCP_ERROR_CONTEXT, SMOLTCP_ERROR_NULL. */

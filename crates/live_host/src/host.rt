@@ -1,56 +1,23 @@
-//! The host: its sockets, and the interface layer that serves them.
-ghost use Rattle.std.specs.Prelude.{◌≤◌, length};
+//! The host: its services, on the sockets of an interface.
+ghost use Rattle.std.specs.Prelude.{◌<◌, IfSome, length};
 
-use crate::interface::{
-    Interface, clear, emit_icmpv4, emit_icmpv6, emit_tcp, emit_udp, records, set_time,
-};
-use crate::outbox::Full;
+use crate::clock::Clock;
+use crate::outbox::Outbox;
 use crate::pattern::Patterns;
 use crate::service::{SERVICES, Service};
 use crate::slot::Slot;
-use ip_wire::{Error, IpVersion, Ipv4Packet, Ipv6Packet};
-use pcap::stream::LONGEST;
-use segment_wire::packet::is_fragment;
-use segment_wire::{tcp as segment, udp as datagram};
+use net_host::{Interface, Secret, SocketHandle, SocketSet};
 use smoltcp_socket::tcp::State;
 use smoltcp_socket::time::Instant;
-use smoltcp_socket::wire::{
-    IcmpRepr, Icmpv4Repr, Icmpv6Repr, IpAddress, IpProtocol, IpRepr, Ipv4Address, Ipv4Repr,
-    Ipv6Repr, TcpControl, TcpRepr, UdpRepr,
-};
-use smoltcp_socket::{Context, tcp, udp};
+use smoltcp_socket::{Context, Socket};
 use std::alloc::{AllocError, Global};
 
-// The echo reply to an echo request, with the header that takes it back; none to any other message.
-macro_rules! echo_reply {
-    ($Header:ident, $Message:ident, $protocol:expr, $ip:expr, $message:expr) => {
-        match *$message {
-            $Message::EchoRequest {
-                ident,
-                seq_no,
-                body,
-            } => {
-                let reply = $Message::EchoReply {
-                    ident,
-                    seq_no,
-                    body,
-                };
-                let header = $Header {
-                    src_addr: $ip.dst_addr,
-                    dst_addr: $ip.src_addr,
-                    next_header: $protocol,
-                    payload_len: reply.buffer_len(),
-                    hop_limit: 64,
-                };
-                Some((header, reply))
-            }
-            _ => None,
-        }
-    };
-}
+// At most so many packets go out at one moment; the outbox has no room for more, unless they are short.
+const PACKETS: usize = 16_384;
 
-// The broadcast to every host on the wire (RFC 919).
-const ALL: IpAddress = IpAddress::Ipv4(Ipv4Address([255, 255, 255, 255]));
+// So many sockets are looked at for one that can listen, at each packet and for each service, so that a flood of SYNs
+// costs no walk through all of them.
+const LOOKS: usize = 32;
 
 /// What came of the packets that arrived.
 #[derive(Debug, Clone, Copy, Default)]
@@ -61,276 +28,233 @@ pub struct Counts {
     pub malformed: u64,
     /// For another address or protocol, from an address that no single other host has, or a fragment.
     pub unwanted: u64,
-    /// Segments for no socket.
+    /// Segments and datagrams for no socket.
     pub refused: u64,
 }
 
-/// A host with one interface.
+/// A host with one interface. The set is a type parameter, as the check does not yet state a struct that has one in a
+/// field.
 #[derive(Drop)]
-pub struct Host<'a> {
+pub struct Host<S> {
     alloc: Global,
-    slots: Vec<Slot<'a>>,
-    udp: udp::Socket<'a>,
-    interface: Interface,
+    interface: Interface<Secret>,
+    sockets: S,
+    // the TCP sockets, each at the place of the set that its socket has
+    slots: Vec<Slot>,
+    udp: SocketHandle,
+    // of each service the slot that was the last to listen for it
+    listeners: [Option<usize>; 4],
+    // from where on the next socket is looked for that can listen
+    next: usize,
+    outbox: Outbox,
     patterns: Patterns,
-    counts: Counts,
+    arrived: u64,
 }
 
-impl<'a> Host<'a> {
-    /// A host with these sockets.
+/// A host with these sockets.
+pub type LiveHost<'a> = Host<SocketSet<'a, Clock>>;
+
+impl<'a> Host<SocketSet<'a, Clock>> {
+    /// A host whose TCP sockets stand at the first places of the set, and the UDP socket behind them.
     pub fn new(
         alloc: Global,
-        slots: Vec<Slot<'a>>,
-        udp: udp::Socket<'a>,
-        interface: Interface,
-    ) -> Host<'a> {
+        interface: Interface<Secret>,
+        sockets: SocketSet<'a, Clock>,
+        slots: Vec<Slot>,
+        udp: SocketHandle,
+        outbox: Outbox,
+    ) -> LiveHost<'a> {
         Host {
             alloc,
+            interface,
+            sockets,
             slots,
             udp,
-            interface,
+            listeners: [None; 4],
+            next: 0,
+            outbox,
             patterns: Patterns::new(),
-            counts: Counts::default(),
+            arrived: 0,
         }
     }
 
     /// What came of the packets so far.
     pub fn counts(&self) -> Counts {
-        self.counts
+        let dropped = self.interface.counters();
+        Counts {
+            arrived: self.arrived,
+            malformed: dropped
+                .malformed
+                .wrapping_add(dropped.segment)
+                .wrapping_add(dropped.datagram)
+                .wrapping_add(dropped.message),
+            unwanted: dropped
+                .source
+                .wrapping_add(dropped.destination)
+                .wrapping_add(dropped.protocol),
+            refused: dropped.busy.wrapping_add(dropped.nobody),
+        }
     }
 
     /// The records of the packets that are to be written.
     pub fn records(&self) -> &[u8] {
-        records(&self.interface)
+        self.outbox.records()
     }
 
     /// Takes an IP packet at a moment, in microseconds; one of no bytes only says what time it is. What the sockets
     /// answer, and what is due, waits to be written afterwards, in place of what waited before.
     pub fn receive(&mut self, micros: usize, packet: &[u8]) -> Result<(), AllocError> {
-        clear(&mut self.interface);
-        set_time(&mut self.interface, micros);
+        let now = moment(micros);
+        self.outbox.begin(micros);
         self.listen();
         if !packet.is_empty() {
-            self.counts.arrived = self.counts.arrived.wrapping_add(1);
-            if self.take(packet).is_err() {
-                self.counts.malformed = self.counts.malformed.wrapping_add(1);
-            }
+            self.arrived = self.arrived.wrapping_add(1);
+            self.take(now, packet);
         }
-        self.serve()
-    }
-
-    // Keeps a socket open for each service: one that is closed, or else one in TIME-WAIT.
-    fn listen(&mut self) {
-        for service in SERVICES {
-            if !self.has_listener(service) {
-                self.open(service);
-            }
-        }
-    }
-
-    fn has_listener(&self, service: Service) -> bool {
-        self.slots
-            .iter()
-            .any(|slot: &Slot<'_>| slot.listens(service))
-    }
-
-    fn open(&mut self, service: Service) {
-        for wanted in [State::Closed, State::TimeWait] {
-            for slot in &mut self.slots {
-                if slot.state() == wanted {
-                    slot.listen(self.alloc, service);
-                    return;
-                }
-            }
-        }
-    }
-
-    // The services run, and the sockets emit, one after the other, as far as there is room.
-    fn serve(&mut self) -> Result<(), AllocError> {
-        for slot in &mut self.slots {
-            slot.watch(&self.interface);
-            slot.serve(self.alloc, &self.patterns)?;
-        }
-        echo_datagrams(&mut self.udp);
-        for slot in &mut self.slots {
-            if slot.dispatch(&mut self.interface).is_err() {
-                return Ok(());
-            }
-        }
-        let _ = self.udp.dispatch(
-            &mut self.interface,
-            |cx: &mut Interface, sent: (IpRepr, UdpRepr, &[u8])| emit_udp(
-                cx, &sent.0, &sent.1, sent.2,
-            ),
-        );
-        Ok(())
-    }
-}
-
-// Packets that arrive.
-impl Host<'_> {
-    fn take(&mut self, packet: &[u8]) -> Result<(), Error> {
-        match IpVersion::of_packet(packet)? {
-            IpVersion::Ipv4 => self.take_v4(&Ipv4Packet::new_checked(packet)?),
-            IpVersion::Ipv6 => self.take_v6(&Ipv6Packet::new_checked(packet)?),
-        }
-    }
-
-    fn take_v4(&mut self, packet: &Ipv4Packet<'_>) -> Result<(), Error> {
-        let ip = Ipv4Repr::parse(packet, &self.interface.checksum_caps())?;
-        if is_fragment(packet) {
-            self.leave();
-            return Ok(());
-        }
-        self.take_payload(&IpRepr::Ipv4(ip), packet.payload())
-    }
-
-    fn take_v6(&mut self, packet: &Ipv6Packet<'_>) -> Result<(), Error> {
-        let ip = Ipv6Repr::parse(packet)?;
-        self.take_payload(&IpRepr::Ipv6(ip), packet.payload())
-    }
-
-    fn take_payload(&mut self, ip: &IpRepr, payload: &[u8]) -> Result<(), Error> {
-        let (src, dst) = (ip.src_addr(), ip.dst_addr());
-        let caps = self.interface.checksum_caps();
-        if !self.interface.has_ip_addr(dst) || !self.may_answer(src) || payload.len() > LONGEST {
-            self.leave();
-            return Ok(());
-        }
-        match (ip.next_header(), ip) {
-            (IpProtocol::Tcp, _) => {
-                let repr = segment::parse(payload, &src, &dst, &caps)?;
-                self.take_segment(ip, &repr);
-            }
-            (IpProtocol::Udp, _) => {
-                let (repr, bytes) = datagram::parse(payload, &src, &dst, &caps)?;
-                if self.udp.accepts(&self.interface, ip, &repr) {
-                    self.udp.process(&self.interface, ip, &repr, bytes);
-                } else {
-                    self.leave();
-                }
-            }
-            (IpProtocol::Icmp, IpRepr::Ipv4(ip)) => {
-                self.answer_v4(ip, &Icmpv4Repr::parse(payload, &caps)?);
-            }
-            (IpProtocol::Icmpv6, IpRepr::Ipv6(ip)) => {
-                let repr = Icmpv6Repr::parse(&ip.src_addr, &ip.dst_addr, payload, &caps)?;
-                self.answer_v6(ip, &repr);
-            }
-            _ => self.leave(),
-        }
+        self.serve()?;
+        self.echo_datagram();
+        self.speak(now);
         Ok(())
     }
 
-    // Whether one host may have sent the packet: its source is neither a group, nor all, nor nobody, nor this host (RFC
-    // 1122, section 3.2.1.3). An answer to another source would go to many, or come back.
-    fn may_answer(&self, src: IpAddress) -> bool {
-        !src.is_unspecified()
-            && !src.is_multicast()
-            && src != ALL
-            && !self.interface.has_ip_addr(src)
-    }
-
-    fn leave(&mut self) {
-        self.counts.unwanted = self.counts.unwanted.wrapping_add(1);
-    }
-
-    // A connection takes its own segments before a listener does. What no socket takes is answered by an RST, unless it
-    // is one; a SYN for a service whose sockets are all taken is dropped, so that the client tries again.
-    fn take_segment(&mut self, ip: &IpRepr, repr: &TcpRepr<'_>) {
-        if repr.payload.len() > LONGEST || self.give(ip, repr, false) || self.give(ip, repr, true) {
-            return;
-        }
-        if repr.control == TcpControl::Syn && repr.ack_number.is_none() {
-            if let Some(service) = Service::of_port(repr.dst_port) {
-                self.take_syn(service, ip, repr);
-                return;
-            }
-        }
-        self.refuse(ip, repr);
-    }
-
-    // A SYN that found no listener: the handshake that has been waiting longest gives way, where there is one.
-    fn take_syn(&mut self, service: Service, ip: &IpRepr, repr: &TcpRepr<'_>)
-        requires { length repr.now.payload.now ≤ 65535 }
-    {
-        if !self.has_listener(service) {
-            self.give_way(service);
-        }
-        if !self.give(ip, repr, true) {
-            self.counts.refused = self.counts.refused.wrapping_add(1);
-        }
-    }
-
-    fn give_way(&mut self, service: Service) {
-        let Some(oldest) = self.oldest_half_open() else {
+    fn take(&mut self, now: Instant, packet: &[u8]) {
+        let Some(reply) = self.outbox.room() else {
             return;
         };
-        for slot in &mut self.slots {
-            if slot.half_open_since() == Some(oldest) {
-                slot.listen(self.alloc, service);
-                return;
-            }
-        }
+        let answer = self
+            .interface
+            .receive(&mut self.sockets, now, packet, reply);
+        self.outbox.add(answer.unwrap_or(0));
     }
 
-    fn oldest_half_open(&self) -> Option<Instant> {
-        let mut oldest: Option<Instant> = None;
-        for slot in &self.slots {
-            oldest = match (oldest, slot.half_open_since()) {
-                (Some(first), Some(since)) => Some(first.min(since)),
-                (None, since) => since,
-                (first, None) => first,
+    // The services run whose connections may have changed.
+    fn serve(&mut self) -> Result<(), AllocError> {
+        let mut from = 0usize;
+        for _ in 0..=self.slots.len() {
+            let Some(place) = self.sockets.touched(from) else {
+                break;
             };
+            self.serve_at(place)?;
+            from = place.saturating_add(1);
         }
-        oldest
+        Ok(())
     }
 
-    fn refuse(&mut self, ip: &IpRepr, repr: &TcpRepr<'_>)
-        requires { length repr.now.payload.now ≤ 65535 }
-    {
-        self.counts.refused = self.counts.refused.wrapping_add(1);
-        if repr.control != TcpControl::Rst {
-            let (ip, reset) = tcp::Socket::rst_reply(ip, repr);
-            let _ = emit_tcp(&mut self.interface, &ip, &reset);
-        }
+    fn serve_at(&mut self, place: usize) -> Result<(), AllocError> {
+        let Some(slot) = self.slots.get_mut(place) else {
+            return Ok(());
+        };
+        let Some(socket) = self.sockets.tcp_mut(slot.handle) else {
+            return Ok(());
+        };
+        slot.serve(self.alloc, socket, &self.patterns)
     }
 
-    // Gives a segment to the first socket that it is for, of those that listen or of the others, and says whether there
-    // was one.
-    fn give(&mut self, ip: &IpRepr, repr: &TcpRepr<'_>, listening: bool) -> bool
-        requires { length repr.now.payload.now ≤ 65535 }
-    {
-        for slot in &mut self.slots {
-            if (slot.state() == State::Listen) == listening
-                && slot.accepts(&self.interface, ip, repr)
-            {
-                slot.process(&mut self.interface, ip, repr);
-                return true;
+    // What is due goes out, as far as there is room.
+    fn speak(&mut self, now: Instant) {
+        for _ in 0..PACKETS {
+            let Some(room) = self.outbox.room() else {
+                return;
+            };
+            match self.interface.emit(&mut self.sockets, now, room) {
+                Ok(count) if count > 0 => self.outbox.add(count),
+                _ => return,
             }
-        }
-        false
-    }
-
-    // A ping is answered with what it carries (RFC 792).
-    fn answer_v4(&mut self, ip: &Ipv4Repr, repr: &Icmpv4Repr<'_>) {
-        if let Some((ip, reply)) = echo_reply!(Ipv4Repr, Icmpv4Repr, IpProtocol::Icmp, ip, repr) {
-            let _ = emit_icmpv4(&mut self.interface, &ip, &reply);
-        }
-    }
-
-    // The same over IPv6 (RFC 4443, section 4.2).
-    fn answer_v6(&mut self, ip: &Ipv6Repr, repr: &Icmpv6Repr<'_>) {
-        if let Some((ip, reply)) = echo_reply!(Ipv6Repr, Icmpv6Repr, IpProtocol::Icmpv6, ip, repr) {
-            let _ = emit_icmpv6(&mut self.interface, &ip, &reply);
         }
     }
 }
 
-// Sends each datagram back.
-fn echo_datagrams(udp: &mut udp::Socket<'_>) {
-    let mut bytes = [0u8; 2048];
-    if let Ok((count, from)) = udp.recv_slice(&mut bytes) {
-        let _ = udp.send_slice(&bytes[..count], from);
+// Who listens.
+impl Host<SocketSet<'_, Clock>> {
+    // Keeps a socket waiting for each service, where one can.
+    fn listen(&mut self) {
+        for (i, service) in SERVICES.iter().enumerate() {
+            if !self.has_listener(i) {
+                self.open(i, *service);
+            }
+        }
     }
+
+    fn has_listener(&self, i: usize) -> bool {
+        match self.listeners.get(i) {
+            Some(Some(place)) => self.state(*place) == Some(State::Listen),
+            _ => false,
+        }
+    }
+
+    fn state(&self, place: usize) -> Option<State> {
+        match self.sockets.get(self.slots.get(place)?.handle)? {
+            Socket::Tcp(socket) => Some(socket.state()),
+            _ => None,
+        }
+    }
+
+    fn open(&mut self, i: usize, service: Service) {
+        let Some(place) = self.spare() else {
+            return;
+        };
+        let Some(slot) = self.slots.get_mut(place) else {
+            return;
+        };
+        if let Some(socket) = self.sockets.tcp_mut(slot.handle) {
+            slot.listen(socket, service);
+            if let Some(listener) = self.listeners.get_mut(i) {
+                *listener = Some(place);
+            }
+        }
+    }
+
+    // Of the next few places the first that is closed, else the first in TIME-WAIT.
+    fn spare(&mut self) -> Option<usize> {
+        let mut resting = None;
+        for _ in 0..LOOKS.min(self.slots.len()) {
+            let place = self.next;
+            self.next = if place.saturating_add(1) < self.slots.len() {
+                place.saturating_add(1)
+            } else {
+                0
+            };
+            match self.state(place) {
+                Some(State::Closed) => return Some(place),
+                Some(State::TimeWait) if resting.is_none() => resting = Some(place),
+                _ => {}
+            }
+        }
+        resting
+    }
+}
+
+// Datagrams.
+impl Host<SocketSet<'_, Clock>> {
+    fn has_datagram(&self) -> bool {
+        match self.sockets.get(self.udp) {
+            Some(Socket::Udp(udp)) => udp.can_recv(),
+            _ => false,
+        }
+    }
+
+    // Sends a datagram back that came to an address of the host alone (RFC 1122, section 3.2.1.3: no other is a source),
+    // unless it came from a port of such a service: two of them would answer each other for ever.
+    fn echo_datagram(&mut self) {
+        if !self.has_datagram() {
+            return;
+        }
+        let Some(udp) = self.sockets.udp_mut(self.udp) else {
+            return;
+        };
+        let mut bytes = [0u8; 2048];
+        if let Ok((count, from)) = udp.recv_slice(&mut bytes) {
+            let own = match from.local_address {
+                Some(addr) => self.interface.context().has_ip_addr(addr),
+                None => false,
+            };
+            if own && Service::of_port(from.endpoint.port).is_none() {
+                let _ = udp.send_slice(&bytes[..count], from);
+            }
+        }
+    }
+}
+
+fn moment(micros: usize) -> Instant {
+    Instant::from_micros(micros.min(1 << 60) as i64)
 }

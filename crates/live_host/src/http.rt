@@ -1,5 +1,6 @@
 //! One request and its answer (RFC 9110, RFC 9112).
 
+use crate::clock::Clock;
 use crate::page::{Traffic, answer};
 use crate::pattern::{PIECE, Patterns};
 use crate::request::{LONGEST_HEAD, Request};
@@ -43,7 +44,7 @@ impl Http {
         &mut self,
         alloc: Global,
         patterns: &Patterns,
-        socket: &mut tcp::Socket<'_>,
+        socket: &mut tcp::Socket<'_, Clock>,
         traffic: &mut Traffic,
     ) -> Result<(), AllocError> {
         if self.answer.is_none() {
@@ -64,7 +65,7 @@ impl Http {
     fn read(
         &mut self,
         alloc: Global,
-        socket: &mut tcp::Socket<'_>,
+        socket: &mut tcp::Socket<'_, Clock>,
         traffic: &mut Traffic,
     ) -> Result<(), AllocError> {
         let filled = self.filled.min(LONGEST_HEAD);
@@ -94,7 +95,12 @@ impl Http {
 
 impl Answer {
     // Sends what fits, and closes behind the last byte. What the client still sends is taken and forgotten.
-    fn send(&mut self, patterns: &Patterns, socket: &mut tcp::Socket<'_>, traffic: &mut Traffic) {
+    fn send(
+        &mut self,
+        patterns: &Patterns,
+        socket: &mut tcp::Socket<'_, Clock>,
+        traffic: &mut Traffic,
+    ) {
         let _ = socket.recv(|bytes: &[u8]| (bytes.len(), ()));
         for _ in 0..PIECES {
             let count = self.send_piece(patterns, socket);
@@ -108,7 +114,7 @@ impl Answer {
         }
     }
 
-    fn send_piece(&mut self, patterns: &Patterns, socket: &mut tcp::Socket<'_>) -> usize {
+    fn send_piece(&mut self, patterns: &Patterns, socket: &mut tcp::Socket<'_, Clock>) -> usize {
         if self.sent < self.text.len() {
             let count = socket
                 .send_slice(&self.text.as_bytes()[self.sent..])
@@ -122,7 +128,7 @@ impl Answer {
         }
     }
 
-    fn send_bytes(&mut self, patterns: &Patterns, socket: &mut tcp::Socket<'_>) -> usize {
+    fn send_bytes(&mut self, patterns: &Patterns, socket: &mut tcp::Socket<'_, Clock>) -> usize {
         let left = self.bytes.saturating_sub(self.bytes_sent);
         let count = if left < PIECE as u64 {
             left as usize

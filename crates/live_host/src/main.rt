@@ -1,14 +1,14 @@
 //! An IP host on a stream of packets: it reads packets as a pcap stream and writes its own as another. The time is
 //! that of the records, so it needs neither a clock nor a device, and a recorded session can be replayed.
 //!
-//! `live_host ADDRESS [SEED [RULES]]`: its IPv4 address, what its initial sequence numbers are made of, and the rules
-//! of its TCP sockets.
+//! `live_host ADDRESS [SEED [RULES [SOCKETS]]]`: its IPv4 address, what its initial sequence numbers are made of, the
+//! rules of its TCP sockets, and how many of them it has.
 #![tactic(auto)]
 
+mod clock;
 mod fault;
 mod host;
 mod http;
-mod interface;
 mod outbox;
 mod page;
 mod pattern;
@@ -19,7 +19,7 @@ mod slot;
 
 use crate::fault::Fault;
 use crate::host::Counts;
-use crate::run::{Setup, run};
+use crate::run::{MOST_SOCKETS, Setup, run};
 use smoltcp_socket::tcp::Rules;
 use smoltcp_socket::wire::Ipv4Address;
 use std::io::BufReader;
@@ -28,16 +28,18 @@ use std::{env, io};
 
 // What `--help` prints.
 const HELP: &str = "\
-usage: live_host ADDRESS [SEED [RULES]]
+usage: live_host ADDRESS [SEED [RULES [SOCKETS]]]
 
 Is a host of this IPv4 address, as 10.9.0.2, and of the IPv6 address fd00::
 that ends in it. Reads the packets that come to it as a pcap stream (raw IP)
 on standard input, and writes its own as another on standard output.
 
-SEED   what its initial sequence numbers are made of: 0 to 2^64 - 1, 1 where
-       it is left out
-RULES  rfc, for peers that are not smoltcp and a wire that loses, or smoltcp,
-       which it is where it is left out
+SEED     the key of its initial sequence numbers, which nobody should know: 0 to
+         2^64 - 1, 1 where it is left out
+RULES    rfc, for peers that are not smoltcp and a wire that loses, or smoltcp,
+         which it is where it is left out
+SOCKETS  how many TCP sockets it has: 4 to 10000, 32 where it is left out; each
+         has two buffers of 64 KB, or of 8 KB where there are more than 512
 ";
 
 fn main(rt: HostRuntime) -> ExitCode {
@@ -84,7 +86,8 @@ fn task_of(rt: &HostRuntime) -> Result<Task, Fault> {
         return Err(Fault::Memory);
     };
     let _program = args.next();
-    let (addr, seed, rules) = (args.next(), args.next(), args.next());
+    let (addr, seed) = (args.next(), args.next());
+    let (rules, sockets) = (args.next(), args.next());
     if args.next().is_some() {
         return Err(Fault::Usage);
     }
@@ -94,7 +97,7 @@ fn task_of(rt: &HostRuntime) -> Result<Task, Fault> {
     let Some(addr) = addr else {
         return Err(Fault::Usage);
     };
-    Ok(Task::Run(setup(addr.as_str(), seed, rules)?))
+    Ok(Task::Run(setup(addr.as_str(), seed, rules, sockets)?))
 }
 
 fn is_help(word: &Option<String>) -> bool {
@@ -104,7 +107,12 @@ fn is_help(word: &Option<String>) -> bool {
     }
 }
 
-fn setup(addr: &str, seed: Option<String>, rules: Option<String>) -> Result<Setup, Fault> {
+fn setup(
+    addr: &str,
+    seed: Option<String>,
+    rules: Option<String>,
+    sockets: Option<String>,
+) -> Result<Setup, Fault> {
     let seed = match seed {
         None => Some(1),
         Some(text) => text.as_str().parse::<u64>().ok(),
@@ -113,9 +121,28 @@ fn setup(addr: &str, seed: Option<String>, rules: Option<String>) -> Result<Setu
         None => Some(Rules::Smoltcp),
         Some(word) => rules_of(word.as_str()),
     };
-    match (address(addr), seed, rules) {
-        (Some(addr), Some(seed), Some(rules)) => Ok(Setup { addr, seed, rules }),
+    let sockets = match sockets {
+        None => Some(32),
+        Some(text) => sockets_of(text.as_str()),
+    };
+    match (address(addr), seed, rules, sockets) {
+        (Some(addr), Some(seed), Some(rules), Some(sockets)) => Ok(Setup {
+            addr,
+            seed,
+            rules,
+            sockets,
+        }),
         _ => Err(Fault::Usage),
+    }
+}
+
+// One for each service, and not too many for the memory.
+fn sockets_of(text: &str) -> Option<usize> {
+    let count = text.parse::<usize>().ok()?;
+    if (4..=MOST_SOCKETS).contains(&count) {
+        Some(count)
+    } else {
+        None
     }
 }
 
@@ -149,6 +176,6 @@ fn report(rt: &HostRuntime, counts: Counts) {
         refused,
     } = counts;
     let _ = rt.eprintln(format_args!(
-        "{arrived} packets: {malformed} malformed, {unwanted} unwanted, {refused} segments for no socket"
+        "{arrived} packets: {malformed} malformed, {unwanted} unwanted, {refused} for no socket"
     ));
 }

@@ -1,5 +1,6 @@
 //! What the host answers to a request.
 
+use crate::clock::Clock;
 use crate::request::Request;
 use smoltcp_socket::tcp;
 use std::alloc::{AllocError, Global};
@@ -18,7 +19,7 @@ pub struct Traffic {
 pub fn answer(
     alloc: Global,
     request: Request,
-    socket: &tcp::Socket<'_>,
+    socket: &tcp::Socket<'_, Clock>,
     traffic: Traffic,
 ) -> Result<String, AllocError> {
     match request {
@@ -61,7 +62,11 @@ fn text(alloc: Global, status: &str, content: &str) -> Result<String, AllocError
 }
 
 // What the socket knows of the connection that the page goes out on.
-fn page(alloc: Global, socket: &tcp::Socket<'_>, traffic: Traffic) -> Result<String, AllocError> {
+fn page(
+    alloc: Global,
+    socket: &tcp::Socket<'_, Clock>,
+    traffic: Traffic,
+) -> Result<String, AllocError> {
     let mut out = String::new(alloc);
     writeln!(
         out,

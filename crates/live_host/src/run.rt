@@ -1,28 +1,43 @@
 //! Reads the packets of one stream and writes those of the host to another.
+ghost use Rattle.std.specs.Prelude.{◌<◌, ◌≤◌};
 
+use crate::clock::Clock;
 use crate::fault::Fault;
-use crate::host::{Counts, Host};
-use crate::interface::Interface;
+use crate::host::{Counts, Host, LiveHost};
 use crate::outbox::Outbox;
 use crate::slot::Slot;
-use host_context::Seeded;
+use net_host::{GuardSettings, Interface, IpCidr, Secret, SocketHandle, SocketSet};
 use pcap::stream::{Format, HEADER, LONGEST, PcapError, RECORD, Record, stream_header};
 use smoltcp_socket::storage::{PacketBuffer, RingBuffer};
 use smoltcp_socket::tcp::Rules;
 use smoltcp_socket::time::Duration;
-use smoltcp_socket::wire::{IpListenEndpoint, Ipv4Address};
-use smoltcp_socket::{tcp, udp};
-use std::alloc::Global;
+use smoltcp_socket::wire::{IpAddress, IpListenEndpoint, Ipv4Address, Ipv6Address};
+use smoltcp_socket::{Socket, tcp, udp};
+use std::alloc::{AllocError, Global};
 use std::io::{ErrorKind, Read, Write};
 
-// How many TCP sockets the host has.
-const SOCKETS: usize = 32;
+/// At most so many TCP sockets.
+pub const MOST_SOCKETS: usize = 10_000;
 
-// The size of each buffer of a TCP socket, in bytes.
+// The size of each buffer of a TCP socket, in bytes, and that of many sockets.
 const BUFFER: usize = 65536;
+
+const SMALL_BUFFER: usize = 8192;
+
+// More sockets than these have small buffers.
+const FEW: usize = 512;
+
+// How many datagrams wait each way, and how many bytes they have together.
+const PLACES: usize = 8;
+
+const DATAGRAMS: usize = 8192;
 
 // The lowest retransmission timeout by the RFCs' rules, as Linux's.
 const LEAST_TIMEOUT: Duration = Duration { micros: 200_000 };
+
+// How long a handshake may last: time for the SYN|ACK to be sent again three times, and less than the 30 seconds of a
+// new interface, since few sockets are soon taken by SYNs from addresses where nobody is.
+const HANDSHAKE: Duration = Duration { micros: 10_000_000 };
 
 // The UDP port of the echo service (RFC 862).
 const ECHO: IpListenEndpoint = IpListenEndpoint {
@@ -30,15 +45,17 @@ const ECHO: IpListenEndpoint = IpListenEndpoint {
     port: 7,
 };
 
-/// The host's address, what its random words are made of, and the rules of its sockets.
+/// The host's address, the key of its random words, the rules of its sockets, and how many they are.
 #[derive(Debug, Clone, Copy)]
 pub struct Setup {
     /// The IPv4 address; the IPv6 address ends in it.
     pub addr: Ipv4Address,
-    /// The seed.
+    /// The key.
     pub seed: u64,
     /// The rules of each TCP socket.
     pub rules: Rules,
+    /// How many TCP sockets.
+    pub sockets: usize,
 }
 
 /// Runs a host until its input ends.
@@ -48,70 +65,115 @@ pub fn run<R: Read, W: Write>(
     input: &mut R,
     output: &mut W,
 ) -> Result<Counts, Fault> {
-    let Ok(mut bytes) = vec![in alloc; 0u8; SOCKETS * 2 * BUFFER] else {
+    let size = buffer_size(setup.sockets);
+    let Ok(mut bytes) = vec![in alloc; 0u8; setup.sockets.min(MOST_SOCKETS) * 2 * size] else {
         return Err(Fault::Memory);
     };
-    with_buffers(alloc, setup, bytes.as_mut_slice(), input, output)
-}
-
-// Makes the TCP sockets, each over two pieces of the bytes, and hands them down.
-fn with_buffers<R: Read, W: Write>(
-    alloc: Global,
-    setup: Setup,
-    bytes: &mut [u8],
-    input: &mut R,
-    output: &mut W,
-) -> Result<Counts, Fault> {
-    let mut slots = Vec::new(alloc);
-    let mut buffers = bytes.chunks_exact_mut(BUFFER);
-    for _ in 0..SOCKETS {
-        let (Some(rx), Some(tx)) = (buffers.next(), buffers.next()) else {
-            break;
-        };
-        // each piece is that long; a socket wants to know that
-        if rx.len() != BUFFER || tx.len() != BUFFER {
-            break;
-        }
-        let mut socket = tcp::Socket::new(RingBuffer::new(rx), RingBuffer::new(tx));
-        if setup.rules == Rules::Rfc {
-            let _ = socket.set_rules(Rules::Rfc);
-            socket.set_min_rto(LEAST_TIMEOUT);
-        }
-        if slots.push(Slot::new(alloc, socket)).is_err() {
-            return Err(Fault::Memory);
-        }
-    }
-    with_sockets(alloc, setup, slots, input, output)
-}
-
-// Makes the rest of the host, and lets it exchange packets.
-fn with_sockets<R: Read, W: Write>(
-    alloc: Global,
-    setup: Setup,
-    slots: Vec<Slot<'_>>,
-    input: &mut R,
-    output: &mut W,
-) -> Result<Counts, Fault> {
     let (mut rx_places, mut tx_places) = (
-        [udp::PacketMetadata::EMPTY; 8],
-        [udp::PacketMetadata::EMPTY; 8],
+        [udp::PacketMetadata::EMPTY; PLACES],
+        [udp::PacketMetadata::EMPTY; PLACES],
     );
-    let (mut rx, mut tx) = ([0u8; 8192], [0u8; 8192]);
-    let Ok(outbox) = Outbox::new(alloc) else {
-        return Err(Fault::Memory);
-    };
+    let (mut rx, mut tx) = ([0u8; DATAGRAMS], [0u8; DATAGRAMS]);
     let mut udp = udp::Socket::new(
         PacketBuffer::new(&mut rx_places, &mut rx),
         PacketBuffer::new(&mut tx_places, &mut tx),
     );
     let _ = udp.bind(ECHO);
-    let interface = Interface::new(setup.addr, Seeded { state: setup.seed }, outbox);
-    exchange(Host::new(alloc, slots, udp, interface), input, output)
+    let host = match host(alloc, setup, bytes.as_mut_slice(), size, udp) {
+        Ok(host) => host,
+        Err(_) => return Err(Fault::Memory),
+    };
+    exchange(host, input, output)
+}
+
+fn buffer_size(sockets: usize) -> usize
+    ensures most { result ≤ 65536 }
+    ensures some { 0 < result }
+{
+    if sockets <= FEW { BUFFER } else { SMALL_BUFFER }
+}
+
+// Makes the TCP sockets, each over two pieces of the bytes, and the host.
+fn host<'a>(
+    alloc: Global,
+    setup: Setup,
+    bytes: &'a mut [u8],
+    size: usize,
+    udp: udp::Socket<'a>,
+) -> Result<LiveHost<'a>, AllocError>
+    requires { 0 < size }
+{
+    let mut sockets = SocketSet::new(alloc, setup.sockets.saturating_add(1))?;
+    let mut slots = Vec::new(alloc);
+    let mut buffers = bytes.chunks_exact_mut(size);
+    for _ in 0..setup.sockets {
+        let (Some(rx), Some(tx)) = (buffers.next(), buffers.next()) else {
+            break;
+        };
+        let handle = add_tcp(&mut sockets, rx, tx, setup.rules)?;
+        slots.push(Slot::new(alloc, handle))?;
+    }
+    let Ok(udp) = sockets.add(Socket::Udp(udp)) else {
+        return Err(AllocError);
+    };
+    let mut interface = Interface::new(addresses(alloc, setup.addr)?, secret(setup.seed));
+    interface.set_guards(GuardSettings {
+        handshake: Some(HANDSHAKE),
+        ..GuardSettings::new()
+    });
+    let outbox = Outbox::new(alloc)?;
+    Ok(Host::new(alloc, interface, sockets, slots, udp, outbox))
+}
+
+fn add_tcp<'a>(
+    sockets: &mut SocketSet<'a, Clock>,
+    rx: &'a mut [u8],
+    tx: &'a mut [u8],
+    rules: Rules,
+) -> Result<SocketHandle, AllocError> {
+    // a socket wants to know that
+    if rx.len() > BUFFER || tx.len() > BUFFER {
+        return Err(AllocError);
+    }
+    let mut socket = tcp::Socket::closed(RingBuffer::new(rx), RingBuffer::new(tx), None);
+    if rules == Rules::Rfc {
+        let _ = socket.set_rules(Rules::Rfc);
+        socket.set_min_rto(LEAST_TIMEOUT);
+    }
+    match sockets.add(Socket::Tcp(socket)) {
+        Ok(handle) => Ok(handle),
+        Err(_) => Err(AllocError),
+    }
+}
+
+// The address, of a network of 256, and the one over IPv6 that ends in it.
+fn addresses(alloc: Global, addr: Ipv4Address) -> Result<Vec<IpCidr>, AllocError> {
+    let Ipv4Address([a, b, c, d]) = addr;
+    let over_ipv6 = [0xfd, 0, 0, 0, 0, 0, 0, 0, 0, 0, 0, 0, a, b, c, d];
+    let mut addresses = Vec::new(alloc);
+    addresses.push(IpCidr {
+        address: IpAddress::Ipv4(addr),
+        prefix_len: 24,
+    })?;
+    addresses.push(IpCidr {
+        address: IpAddress::Ipv6(Ipv6Address(over_ipv6)),
+        prefix_len: 112,
+    })?;
+    Ok(addresses)
+}
+
+// The seed's octets, and zeros.
+fn secret(seed: u64) -> Secret {
+    let [a, b, c, d, e, f, g, h] = seed.to_le_bytes();
+    Secret::new([
+        a, b, c, d, e, f, g, h, 0, 0, 0, 0, 0, 0, 0, 0, 0, 0, 0, 0, 0, 0, 0, 0, 0, 0, 0, 0, 0, 0,
+        0, 0,
+    ])
 }
 
 // Each record is answered before the next is read.
 fn exchange<R: Read, W: Write>(
-    mut host: Host<'_>,
+    mut host: LiveHost<'_>,
     input: &mut R,
     output: &mut W,
 ) -> Result<Counts, Fault> {

@@ -33,6 +33,7 @@ pub mod set;
 pub mod slot;
 pub mod speak;
 pub mod terms;
+pub mod touched;
 pub mod turn;
 pub mod unreachable;
 pub mod watching;

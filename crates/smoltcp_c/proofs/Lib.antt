@@ -20,3 +20,4 @@ mod Told
 mod Unsent
 mod UdpSending
 mod Clocks
+mod Standing

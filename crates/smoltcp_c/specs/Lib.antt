@@ -4,6 +4,7 @@ pub mod Context
 pub mod Ends
 pub mod Heard
 pub mod Icmp
+pub mod InPlace
 pub mod Memory
 pub mod Numbers
 pub mod Packets

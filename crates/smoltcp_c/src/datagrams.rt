@@ -138,7 +138,7 @@ pub extern "C" fn smoltcp_udp_send_nonnull(h: &mut UdpHandle, meta: &UdpNumbers,
 }
 
 // Whether a datagram of so many bytes fits a packet.
-fn is_packet(meta: &udp::UdpMetadata, len: usize) -> bool
+pub(crate) fn is_packet(meta: &udp::UdpMetadata, len: usize) -> bool
     ensures { result ≡ is_packet meta.now len }
 {
     len <= longest_payload(meta.endpoint.addr)
@@ -231,7 +231,7 @@ fn tell_datagram(
 }
 
 // The longest message: its packet, over IPv6, has 65535 bytes.
-const LONGEST_MESSAGE: usize = 65495;
+pub(crate) const LONGEST_MESSAGE: usize = 65495;
 
 /// Which messages a socket takes: 0 none, 1 echoes with the identifier, 2 errors about TCP segments that were sent from
 /// the endpoint, else errors about UDP datagrams that were.
@@ -448,7 +448,7 @@ pub extern "C" fn smoltcp_raw_send_nonnull(h: &mut RawHandle, data: &[u8]) -> i6
 }
 
 // 0, or `ERROR_ROOM`.
-fn packet_answer(answer: Result<(), raw::SendError>) -> i64
+pub(crate) fn packet_answer(answer: Result<(), raw::SendError>) -> i64
     ensures { result ≡ packet_answer answer }
 {
     match answer {

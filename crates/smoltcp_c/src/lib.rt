@@ -12,6 +12,7 @@ pub mod datagrams;
 pub mod endpoints;
 pub mod ends;
 pub mod handles;
+pub mod in_place;
 pub mod lends;
 pub mod memory;
 pub mod message;

@@ -1,11 +1,9 @@
-//! A socket of a host, and the conversation that it has: a request, an answer, and both close.
+//! The conversation that a socket of a host has: a request, an answer, and both close.
 
 use crate::clock::Clock;
 use crate::digest::Digest;
 use crate::random::Random;
-use host_guard::Guard;
 use smoltcp_socket::tcp::{RecvError, Socket, State};
-use smoltcp_socket::wire::IpListenEndpoint;
 
 // How many pieces are read at one moment.
 const PIECES: u32 = 16;
@@ -27,11 +25,9 @@ pub enum Role {
     Sleeper,
 }
 
-/// A socket and its conversation.
-#[derive(Drop)]
-pub struct Slot<'a> {
-    pub socket: Socket<'a, Clock>,
-    pub guard: Guard,
+/// A conversation.
+#[derive(Debug, Drop)]
+pub struct Talk {
     pub role: Role,
     // how long the request and the answer are, where that is known
     request: usize,
@@ -40,12 +36,10 @@ pub struct Slot<'a> {
     received: usize,
 }
 
-impl<'a> Slot<'a> {
-    /// A socket that has no conversation.
-    pub fn new(socket: Socket<'a, Clock>, role: Role) -> Slot<'a> {
-        Slot {
-            socket,
-            guard: Guard::new(),
+impl Talk {
+    /// No conversation.
+    pub fn new(role: Role) -> Talk {
+        Talk {
             role,
             request: 0,
             answer: 0,
@@ -54,28 +48,12 @@ impl<'a> Slot<'a> {
         }
     }
 
-    /// Waits for a request.
-    pub fn listen(&mut self) {
-        self.socket.abort();
-        self.begin(0, 0);
-        let _ = self.socket.listen(IpListenEndpoint {
-            addr: None,
-            port: SERVICE,
-        });
-    }
-
-    /// Begins a conversation of so many bytes.
+    /// Begins one of so many bytes.
     pub fn begin(&mut self, request: usize, answer: usize) {
-        self.guard = Guard::new();
         self.request = request;
         self.answer = answer;
         self.sent = 0;
         self.received = 0;
-    }
-
-    /// Whether the client may begin another one; it counts what came of the last.
-    pub fn is_idle(&self) -> bool {
-        self.role == Role::Client && self.socket.state() == State::Closed
     }
 
     /// Adds what came of the conversation.
@@ -89,34 +67,44 @@ impl<'a> Slot<'a> {
     /// Lets the application read and write.
     pub fn serve(
         &mut self,
+        socket: &mut Socket<'_, Clock>,
         scratch: &mut [u8],
         source: &[u8],
         random: &mut Random,
         digest: &mut Digest,
     ) {
-        match (self.role, self.socket.state()) {
+        match (self.role, socket.state()) {
+            // a socket in TIME-WAIT may have been taken for another connection
+            (Role::Server, State::SynReceived) => self.begin(0, 0),
             (_, State::Closed | State::Listen | State::SynSent | State::SynReceived) => {}
-            (Role::Server, _) => self.answer(scratch, source, random, digest),
-            (Role::Client, _) => self.ask(scratch, source, random, digest),
+            (Role::Server, _) => self.answer(socket, scratch, source, random, digest),
+            (Role::Client, _) => self.ask(socket, scratch, source, random, digest),
             (Role::Sleeper, _) => {}
         }
     }
 
-    fn ask(&mut self, scratch: &mut [u8], source: &[u8], random: &mut Random, digest: &mut Digest) {
+    fn ask(
+        &mut self,
+        socket: &mut Socket<'_, Clock>,
+        scratch: &mut [u8],
+        source: &[u8],
+        random: &mut Random,
+        digest: &mut Digest,
+    ) {
         if self.sent == 0 {
             let head = head_of(self.request, self.answer);
-            self.sent = self.socket.send_slice(&head).unwrap_or(0);
+            self.sent = socket.send_slice(&head).unwrap_or(0);
         }
-        self.send(self.request, source, random);
+        self.send(socket, self.request, source, random);
         for _ in 0..PIECES {
-            match self.socket.recv_slice(scratch) {
+            match socket.recv_slice(scratch) {
                 Ok(0) => break,
                 Ok(count) => {
                     self.received = self.received.saturating_add(count);
                     digest.bytes(&scratch[..count.min(scratch.len())]);
                 }
                 Err(RecvError::Finished) => {
-                    self.socket.close();
+                    socket.close();
                     break;
                 }
                 Err(_) => break,
@@ -126,13 +114,14 @@ impl<'a> Slot<'a> {
 
     fn answer(
         &mut self,
+        socket: &mut Socket<'_, Clock>,
         scratch: &mut [u8],
         source: &[u8],
         random: &mut Random,
         digest: &mut Digest,
     ) {
         for _ in 0..PIECES {
-            let Ok(count) = self.socket.recv_slice(scratch) else {
+            let Ok(count) = socket.recv_slice(scratch) else {
                 break;
             };
             if count == 0 {
@@ -141,12 +130,12 @@ impl<'a> Slot<'a> {
             self.read(&scratch[..count.min(scratch.len())], digest);
         }
         if self.received > 0 && self.received >= self.request {
-            self.send(self.answer, source, random);
+            self.send(socket, self.answer, source, random);
             if self.sent >= self.answer {
-                self.socket.close();
+                socket.close();
             }
-        } else if self.socket.state() == State::CloseWait {
-            self.socket.close();
+        } else if socket.state() == State::CloseWait {
+            socket.close();
         }
     }
 
@@ -160,13 +149,19 @@ impl<'a> Slot<'a> {
     }
 
     // Sends what is left of so many bytes, as far as the socket takes it.
-    fn send(&mut self, total: usize, source: &[u8], random: &mut Random) {
+    fn send(
+        &mut self,
+        socket: &mut Socket<'_, Clock>,
+        total: usize,
+        source: &[u8],
+        random: &mut Random,
+    ) {
         let left = total.saturating_sub(self.sent);
         if left == 0 {
             return;
         }
         let piece = random.piece(source, left);
-        let count = self.socket.send_slice(piece).unwrap_or(0);
+        let count = socket.send_slice(piece).unwrap_or(0);
         self.sent = self.sent.saturating_add(count);
     }
 }

@@ -7,6 +7,7 @@ mod clock;
 mod conversation;
 mod datagrams;
 mod digest;
+mod hosted;
 mod plan;
 mod random;
 mod station;
@@ -16,6 +17,7 @@ mod wire;
 
 use crate::datagrams::datagrams;
 use crate::digest::Digest;
+use crate::hosted::hosted;
 use crate::plan::{clean_transfers, lossy_transfers};
 use crate::random::Random;
 use crate::talks::talks;
@@ -31,7 +33,8 @@ usage: sock_bench JOB SEED SHARE
 
 Runs a job on inputs made from SEED and prints a digest of what came of it.
 
-JOB    bytes, lossy, conversations, datagrams, or all
+JOB    bytes, lossy, conversations, hosted (these on the hosts of net_host),
+       datagrams, or all
 SEED   0 to 4294967295
 SHARE  how much of the job is done, in thousandths: 1 to 1000
 ";
@@ -70,7 +73,7 @@ fn task_of(rt: &HostRuntime) -> Option<Task> {
 fn run(rt: &HostRuntime, task: &Task) -> Result<(), AllocError> {
     let mut random = Random::new(task.seed);
     let source = source(rt.alloc(), &mut random)?;
-    for job in ["bytes", "lossy", "conversations", "datagrams"] {
+    for job in ["bytes", "lossy", "conversations", "datagrams", "hosted"] {
         if task.job.as_str() == job || task.job.as_str() == "all" {
             let mut digest = Digest::new();
             run_job(
@@ -105,6 +108,8 @@ fn run_job(
         lossy_transfers(alloc, share, source, random, digest)
     } else if job == "conversations" {
         talks(alloc, share, source, random, digest)
+    } else if job == "hosted" {
+        hosted(alloc, share, source, random, digest)
     } else {
         datagrams(alloc, share, source, random, digest)
     }

@@ -1,19 +1,66 @@
 //! A host with many sockets, and the interface layer that serves them.
 ghost use Rattle.std.specs.Prelude.{◌≤◌, length};
 
-use crate::conversation::{Role, Slot};
+use crate::clock::Clock;
+use crate::conversation::{Role, SERVICE, Talk};
 use crate::digest::Digest;
 use crate::random::Random;
 use crate::wire::{Fate, Wire, flip};
 use host_context::{Interface, Outbox, Seeded, dispatch_tcp, take_packets};
+use host_guard::Guard;
 use segment_wire::packet;
 use smoltcp_socket::tcp::{Socket, State};
-use smoltcp_socket::wire::{IpRepr, Ipv4Address, TcpControl, TcpRepr};
+use smoltcp_socket::wire::{IpListenEndpoint, IpRepr, Ipv4Address, TcpControl, TcpRepr};
 use smoltcp_socket::{Context, PollAt};
 use std::alloc::{AllocError, Global};
 
 // How many segments a socket emits at one moment at most; the guard allows no more.
 const TURNS: u32 = 64;
+
+/// A socket and its conversation.
+#[derive(Drop)]
+pub struct Slot<'a> {
+    pub socket: Socket<'a, Clock>,
+    pub guard: Guard,
+    pub talk: Talk,
+}
+
+impl<'a> Slot<'a> {
+    /// A socket that has no conversation.
+    pub fn new(socket: Socket<'a, Clock>, role: Role) -> Slot<'a> {
+        Slot {
+            socket,
+            guard: Guard::new(),
+            talk: Talk::new(role),
+        }
+    }
+
+    /// Waits for a request.
+    pub fn listen(&mut self) {
+        self.socket.abort();
+        self.begin(0, 0);
+        let _ = self.socket.listen(service());
+    }
+
+    /// Begins a conversation of so many bytes.
+    pub fn begin(&mut self, request: usize, answer: usize) {
+        self.guard = Guard::new();
+        self.talk.begin(request, answer);
+    }
+
+    /// Whether the client may begin another one; it counts what came of the last.
+    pub fn is_idle(&self) -> bool {
+        self.talk.role == Role::Client && self.socket.state() == State::Closed
+    }
+}
+
+/// The service, at every address.
+pub fn service() -> IpListenEndpoint {
+    IpListenEndpoint {
+        addr: None,
+        port: SERVICE,
+    }
+}
 
 /// A host and its sockets.
 #[derive(Drop)]
@@ -38,7 +85,7 @@ impl<'a> Station<'a> {
     /// Keeps the sockets of the server open.
     pub fn listen(&mut self) {
         for slot in &mut self.slots {
-            if slot.role == Role::Server
+            if slot.talk.role == Role::Server
                 && matches!(slot.socket.state(), State::Closed | State::TimeWait)
             {
                 slot.listen();
@@ -56,7 +103,8 @@ impl<'a> Station<'a> {
     ) -> Result<(), AllocError> {
         for slot in &mut self.slots {
             slot.guard.watch(&mut slot.socket, self.host.now());
-            slot.serve(scratch, source, random, digest);
+            slot.talk
+                .serve(&mut slot.socket, scratch, source, random, digest);
             emit(slot, &mut self.host)?;
         }
         Ok(())
@@ -131,7 +179,7 @@ impl<'a> Station<'a> {
     pub fn add_to(&self, digest: &mut Digest) {
         digest.number(self.refused);
         for slot in &self.slots {
-            slot.add_to(digest);
+            slot.talk.add_to(digest);
             digest.bytes(slot.socket.state().name().as_bytes());
         }
     }

@@ -2,10 +2,10 @@
 //! connection of its own, beside sockets that sleep, with a few hostile packets.
 ghost use Rattle.std.specs.Prelude.{◌≤◌, ◌^◌, length};
 
-use crate::conversation::{Role, SERVICE, Slot};
+use crate::conversation::{Role, SERVICE};
 use crate::digest::Digest;
 use crate::random::Random;
-use crate::station::Station;
+use crate::station::{Slot, Station};
 use crate::wire::{Faults, Wire};
 use smoltcp_socket::Context;
 use smoltcp_socket::storage::RingBuffer;
@@ -13,20 +13,20 @@ use smoltcp_socket::tcp::Socket;
 use smoltcp_socket::wire::{IpAddress, IpEndpoint, IpListenEndpoint, Ipv4Address};
 use std::alloc::{AllocError, Global};
 
-const CLIENT: Ipv4Address = Ipv4Address([10, 0, 0, 1]);
+pub const CLIENT: Ipv4Address = Ipv4Address([10, 0, 0, 1]);
 
-const SERVER: Ipv4Address = Ipv4Address([10, 0, 0, 2]);
+pub const SERVER: Ipv4Address = Ipv4Address([10, 0, 0, 2]);
 
 // The size of each buffer.
-const BUFFER: usize = 4096;
+pub const BUFFER: usize = 4096;
 
 // How many bytes an application reads at once.
-const PIECE: usize = 2048;
+pub const PIECE: usize = 2048;
 
 // The hosts end after so many moments, whatever is left to do.
-const MOMENTS: u32 = 1_000_000;
+pub const MOMENTS: u32 = 1_000_000;
 
-const FAULTS: Faults = Faults {
+pub const FAULTS: Faults = Faults {
     lost: 5,
     late: 10,
     twice: 5,
@@ -34,13 +34,30 @@ const FAULTS: Faults = Faults {
 };
 
 // How many sockets each host has, how many of them sleep, and how many conversations they have.
-const SIZES: [[usize; 3]; 2] = [[32, 4, 60_000], [256, 200, 12_000]];
+pub const SIZES: [[usize; 3]; 2] = [[32, 4, 60_000], [256, 200, 12_000]];
 
 // What is still to do.
 #[derive(Debug, Drop)]
-struct Work {
-    left: usize,
+pub struct Work {
+    pub left: usize,
     port: u16,
+}
+
+impl Work {
+    /// So many conversations.
+    pub fn new(left: usize) -> Work {
+        Work { left, port: 20_000 }
+    }
+
+    /// The next port of the client.
+    pub fn next_port(&mut self) -> u16 {
+        self.port = if self.port > 60_000 {
+            20_000
+        } else {
+            self.port + 1
+        };
+        self.port
+    }
 }
 
 /// Runs the conversations of hosts of several sizes.
@@ -59,7 +76,7 @@ pub fn talks(
         let mut client = Station::new(alloc, CLIENT, random.word());
         let mut server = Station::new(alloc, SERVER, random.word());
         fill(bytes.as_mut_slice(), sleepers, &mut client, &mut server)?;
-        let work = Work { left, port: 20_000 };
+        let work = Work::new(left);
         run(
             alloc,
             work,
@@ -157,10 +174,10 @@ fn begin(
     let mut busy = work.left > 0;
     for slot in &mut client.slots {
         if !slot.is_idle() {
-            busy = busy || slot.role == Role::Client;
+            busy = busy || slot.talk.role == Role::Client;
             continue;
         }
-        slot.add_to(digest);
+        slot.talk.add_to(digest);
         if work.left == 0 {
             continue;
         }
@@ -173,7 +190,7 @@ fn begin(
 }
 
 // 100 to 600 bytes, and of some 600 to 8,000.
-fn answer_len(random: &mut Random) -> usize {
+pub fn answer_len(random: &mut Random) -> usize {
     let small = 100 + random.below(500) as usize;
     if random.happens(300) {
         600 + random.below(7400) as usize
@@ -185,7 +202,7 @@ fn answer_len(random: &mut Random) -> usize {
 // The sockets that sleep are connected at the beginning.
 fn wake_sleepers(client: &mut Station<'_>, work: &mut Work) {
     for slot in &mut client.slots {
-        if slot.role == Role::Sleeper {
+        if slot.talk.role == Role::Sleeper {
             connect(slot, &mut client.host, work, false);
         }
     }
@@ -193,18 +210,13 @@ fn wake_sleepers(client: &mut Station<'_>, work: &mut Work) {
 
 // Connects from the next port to the service, or to a port where nobody is.
 fn connect<C: Context>(slot: &mut Slot<'_>, host: &mut C, work: &mut Work, wrong: bool) {
-    work.port = if work.port > 60_000 {
-        20_000
-    } else {
-        work.port + 1
-    };
     let remote = IpEndpoint {
         addr: IpAddress::Ipv4(SERVER),
         port: if wrong { SERVICE + 1 } else { SERVICE },
     };
     let local = IpListenEndpoint {
         addr: None,
-        port: work.port,
+        port: work.next_port(),
     };
     let _ = slot.socket.connect(host, remote, local);
 }

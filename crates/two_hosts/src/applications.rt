@@ -6,8 +6,7 @@
 pub mod client;
 pub mod server;
 
-use crate::context::Interface;
-use crate::host::Host;
+use crate::host::{FullHost, Moment, SOCKETS};
 use crate::trace::Trace;
 use smoltcp_socket::tcp::State;
 use smoltcp_socket::wire::{IpListenEndpoint, IpProtocol};
@@ -39,7 +38,7 @@ pub trait Application {
     fn use_socket(
         &mut self,
         socket: &mut Socket<'_>,
-        interface: &Interface,
+        now: Moment,
         trace: &mut Trace,
     ) -> Result<(), AllocError>;
 }
@@ -47,11 +46,17 @@ pub trait Application {
 /// Asks an application: it uses the sockets of its host.
 pub fn ask<A: Application>(
     application: &mut A,
-    host: &mut Host<'_>,
+    host: &mut FullHost<'_>,
+    now: Moment,
     trace: &mut Trace,
 ) -> Result<(), AllocError> {
-    for entry in &mut host.sockets {
-        application.use_socket(&mut entry.socket, &host.interface, trace)?;
+    for place in 0..SOCKETS {
+        let Some(handle) = host.handle(place) else {
+            continue;
+        };
+        if let Some(socket) = host.sockets.get_mut(handle) {
+            application.use_socket(socket, now, trace)?;
+        }
     }
     Ok(())
 }

@@ -7,7 +7,6 @@
 
 mod applications;
 mod context;
-mod entry;
 mod fault;
 mod host;
 mod memory;
@@ -17,18 +16,16 @@ mod wire;
 
 use crate::applications::client::Client;
 use crate::applications::server::Server;
-use crate::applications::{ask, client, server};
-use crate::context::{A, B, take_outbox};
+use crate::applications::{EXPERIMENT, ask, client, server};
+use crate::context::{A, B, MTU};
 use crate::fault::Fault;
-use crate::host::Host;
+use crate::host::{FullHost, Host, Moment};
 use crate::memory::Memory;
-use crate::packet::Packet;
 use crate::trace::Trace;
 use crate::wire::Wire;
-use host_guard::guard::{KEEP_ALIVE, TIMEOUT};
+use net_host::SocketSet;
 use smoltcp_socket::storage::RingBuffer;
-use smoltcp_socket::time::Instant;
-use smoltcp_socket::wire::IpAddress;
+use smoltcp_socket::time::{Duration, Instant};
 use smoltcp_socket::{PollAt, tcp};
 use std::alloc::{AllocError, Global};
 use std::env;
@@ -45,6 +42,9 @@ const ROUNDS: u32 = 10_000;
 
 // At most so many packets arrive at one host and the other in a round; the rest arrive in the next.
 const ARRIVALS: u32 = 100;
+
+// A host sends at most so many packets in a round.
+const EMISSIONS: u32 = 200;
 
 // What `--help` prints.
 const HELP: &str = "\
@@ -125,6 +125,9 @@ fn number(arg: Option<String>, otherwise: u32, most: u32) -> Result<u32, Fault> 
     }
 }
 
+// A peer that has been silent for so long is asked whether it is there.
+const KEEP_ALIVE: Duration = Duration { micros: 15_000_000 };
+
 // Makes the sockets of both hosts, and runs the hosts. The buffers outlive the sockets.
 fn simulate(alloc: Global, seed: u32, loss: u32) -> Result<Trace, AllocError> {
     let (mut rx_a, mut tx_a) = ([0u8; 256], [0u8; 256]);
@@ -132,17 +135,11 @@ fn simulate(alloc: Global, seed: u32, loss: u32) -> Result<Trace, AllocError> {
     let (mut memory_a, mut memory_b) = (Memory::new(), Memory::new());
     let mut tcp_a = tcp::Socket::new(RingBuffer::new(&mut rx_a), RingBuffer::new(&mut tx_a));
     let mut tcp_b = tcp::Socket::new(RingBuffer::new(&mut rx_b), RingBuffer::new(&mut tx_b));
-    guard(&mut tcp_a);
-    guard(&mut tcp_b);
+    // without it a lost FIN, or a late window of 0, could leave both hosts waiting for each other
+    tcp_a.set_keep_alive(Some(KEEP_ALIVE));
+    tcp_b.set_keep_alive(Some(KEEP_ALIVE));
     let wire = Wire::new(alloc, seed, loss);
     run(alloc, wire, (tcp_a, &mut memory_a), (tcp_b, &mut memory_b))
-}
-
-// Sees to it that the connection does not wait for ever. Without it a lost FIN, or a late window of 0, can leave both
-// hosts waiting for each other.
-fn guard(tcp: &mut tcp::Socket<'_>) {
-    tcp.set_timeout(Some(TIMEOUT));
-    tcp.set_keep_alive(Some(KEEP_ALIVE));
 }
 
 // Opens the sockets, and goes on until nothing is left to do.
@@ -152,17 +149,17 @@ fn run<'a>(
     a: (tcp::Socket<'a>, &'a mut Memory),
     b: (tcp::Socket<'a>, &'a mut Memory),
 ) -> Result<Trace, AllocError> {
-    let mut simulation: Simulation<'a> = Simulation {
-        a: Host::new(alloc, A, 1000),
-        b: Host::new(alloc, B, 5000),
+    let mut simulation: FullSimulation<'a> = Simulation {
+        a: Host::new(alloc, A, 1000, a.0, a.1.sockets(EXPERIMENT))?,
+        b: Host::new(alloc, B, 5000, b.0, b.1.sockets(EXPERIMENT))?,
         client: Client::new(alloc),
         server: Server::new(),
         wire,
         trace: Trace::new(alloc),
-        now: 0,
+        now: Moment { alloc, millis: 0 },
     };
-    client::open(&mut simulation.a, a.0, a.1)?;
-    server::open(&mut simulation.b, b.0, b.1)?;
+    client::open(&mut simulation.a);
+    server::open(&mut simulation.b);
     simulation.run()?;
     Ok(simulation.trace)
 }
@@ -175,27 +172,28 @@ fn millis_of(at: Instant) -> u32 {
 
 /// The two hosts with what runs on them, and the wire between them.
 #[derive(Drop)]
-struct Simulation<'a> {
-    a: Host<'a>,
-    b: Host<'a>,
+struct Simulation<S> {
+    a: Host<S>,
+    b: Host<S>,
     client: Client,
     server: Server,
     wire: Wire,
     trace: Trace,
-    // The time, in milliseconds.
-    now: u32,
+    now: Moment,
 }
 
-impl Simulation<'_> {
+type FullSimulation<'a> = Simulation<SocketSet<'a>>;
+
+impl<'a> Simulation<SocketSet<'a>> {
     // Goes from one moment at which something happens to the next, until nothing is left to do. Between two rounds is a
     // millisecond at least, so that a socket which always wants a dispatch does not keep the host at one moment.
     fn run(&mut self) -> Result<(), AllocError> {
         for _ in 0..ROUNDS {
             self.round()?;
-            let next = self.now.saturating_add(1);
+            let next = self.now.millis.saturating_add(1);
             match self.poll_at() {
-                PollAt::Now => self.now = next,
-                PollAt::Time(at) => self.now = next.max(millis_of(at)),
+                PollAt::Now => self.now.millis = next,
+                PollAt::Time(at) => self.now.millis = next.max(millis_of(at)),
                 PollAt::Ingress => break,
             }
         }
@@ -205,8 +203,6 @@ impl Simulation<'_> {
     // What happens now: packets arrive, the applications read and write, and the sockets emit what is due. A dispatch
     // may end a connection, so the applications then look again.
     fn round(&mut self) -> Result<(), AllocError> {
-        self.a.interface.set_millis(self.now);
-        self.b.interface.set_millis(self.now);
         self.receive()?;
         self.run_applications()?;
         self.emit()?;
@@ -216,48 +212,58 @@ impl Simulation<'_> {
     // Takes what has arrived off the wire.
     fn receive(&mut self) -> Result<(), AllocError> {
         for _ in 0..ARRIVALS {
-            match self.wire.arrived(self.now) {
-                Some(packet) => self.deliver(&packet)?,
+            match self.wire.arrived(self.now.millis) {
+                Some(packet) => self.deliver(packet.as_slice())?,
                 None => break,
             }
         }
         Ok(())
     }
 
+    // A packet arrives at the host that it is for: each drops what is for the other. What answers it goes on the wire.
+    fn deliver(&mut self, packet: &[u8]) -> Result<(), AllocError> {
+        let mut reply = [0u8; MTU];
+        let count = self.a.receive(self.now, packet, &mut reply);
+        self.send(&reply[..count])?;
+        let count = self.b.receive(self.now, packet, &mut reply);
+        self.send(&reply[..count])
+    }
+
     // Puts what the sockets emit on the wire.
     fn emit(&mut self) -> Result<(), AllocError> {
-        self.a.dispatch()?;
-        self.b.dispatch()?;
-        let from_a = take_outbox(&mut self.a.interface);
-        self.send(from_a)?;
-        let from_b = take_outbox(&mut self.b.interface);
-        self.send(from_b)
+        let mut packet = [0u8; MTU];
+        for _ in 0..EMISSIONS {
+            let count = self.a.emit(self.now, &mut packet);
+            if count == 0 {
+                break;
+            }
+            self.send(&packet[..count])?;
+        }
+        for _ in 0..EMISSIONS {
+            let count = self.b.emit(self.now, &mut packet);
+            if count == 0 {
+                break;
+            }
+            self.send(&packet[..count])?;
+        }
+        Ok(())
     }
 
     fn run_applications(&mut self) -> Result<(), AllocError> {
-        ask(&mut self.client, &mut self.a, &mut self.trace)?;
-        ask(&mut self.server, &mut self.b, &mut self.trace)
+        ask(&mut self.client, &mut self.a, self.now, &mut self.trace)?;
+        ask(&mut self.server, &mut self.b, self.now, &mut self.trace)
     }
 
-    fn deliver(&mut self, packet: &Packet) -> Result<(), AllocError> {
-        let dst = packet.ip.dst_addr();
-        if dst == IpAddress::Ipv4(A) {
-            self.a.receive(packet)
-        } else if dst == IpAddress::Ipv4(B) {
-            self.b.receive(packet)
-        } else {
-            Ok(())
+    // Puts a packet on the wire; one of no bytes is none.
+    fn send(&mut self, packet: &[u8]) -> Result<(), AllocError> {
+        if packet.is_empty() {
+            return Ok(());
         }
-    }
-
-    // Puts packets on the wire.
-    fn send(&mut self, packets: Vec<Packet>) -> Result<(), AllocError> {
-        for packet in packets {
-            let arrival = self.wire.arrival(self.now);
-            self.trace.packet(self.now, &packet, arrival)?;
-            if let Some(arrival) = arrival {
-                self.wire.carry(packet, arrival)?;
-            }
+        let arrival = self.wire.arrival(self.now.millis);
+        self.trace.packet(self.now.millis, packet, arrival)?;
+        if let Some(arrival) = arrival {
+            let packet = Vec::from_slice(self.now.alloc, packet)?;
+            self.wire.carry(packet, arrival)?;
         }
         Ok(())
     }

@@ -1,7 +1,7 @@
 //! What happened, line by line: the packets as tcpdump shows them, and what the applications saw.
 
 use crate::context::{A, B};
-use crate::packet::{Body, Packet};
+use crate::packet::{Body, read};
 use smoltcp_socket::wire::{
     ChecksumCapabilities, Icmpv4Repr, IpAddress, IpProtocol, TcpControl, TcpRepr,
 };
@@ -35,7 +35,7 @@ impl Trace {
     pub fn packet(
         &mut self,
         now: u32,
-        packet: &Packet,
+        packet: &[u8],
         arrival: Option<u32>,
     ) -> Result<(), AllocError> {
         self.at(now)?;
@@ -43,20 +43,22 @@ impl Trace {
         self.arrival(arrival)
     }
 
-    fn content(&mut self, packet: &Packet) -> Result<(), AllocError> {
-        let (src, dst) = (name(&packet.ip.src_addr()), name(&packet.ip.dst_addr()));
-        match &packet.body {
-            Body::Tcp(header, payload) => {
+    fn content(&mut self, packet: &[u8]) -> Result<(), AllocError> {
+        let Some((ip, body)) = read(packet) else {
+            return write!(self.text, "malformed");
+        };
+        let (src, dst) = (name(&ip.src_addr()), name(&ip.dst_addr()));
+        match body {
+            Body::Tcp(header) => {
                 self.ends(src, header.src_port, dst, header.dst_port)?;
-                self.segment(header, payload.len())
+                self.segment(&header, header.payload.len())
             }
-            Body::Udp(repr, payload) => {
+            Body::Udp(repr, len) => {
                 self.ends(src, repr.src_port, dst, repr.dst_port)?;
-                let len = payload.len();
                 write!(self.text, "UDP len {len}")
             }
-            Body::Icmp(message) => self.message(src, dst, message.as_slice()),
-            Body::Raw(payload) => self.raw(src, dst, packet.ip.next_header(), payload.len()),
+            Body::Icmp(message) => self.message(src, dst, message),
+            Body::Raw(len) => self.raw(src, dst, ip.next_header(), len),
         }
     }
 

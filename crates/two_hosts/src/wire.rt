@@ -2,7 +2,6 @@
 //! overtake others.
 ghost use Rattle.std.specs.Prelude.{◌<◌};
 
-use crate::packet::Packet;
 use smoltcp_socket::PollAt;
 use smoltcp_socket::time::Instant;
 use std::alloc::{AllocError, Global};
@@ -18,7 +17,7 @@ const SPREAD: u32 = 30;
 #[derive(Drop)]
 pub struct Wire {
     /// The packets on their way, by the moment at which they arrive, and in the order in which they were sent.
-    packets: BTreeMap<(u32, u32), Packet>,
+    packets: BTreeMap<(u32, u32), Vec<u8>>,
     /// How many were sent.
     sent: u32,
     /// How many of a hundred packets get lost.
@@ -47,14 +46,14 @@ impl Wire {
     }
 
     /// Carries a packet that will arrive at this moment.
-    pub fn carry(&mut self, packet: Packet, arrival: u32) -> Result<(), AllocError> {
+    pub fn carry(&mut self, packet: Vec<u8>, arrival: u32) -> Result<(), AllocError> {
         self.packets.insert((arrival, self.sent), packet)?;
         self.sent = self.sent.wrapping_add(1);
         Ok(())
     }
 
     /// Takes a packet that has arrived by now off the wire, if there is one: the earliest.
-    pub fn arrived(&mut self, now: u32) -> Option<Packet> {
+    pub fn arrived(&mut self, now: u32) -> Option<Vec<u8>> {
         let ((arrival, _), _) = self.packets.first_key_value()?;
         if *arrival > now {
             return None;

@@ -28,13 +28,12 @@ struct Room {
     memory: icmp::Memory,
     places: [[icmp::PacketMetadata; 4]; 2],
     bytes: [[u8; 4 * MTU]; 2],
-    one: [u8; MTU],
 }
 
 impl Room {
     fn new() -> Room {
         let places = [[icmp::PacketMetadata::EMPTY; 4]; 2];
-        Room { memory: icmp::Memory::new(), places, bytes: [[0; 4 * MTU]; 2], one: [0; MTU] }
+        Room { memory: icmp::Memory::new(), places, bytes: [[0; 4 * MTU]; 2] }
     }
 
     fn socket(&mut self, endpoint: icmp::Endpoint) -> io::Result<icmp::Socket<'_>> {
@@ -42,7 +41,6 @@ impl Room {
         let (rx, tx) = (icmp::PacketBuffer::new(rx_places, rx), icmp::PacketBuffer::new(tx_places, tx));
         let mut socket = icmp::Socket::new(&mut self.memory, rx, tx);
         socket.bind(endpoint).map_err(io::Error::other)?;
-        socket.lend_room(&mut self.one);
         Ok(socket)
     }
 }
@@ -89,13 +87,10 @@ fn of_kind<'c, 'a, T: AnySocket<'a>>(socket: &'c mut Socket<'a>) -> &'c mut T {
 }
 
 /// Sends a request of this number.
-fn ping(socket: &mut icmp::Socket, seq_no: u16) -> io::Result<usize> {
+fn ping(socket: &mut icmp::Socket, seq_no: u16) -> io::Result<()> {
     let request = Icmpv4Repr::EchoRequest { ident: IDENT, seq_no, data: b"proved sockets" };
-    let write = |bytes: &mut [u8]| {
-        request.emit(bytes);
-        bytes.len()
-    };
-    socket.send_with(request.buffer_len(), PEER, write).map_err(io::Error::other)
+    request.emit(socket.send(request.buffer_len(), PEER).map_err(io::Error::other)?);
+    Ok(())
 }
 
 /// The message that has come, in words.

@@ -9,10 +9,11 @@
 //!   given.
 //! - *bytes*: a pointer leads to memory of the length given. Both are those of one slice.
 //!
-//! A contract of `init` takes the memory and the buffers, and `release`, which would give them back, is not called where
-//! a socket ends here, as it is refused of an open one. That they are free again rests on this: the library keeps nothing of them. It has no writable data of its own, starts no thread, and asks for
-//! nothing but `memcpy`, `memmove` and `memset` (`live/rust` and `live/header` look at its symbols), so that it gets at
-//! a socket only in a call that is given it; and there is no such call any more.
+//! A contract of `init` takes the memory and the buffers, and `release`, which would give them back, is not called
+//! where a socket ends here, as it is refused of an open one. That they are free again rests on this: the library keeps
+//! nothing of them. It has no writable data of its own, starts no thread, and asks for nothing but `memcpy`, `memmove`
+//! and `memset` (`live/rust` and `live/header` look at its symbols), so that it gets at a socket only in a call that is
+//! given it; and there is no such call any more.
 use crate::ffi;
 use core::marker::PhantomData;
 use core::mem::MaybeUninit;
@@ -33,28 +34,34 @@ impl Memory {
     }
 }
 
-/// A buffer of a socket.
-struct Buffer {
+/// Where a buffer of a socket lies.
+#[derive(Clone, Copy)]
+struct Reach {
     at: NonNull<u8>,
     len: usize,
+}
+
+impl Reach {
+    /// Where `len` bytes from a place on lie, in this buffer: that they do is in no contract, so it is tested. No bytes
+    /// may lie anywhere.
+    fn find(self, place: &ffi::Place, len: usize) -> NonNull<u8> {
+        let start = if len == 0 { 0 } else { place.at.addr().wrapping_sub(self.at.addr().get()) };
+        assert!(start <= self.len && len <= self.len - start, "bytes outside of the buffer");
+        // SAFETY: it lies in the buffer, or just behind it.
+        unsafe { self.at.add(start) }
+    }
+}
+
+/// A buffer of a socket.
+struct Buffer {
+    reach: Reach,
     _own: Own<u8>,
 }
 
 impl Buffer {
     fn new(bytes: Slots<'_, u8>) -> Buffer {
         let (at, len, own) = bytes.taken();
-        Buffer { at, len, _own: own }
-    }
-
-    /// Where `len` bytes from a place on begin in this buffer: where they lie is in no contract, so it is tested. No
-    /// bytes may lie anywhere.
-    fn find(&self, place: &ffi::Place, len: usize) -> usize {
-        if len == 0 {
-            return 0;
-        }
-        let start = place.at.addr().wrapping_sub(self.at.addr().get());
-        assert!(start <= self.len && len <= self.len - start, "bytes outside of the buffer");
-        start
+        Buffer { reach: Reach { at, len }, _own: own }
     }
 }
 
@@ -123,6 +130,37 @@ macro_rules! tells {
     )*};
 }
 
+// A call that puts a packet of so many bytes into the transmit queue, and lends them; and one that lends the first of
+// the receive queue, and tells where it came from. Each answers what the call did where nothing is lent.
+macro_rules! lends_places {
+    (send($($to:ident: $kind:ty)?) => $send:ident; $($take:ident($($from:ident: $told:ty)?) => $call:ident;)*) => {
+        pub fn send_place(&mut self, $($to: $kind,)? size: usize) -> Result<&mut [u8], i64> {
+            let mut place = ffi::Place { at: null(), len: 0 };
+            // SAFETY: C.md: socket, one call, buffers.
+            let answer = unsafe { ffi::$send(&mut self.handle(), $($to,)? size, &mut place) };
+            if answer != ffi::OK {
+                return Err(answer);
+            }
+            let at = self.tx.find(&place, size);
+            // SAFETY: C.md: the bytes may be written until the next call on the socket, and none is made while `self`
+            // is borrowed. They lie in the transmit buffer, as `find` tested.
+            Ok(unsafe { slice::from_raw_parts_mut(at.as_ptr(), size) })
+        }
+
+        $(
+            pub fn $take(&mut self $(, $from: $told)?) -> Result<&[u8], i64> {
+                let mut place = ffi::Place { at: null(), len: 0 };
+                // SAFETY: C.md: socket, one call, buffers.
+                let answer = unsafe { ffi::$call(&mut self.handle(), $($from,)? &mut place) };
+                let len = usize::try_from(answer).map_err(|_| answer)?;
+                let at = self.rx.find(&place, len);
+                // SAFETY: as above, of bytes that may be read: they lie in the receive buffer, and were written.
+                Ok(unsafe { slice::from_raw_parts(at.as_ptr(), len) })
+            }
+        )*
+    };
+}
+
 mod datagrams;
 pub use datagrams::*;
 
@@ -159,8 +197,8 @@ impl<'a> Tcp<'a> {
         let (at, _, own) = memory.taken();
         let (rx, tx) = (Buffer::new(rx), Buffer::new(tx));
         let made = Tcp { at: at.cast(), rx, tx, _own: own, borrowed: PhantomData };
-        let rx = ffi::Bytes { at: made.rx.at.as_ptr(), len: made.rx.len };
-        let tx = ffi::Bytes { at: made.tx.at.as_ptr(), len: made.tx.len };
+        let [rx, tx] =
+            [made.rx.reach, made.tx.reach].map(|of| ffi::Bytes { at: of.at.as_ptr(), len: of.len });
         // SAFETY: C.md: buffers, bytes. The memory has the size and the alignment of `struct smoltcp_tcp`, and holds no
         // socket that is used: it is this one's alone, for 'a or for good. The lengths were tested.
         unsafe { ffi::smoltcp_tcp_init_nonnull(&mut made.handle(), rx, tx) };
@@ -265,11 +303,11 @@ impl<'a> Tcp<'a> {
         // SAFETY: C.md: socket, one call, buffers.
         let answer = unsafe { ffi::smoltcp_tcp_peek_nonnull(&mut self.handle(), size, &mut place) };
         let len = usize::try_from(answer).map_err(|_| answer)?;
-        let start = self.rx.find(&place, len);
+        let at = self.rx.reach.find(&place, len);
         // SAFETY: C.md: "What `peek` and `reserve` lend may be used until the next call on the socket", and none is
         // made while `self` is borrowed. The bytes lie in the receive buffer, as `find` tested, and were written: they
         // are bytes of a slice.
-        Ok(unsafe { slice::from_raw_parts(self.rx.at.as_ptr().add(start), len) })
+        Ok(unsafe { slice::from_raw_parts(at.as_ptr(), len) })
     }
 
     /// The free places behind the transmit queue, or what the call answered.
@@ -278,10 +316,10 @@ impl<'a> Tcp<'a> {
         // SAFETY: C.md: socket, one call, buffers.
         let answer = unsafe { ffi::smoltcp_tcp_reserve_nonnull(&mut self.handle(), &mut place) };
         let len = usize::try_from(answer).map_err(|_| answer)?;
-        let start = self.tx.find(&place, len);
+        let at = self.tx.reach.find(&place, len);
         // SAFETY: C.md, as for `peek`: the places may be written until the next call on the socket. They lie in the
         // transmit buffer, as `find` tested.
-        Ok(unsafe { slice::from_raw_parts_mut(self.tx.at.as_ptr().add(start), len) })
+        Ok(unsafe { slice::from_raw_parts_mut(at.as_ptr(), len) })
     }
 
     pub fn process(&mut self, cx: &ffi::Context, packet: &[u8], reply: &mut [u8]) -> i64 {
@@ -310,16 +348,17 @@ pub fn reset(packet: &[u8], reply: &mut [u8]) -> i64 {
 #[cfg(test)]
 mod tests {
     extern crate std;
-    use super::{Buffer, Slots};
+    use super::Reach;
     use crate::ffi::Place;
+    use core::ptr::NonNull;
 
     /// Whether `len` bytes that begin so far behind a buffer's beginning are found in it, which has ten.
     fn found(behind: isize, len: usize) -> bool {
         let mut bytes = [0; 10];
-        let buffer = Buffer::new(Slots::Lent(&mut bytes));
+        let buffer = Reach { at: NonNull::from(&mut bytes).cast(), len: 10 };
         let place = Place { at: buffer.at.as_ptr().wrapping_offset(behind), len };
         let find = std::panic::AssertUnwindSafe(|| buffer.find(&place, len));
-        std::panic::catch_unwind(find).is_ok_and(|start| len == 0 || start == behind as usize)
+        std::panic::catch_unwind(find).is_ok_and(|at| len == 0 || at.as_ptr().cast_const() == place.at)
     }
 
     #[test]

@@ -234,13 +234,16 @@ unsafe extern "C" {
     pub fn smoltcp_udp_init_nonnull(rx_places: Places, rx: Bytes, tx_places: Places, tx: Bytes,
                                     room: &mut UdpHandle) -> i64;
     pub fn smoltcp_udp_peek_nonnull(h: &mut UdpHandle, meta: &mut UdpMetadata, data: *mut u8, cap: usize) -> i64;
+    pub fn smoltcp_udp_peek_place_nonnull(h: &mut UdpHandle, meta: &mut UdpMetadata, out: &mut Place) -> i64;
     pub fn smoltcp_udp_place_nonnull(room: &mut UdpHandle) -> i64;
     pub fn smoltcp_udp_poll_at_nonnull(h: &mut UdpHandle, cx: &Context, at: &mut i64) -> i64;
     pub fn smoltcp_udp_process_nonnull(h: &mut UdpHandle, cx: &Context, packet: *const u8, len: usize) -> i64;
     pub fn smoltcp_udp_recv_nonnull(h: &mut UdpHandle, meta: &mut UdpMetadata, data: *mut u8, cap: usize) -> i64;
+    pub fn smoltcp_udp_recv_place_nonnull(h: &mut UdpHandle, meta: &mut UdpMetadata, out: &mut Place) -> i64;
     pub fn smoltcp_udp_release_nonnull(room: &mut UdpHandle, rx_places: &mut Places, rx: &mut Bytes,
                                        tx_places: &mut Places, tx: &mut Bytes) -> i64;
     pub fn smoltcp_udp_send_nonnull(h: &mut UdpHandle, meta: &UdpMetadata, data: *const u8, len: usize) -> i64;
+    pub fn smoltcp_udp_send_place_nonnull(h: &mut UdpHandle, meta: &UdpMetadata, size: usize, out: &mut Place) -> i64;
     pub fn smoltcp_udp_set_hop_limit_nonnull(h: &mut UdpHandle, hop_limit: u8) -> i64;
     pub fn smoltcp_raw_accepts_nonnull(h: &mut RawHandle, packet: *const u8, len: usize) -> i64;
     pub fn smoltcp_raw_ask_nonnull(h: &mut RawHandle, what: u32) -> i64;
@@ -248,13 +251,16 @@ unsafe extern "C" {
     pub fn smoltcp_raw_init_nonnull(rx_places: Places, rx: Bytes, tx_places: Places, tx: Bytes, filter: &RawFilter,
                                     room: &mut RawHandle) -> i64;
     pub fn smoltcp_raw_peek_nonnull(h: &mut RawHandle, data: *mut u8, cap: usize) -> i64;
+    pub fn smoltcp_raw_peek_place_nonnull(h: &mut RawHandle, out: &mut Place) -> i64;
     pub fn smoltcp_raw_place_nonnull(room: &mut RawHandle) -> i64;
     pub fn smoltcp_raw_poll_at_nonnull(h: &mut RawHandle, cx: &Context, at: &mut i64) -> i64;
     pub fn smoltcp_raw_process_nonnull(h: &mut RawHandle, cx: &Context, packet: *const u8, len: usize) -> i64;
     pub fn smoltcp_raw_recv_nonnull(h: &mut RawHandle, data: *mut u8, cap: usize) -> i64;
+    pub fn smoltcp_raw_recv_place_nonnull(h: &mut RawHandle, out: &mut Place) -> i64;
     pub fn smoltcp_raw_release_nonnull(room: &mut RawHandle, rx_places: &mut Places, rx: &mut Bytes,
                                        tx_places: &mut Places, tx: &mut Bytes) -> i64;
     pub fn smoltcp_raw_send_nonnull(h: &mut RawHandle, data: *const u8, len: usize) -> i64;
+    pub fn smoltcp_raw_send_place_nonnull(h: &mut RawHandle, size: usize, out: &mut Place) -> i64;
     pub fn smoltcp_icmp_accepts_nonnull(h: &mut IcmpHandle, cx: &Context, packet: *const u8, len: usize) -> i64;
     pub fn smoltcp_icmp_ask_nonnull(h: &mut IcmpHandle, what: u32) -> i64;
     pub fn smoltcp_icmp_bind_nonnull(h: &mut IcmpHandle, endpoint: &IcmpEndpoint) -> i64;
@@ -265,9 +271,11 @@ unsafe extern "C" {
     pub fn smoltcp_icmp_poll_at_nonnull(h: &mut IcmpHandle, cx: &Context, at: &mut i64) -> i64;
     pub fn smoltcp_icmp_process_nonnull(h: &mut IcmpHandle, cx: &Context, packet: *const u8, len: usize) -> i64;
     pub fn smoltcp_icmp_recv_nonnull(h: &mut IcmpHandle, remote: &mut Address, data: *mut u8, cap: usize) -> i64;
+    pub fn smoltcp_icmp_recv_place_nonnull(h: &mut IcmpHandle, remote: &mut Address, out: &mut Place) -> i64;
     pub fn smoltcp_icmp_release_nonnull(room: &mut IcmpHandle, rx_places: &mut Places, rx: &mut Bytes,
                                         tx_places: &mut Places, tx: &mut Bytes) -> i64;
     pub fn smoltcp_icmp_send_nonnull(h: &mut IcmpHandle, remote: &Address, data: *const u8, len: usize) -> i64;
+    pub fn smoltcp_icmp_send_place_nonnull(h: &mut IcmpHandle, remote: &Address, size: usize, out: &mut Place) -> i64;
     pub fn smoltcp_icmp_set_hop_limit_nonnull(h: &mut IcmpHandle, hop_limit: u8) -> i64;
     // Texts that end with a zero, and stay.
     pub safe fn smoltcp_version() -> *const core::ffi::c_char;

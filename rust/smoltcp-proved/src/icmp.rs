@@ -4,7 +4,7 @@ use crate::calls::{self, Icmp, Slots};
 use crate::numbers::{
     address_of, address_told, count_in, done, flag_in, hop_limit_in, hop_limit_of, listen_of, not_in_contract,
 };
-use crate::room::{LONGEST_PACKET, Room};
+use crate::room::Room;
 use crate::shown::shown;
 use crate::tcp::poll_in;
 use crate::wakers::{Wakers, registers};
@@ -181,9 +181,8 @@ impl<'a> Socket<'a> {
         Socket { calls, room: Room::none(), wakers: Wakers::none() }
     }
 
-    /// Lends room for one message to [`recv`](Socket::recv) and [`send_with`](Socket::send_with). With the
-    /// feature `alloc`, a socket that was lent none takes it from the heap at the first such call; without, those calls
-    /// panic before. (Not in smoltcp, which lends a message where it lies.)
+    /// Lends room for one message to [`send_with`](Socket::send_with). With the feature `alloc`, a socket that was
+    /// lent none takes it from the heap at the first such call; without, that call panics before. (Not in smoltcp.)
     pub fn lend_room(&mut self, room: &'a mut [u8]) {
         self.room = Room::Lent(room);
     }
@@ -308,9 +307,25 @@ impl<'a> Socket<'a> {
         sent(self.calls.send(&address_of(Some(endpoint)), bytes)).map(|()| bytes.len())
     }
 
-    /// Takes the first message, which lies in the socket's room ([`lend_room`](Socket::lend_room)) then, and where it
-    /// came from. Where it finds no room there, it is lost, as with [`recv_slice`](Socket::recv_slice); room of the
-    /// heap is long enough for all.
+    /// Puts a message of `size` bytes into the transmit queue, and lends them where they lie: what is written there is
+    /// the message. Before, older bytes stand there.
+    ///
+    /// ```
+    /// use smoltcp_proved::icmp::{SendError, Socket};
+    /// use smoltcp_proved::wire::{Icmpv4Repr, IpAddress};
+    ///
+    /// fn ping(socket: &mut Socket, to: IpAddress, seq_no: u16) -> Result<(), SendError> {
+    ///     let request = Icmpv4Repr::EchoRequest { ident: 7, seq_no, data: b"ping" };
+    ///     request.emit(socket.send(request.buffer_len(), to)?);
+    ///     Ok(())
+    /// }
+    /// # let _ = ping;
+    /// ```
+    pub fn send(&mut self, size: usize, endpoint: IpAddress) -> Result<&mut [u8], SendError> {
+        self.calls.send_place(&address_of(Some(endpoint)), size).map_err(refused)
+    }
+
+    /// Takes the first message, and lends it where it lies; and where it came from.
     ///
     /// ```
     /// use smoltcp_proved::icmp::Socket;
@@ -326,14 +341,10 @@ impl<'a> Socket<'a> {
     /// }
     /// # let _ = answered;
     /// ```
-    ///
-    /// # Panics
-    /// Without the feature `alloc`, where no room was lent.
     pub fn recv(&mut self) -> Result<(&[u8], IpAddress), RecvError> {
-        let most = self.payload_recv_capacity().min(LONGEST_PACKET);
-        let (room, mut from) = (self.room.of(most), ffi::Address::default());
-        let (len, from) = copied(self.calls.recv(&mut from, room), &from)?;
-        Ok((&room[..len], from))
+        let mut from = ffi::Address::default();
+        let bytes = self.calls.recv_place(&mut from).map_err(nothing)?;
+        Ok((bytes, address_told(&from)))
     }
 
     /// Takes the first message: how many bytes it has, at the beginning of `data`, and where it came from. Where they
@@ -389,8 +400,23 @@ impl<'a> Socket<'a> {
 fn sent(answer: i64) -> Result<(), SendError> {
     match answer {
         ffi::OK => Ok(()),
-        ffi::ERROR_ROOM => Err(SendError::BufferFull),
-        ffi::ERROR_ADDRESS => Err(SendError::Unaddressable),
+        _ => Err(refused(answer)),
+    }
+}
+
+/// Why nothing was sent.
+fn refused(answer: i64) -> SendError {
+    match answer {
+        ffi::ERROR_ROOM => SendError::BufferFull,
+        ffi::ERROR_ADDRESS => SendError::Unaddressable,
+        _ => not_in_contract(answer),
+    }
+}
+
+/// Why nothing was lent.
+pub(crate) fn nothing(answer: i64) -> RecvError {
+    match answer {
+        ffi::ERROR_EMPTY => RecvError::Exhausted,
         _ => not_in_contract(answer),
     }
 }

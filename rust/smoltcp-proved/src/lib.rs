@@ -6,7 +6,8 @@
 //! `dispatch`. There is no interface layer, no heap, no clock: the program that calls has them.
 //!
 //! Features, of which none is on: `alloc`, sockets and queues that own their memory (`tcp::Socket::owned`), and room of
-//! the heap for datagrams in place; `std`, that and moments of the system's clocks.
+//! the heap for datagrams in place; `std`, that and moments of the system's clocks. The same crate as
+//! `smoltcp-proved-defmt` has `defmt`: `defmt::Format` of what has `Display` or is told of a segment.
 //!
 //! ```
 //! use smoltcp_proved::{Context, tcp, wire::IpAddress};
@@ -114,6 +115,8 @@ mod calls;
 mod context;
 #[allow(unsafe_code)]
 mod ffi;
+#[cfg(feature = "defmt")]
+mod logged;
 mod numbers;
 mod room;
 mod shown;

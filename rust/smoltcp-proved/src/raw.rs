@@ -1,8 +1,9 @@
 //! Raw sockets: whole IP packets, headers included, go in and out. Each call of a [`Socket`] is one call of the
 //! library, which is proved. smoltcp's names.
 use crate::calls::{self, Raw, Slots};
+use crate::icmp::nothing;
 use crate::numbers::{count_in, flag_in, not_in_contract};
-use crate::room::{LONGEST_PACKET, Room};
+use crate::room::Room;
 use crate::shown::shown;
 use crate::tcp::poll_in;
 use crate::wakers::{Wakers, registers};
@@ -114,9 +115,8 @@ impl<'a> Socket<'a> {
         Socket { calls, room: Room::none(), wakers: Wakers::none() }
     }
 
-    /// Lends room for one packet to [`recv`](Socket::recv), [`peek`](Socket::peek) and
-    /// [`send_with`](Socket::send_with). With the feature `alloc`, a socket that was lent none takes it from the heap
-    /// at the first such call; without, those calls panic before. (Not in smoltcp, which lends a packet where it lies.)
+    /// Lends room for one packet to [`send_with`](Socket::send_with). With the feature `alloc`, a socket that was
+    /// lent none takes it from the heap at the first such call; without, that call panics before. (Not in smoltcp.)
     pub fn lend_room(&mut self, room: &'a mut [u8]) {
         self.room = Room::Lent(room);
     }
@@ -205,24 +205,20 @@ impl<'a> Socket<'a> {
         sent(self.calls.send(bytes)).map(|()| bytes.len())
     }
 
-    /// Takes the first packet, which lies in the socket's room ([`lend_room`](Socket::lend_room)) then. Where it finds
-    /// no room there, it is lost, as with [`recv_slice`](Socket::recv_slice); room of the heap is long enough for all.
-    ///
-    /// # Panics
-    /// Without the feature `alloc`, where no room was lent.
+    /// Puts a packet of `size` bytes, its IP header included, into the transmit queue, and lends them where they lie:
+    /// what is written there is the packet. Before, older bytes stand there.
+    pub fn send(&mut self, size: usize) -> Result<&mut [u8], SendError> {
+        self.calls.send_place(size).map_err(refused)
+    }
+
+    /// Takes the first packet, and lends it where it lies.
     pub fn recv(&mut self) -> Result<&[u8], RecvError> {
-        let most = self.payload_recv_capacity().min(LONGEST_PACKET);
-        let room = self.room.of(most);
-        let len = copied(self.calls.recv(room))?;
-        Ok(&room[..len])
+        self.calls.recv_place().map_err(nothing)
     }
 
     /// The same, and the packet stays.
     pub fn peek(&mut self) -> Result<&[u8], RecvError> {
-        let most = self.payload_recv_capacity().min(LONGEST_PACKET);
-        let room = self.room.of(most);
-        let len = copied(self.calls.peek(room))?;
-        Ok(&room[..len])
+        self.calls.peek_place().map_err(nothing)
     }
 
     /// Takes the first packet: how many bytes it has, at the beginning of `data`. Where they find no room, it is lost,
@@ -279,7 +275,14 @@ impl<'a> Socket<'a> {
 fn sent(answer: i64) -> Result<(), SendError> {
     match answer {
         ffi::OK => Ok(()),
-        ffi::ERROR_ROOM => Err(SendError::BufferFull),
+        _ => Err(refused(answer)),
+    }
+}
+
+/// Why nothing was sent.
+fn refused(answer: i64) -> SendError {
+    match answer {
+        ffi::ERROR_ROOM => SendError::BufferFull,
         _ => not_in_contract(answer),
     }
 }

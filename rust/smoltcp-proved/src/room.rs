@@ -1,10 +1,7 @@
-//! Room for one packet of a queue, for the calls that lend it: the library copies packets, and has no call that lends
-//! one where it lies.
+//! Room for one packet, for the calls that are told only when it is written how long it is: the library's call that
+//! lends one where it lies wants to know before.
 #[cfg(feature = "alloc")]
 use alloc::vec::Vec;
-
-/// The longest IP packet, in bytes: none that comes is longer.
-pub(crate) const LONGEST_PACKET: usize = 65535;
 
 /// Bytes that were lent to a socket for its packets, or, behind the feature `alloc`, of the heap.
 pub(crate) enum Room<'a> {

@@ -1,10 +1,11 @@
 //! UDP sockets. Each call of a [`Socket`] is one call of the library, which is proved. smoltcp's names and texts.
 use crate::calls::{self, Slots, Udp};
+use crate::icmp::nothing;
 use crate::numbers::{
     address_in, address_of, count_in, done, endpoint_of, endpoint_told, flag_in, hop_limit_in, hop_limit_of,
     listen_in, listen_of, not_in_contract,
 };
-use crate::room::{LONGEST_PACKET, Room};
+use crate::room::Room;
 use crate::shown::shown;
 use crate::tcp::poll_in;
 use crate::wakers::{Wakers, registers};
@@ -129,10 +130,8 @@ impl<'a> Socket<'a> {
         Socket { calls, room: Room::none(), wakers: Wakers::none() }
     }
 
-    /// Lends room for one datagram to [`recv`](Socket::recv), [`peek`](Socket::peek) and
-    /// [`send_with`](Socket::send_with). With the feature `alloc`, a socket that was lent none takes it from the heap
-    /// at the first such call; without, those calls panic before. (Not in smoltcp, which lends a datagram where it
-    /// lies.)
+    /// Lends room for one datagram to [`send_with`](Socket::send_with). With the feature `alloc`, a socket that was
+    /// lent none takes it from the heap at the first such call; without, that call panics before. (Not in smoltcp.)
     pub fn lend_room(&mut self, room: &'a mut [u8]) {
         self.room = Room::Lent(room);
     }
@@ -254,25 +253,24 @@ impl<'a> Socket<'a> {
         sent(self.calls.send(&meta_of(meta), bytes)).map(|()| bytes.len())
     }
 
-    /// Takes the first datagram, which lies in the socket's room ([`lend_room`](Socket::lend_room)) then, and where it
-    /// came from. Where it finds no room there, it is lost, as with [`recv_slice`](Socket::recv_slice); room of the
-    /// heap is long enough for all.
-    ///
-    /// # Panics
-    /// Without the feature `alloc`, where no room was lent.
-    pub fn recv(&mut self) -> Result<(&[u8], UdpMetadata), RecvError> {
-        let most = self.payload_recv_capacity().min(LONGEST_PACKET);
-        let (room, mut from) = (self.room.of(most), ffi::UdpMetadata::default());
-        let (len, from) = copied(self.calls.recv(&mut from, room), &from)?;
-        Ok((&room[..len], from))
+    /// Puts a datagram of `size` bytes into the transmit queue, and lends them where they lie: what is written there is
+    /// the payload. Before, older bytes stand there.
+    pub fn send(&mut self, size: usize, meta: impl Into<UdpMetadata>) -> Result<&mut [u8], SendError> {
+        self.calls.send_place(&meta_of(meta.into()), size).map_err(refused)
     }
 
-    /// The same, and the datagram stays.
+    /// Takes the first datagram, and lends it where it lies; and where it came from.
+    pub fn recv(&mut self) -> Result<(&[u8], UdpMetadata), RecvError> {
+        let mut from = ffi::UdpMetadata::default();
+        let bytes = self.calls.recv_place(&mut from).map_err(nothing)?;
+        Ok((bytes, meta_told(&from)))
+    }
+
+    /// The same, and the datagram stays. (smoltcp lends the metadata too.)
     pub fn peek(&mut self) -> Result<(&[u8], UdpMetadata), RecvError> {
-        let most = self.payload_recv_capacity().min(LONGEST_PACKET);
-        let (room, mut from) = (self.room.of(most), ffi::UdpMetadata::default());
-        let (len, from) = copied(self.calls.peek(&mut from, room), &from)?;
-        Ok((&room[..len], from))
+        let mut from = ffi::UdpMetadata::default();
+        let bytes = self.calls.peek_place(&mut from).map_err(nothing)?;
+        Ok((bytes, meta_told(&from)))
     }
 
     /// Takes the first datagram: how many bytes it has, at the beginning of `data`, and where it came from. Where they
@@ -337,11 +335,22 @@ fn meta_of(meta: UdpMetadata) -> ffi::UdpMetadata {
     ffi::UdpMetadata { endpoint: endpoint_of(meta.endpoint), local_address }
 }
 
+fn meta_told(from: &ffi::UdpMetadata) -> UdpMetadata {
+    UdpMetadata { endpoint: endpoint_told(&from.endpoint), local_address: address_in(&from.local_address) }
+}
+
 fn sent(answer: i64) -> Result<(), SendError> {
     match answer {
         ffi::OK => Ok(()),
-        ffi::ERROR_ROOM => Err(SendError::BufferFull),
-        ffi::ERROR_ADDRESS => Err(SendError::Unaddressable),
+        _ => Err(refused(answer)),
+    }
+}
+
+/// Why nothing was sent.
+fn refused(answer: i64) -> SendError {
+    match answer {
+        ffi::ERROR_ROOM => SendError::BufferFull,
+        ffi::ERROR_ADDRESS => SendError::Unaddressable,
         _ => not_in_contract(answer),
     }
 }
@@ -353,10 +362,7 @@ fn copied(answer: i64, from: &ffi::UdpMetadata) -> Result<(usize, UdpMetadata), 
     match answer {
         ffi::ERROR_ROOM => Err(RecvError::Truncated),
         ffi::ERROR_EMPTY => Err(RecvError::Exhausted),
-        len => {
-            let (endpoint, local_address) = (endpoint_told(&from.endpoint), address_in(&from.local_address));
-            Ok((count_in(len), UdpMetadata { endpoint, local_address }))
-        }
+        len => Ok((count_in(len), meta_told(from))),
     }
 }
 

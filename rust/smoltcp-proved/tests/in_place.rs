@@ -1,4 +1,4 @@
-//! Datagrams that are written and read in a socket's room.
+//! Datagrams that are written and read where they lie, and written in a socket's room.
 mod common;
 use common::*;
 use smoltcp_proved::udp::{RecvError, SendError, UdpMetadata};
@@ -56,24 +56,32 @@ fn datagrams() {
     let [first, second] = &mut packets;
     assert_eq!(a.dispatch(&of_a, first), Ok(Some(20 + 8 + 14)));
     assert_eq!(a.dispatch(&of_a, second), Ok(Some(20 + 8)));
-    // a room that is too short: `peek` leaves the datagram, `recv` loses it, as `peek_slice` and `recv_slice`
+    // read where they lie, whatever room was lent
+    assert_eq!(b.peek(), Err(RecvError::Exhausted));
     assert_eq!(b.recv(), Err(RecvError::Exhausted));
     for packet in [&first[..42], &second[..28]] {
         assert_eq!(b.process(&of_b, packet), Ok(()));
     }
     let from = UdpMetadata { endpoint: IpEndpoint::new(A, 49152), local_address: Some(B) };
-    assert_eq!(b.peek(), Err(RecvError::Truncated));
-    assert_eq!(b.peek(), Err(RecvError::Truncated));
-    assert_eq!(b.recv(), Err(RecvError::Truncated));
+    assert_eq!(b.peek(), Ok((&b"which address?"[..], from)));
+    assert_eq!(b.recv(), Ok((&b"which address?"[..], from)));
     assert_eq!(b.peek(), Ok((&[][..], from)));
     assert_eq!(b.recv(), Ok((&[][..], from)));
     assert_eq!(b.recv(), Err(RecvError::Exhausted));
-    assert_eq!((b.process(&of_b, &first[..42]), b.recv_queue()), (Ok(()), 14));
-    let mut long = [0; 14];
-    b.lend_room(&mut long);
-    assert_eq!(b.peek(), Ok((&b"which address?"[..], from)));
-    assert_eq!(b.recv(), Ok((&b"which address?"[..], from)));
-    assert_eq!(b.recv(), Err(RecvError::Exhausted));
+    // and written where they lie, refused as by `send_slice`
+    assert_eq!(b.send(15, (A, 0)), Err(SendError::Unaddressable));
+    assert_eq!(b.send(101, (A, 49152)), Err(SendError::BufferFull));
+    for text in [&b"this address"[..], b""] {
+        let place = b.send(text.len(), (A, 49152)).expect("room");
+        assert_eq!(place.len(), text.len());
+        place.copy_from_slice(text);
+    }
+    assert_eq!(b.send(1, (A, 49152)), Err(SendError::BufferFull)); // no place is left
+    assert_eq!(b.send_queue(), 12);
+    assert_eq!(b.dispatch(&of_b, first), Ok(Some(20 + 8 + 12)));
+    assert_eq!(a.process(&of_a, &first[..40]), Ok(()));
+    let from = UdpMetadata { endpoint: IpEndpoint::new(B, 53), local_address: Some(A) };
+    assert_eq!(a.recv(), Ok((&b"this address"[..], from)));
 }
 
 /// A ping and its answer, no byte of which is written by hand.
@@ -94,6 +102,12 @@ fn messages() {
     assert_eq!(socket.send_with(request.buffer_len(), B, write), Ok(12));
     let (cx, mut packet) = (context(1, 0), [0; 100]);
     assert_eq!(socket.dispatch(&cx, &mut packet), Ok(Some(32)));
+    request.emit(socket.send(12, B).expect("room"));
+    let mut other = [0; 100];
+    assert_eq!(socket.dispatch(&cx, &mut other), Ok(Some(32)));
+    assert_eq!(other, packet);
+    assert_eq!(socket.send(12, nowhere), Err(icmp::SendError::Unaddressable));
+    assert_eq!(socket.send(101, B), Err(icmp::SendError::BufferFull));
     let (header, message) = Ipv4Repr::parse(&packet[..32]).expect("a packet of IPv4");
     assert_eq!(Icmpv4Repr::parse(message), Ok(request));
     let reply = Icmpv4Repr::EchoReply { ident: 7, seq_no: 1, data: b"ping" };
@@ -124,6 +138,10 @@ fn packets() {
     let (cx, mut packet) = (context(1, 0), [0; 100]);
     assert_eq!(socket.dispatch(&cx, &mut packet), Ok(Some(24)));
     assert_eq!(Ipv4Repr::parse(&packet[..24]), Ok((header, &b"seen"[..])));
+    assert_eq!(write(socket.send(24).expect("room")), 24);
+    assert_eq!(socket.send(101), Err(raw::SendError::BufferFull));
+    let mut other = [0; 100];
+    assert_eq!((socket.dispatch(&cx, &mut other), other), (Ok(Some(24)), packet));
     assert_eq!(socket.process(&cx, &packet[..24]), Ok(()));
     assert_eq!(socket.peek(), Ok(&packet[..24]));
     assert_eq!(socket.recv(), Ok(&packet[..24]));
@@ -147,9 +165,5 @@ fn no_room() {
     let (cx, mut packet) = (context(1, 0), [0; 100]);
     assert_eq!(a.dispatch(&cx, &mut packet), Ok(Some(32)));
     assert_eq!(a.process(&cx, &packet[..32]), Ok(()));
-    let came = catch_unwind(AssertUnwindSafe(|| a.recv().map(|(bytes, _)| bytes.to_vec())));
-    match came {
-        Ok(came) => assert_eq!((came, cfg!(feature = "alloc")), (Ok(vec![0; 4]), true)),
-        Err(_) => assert!(cfg!(not(feature = "alloc")) && a.can_recv()),
-    }
+    assert_eq!(a.recv().map(|(bytes, _)| bytes), Ok(&[0; 4][..]));
 }

@@ -3,9 +3,8 @@
 use super::{
     Application, ECHO_PORT, EXPERIMENT, NAME_PORT, PING_IDENT, PLACES, READ, note_state, port,
 };
-use crate::context::{A, B, Interface};
-use crate::host::Host;
-use crate::memory::Memory;
+use crate::context::{A, B};
+use crate::host::{FullHost, Host, Moment, SOCKETS};
 use crate::packet::icmp_bytes;
 use crate::trace::Trace;
 use smoltcp_socket::tcp::State;
@@ -43,21 +42,30 @@ const PINGS: u16 = 4;
 const PING_EVERY: u32 = 500;
 
 /// Opens the client's sockets on host a. The TCP socket connects to the echo server, and sends small segments at once.
-pub fn open<'a>(
-    host: &mut Host<'a>,
-    mut tcp: tcp::Socket<'a>,
-    memory: &'a mut Memory,
-) -> Result<(), AllocError> {
-    let mut sockets = memory.sockets(EXPERIMENT);
+pub fn open(host: &mut FullHost<'_>) {
+    let Host { interface, sockets } = host;
     let server = IpEndpoint {
         addr: IpAddress::Ipv4(B),
         port: ECHO_PORT,
     };
-    tcp.set_nagle_enabled(false);
-    let _ = tcp.connect(&mut host.interface, server, port(TCP_PORT));
-    let _ = sockets.udp.bind(port(UDP_PORT));
-    let _ = sockets.icmp.bind(icmp::Endpoint::Ident(PING_IDENT));
-    host.add(tcp, sockets)
+    for place in 0..SOCKETS {
+        let Some(handle) = sockets.handle_at(place) else {
+            continue;
+        };
+        match sockets.get_mut(handle) {
+            Some(Socket::Tcp(tcp)) => {
+                tcp.set_nagle_enabled(false);
+                let _ = tcp.connect(interface.context(), server, port(TCP_PORT));
+            }
+            Some(Socket::Udp(udp)) => {
+                let _ = udp.bind(port(UDP_PORT));
+            }
+            Some(Socket::Icmp(icmp)) => {
+                let _ = icmp.bind(icmp::Endpoint::Ident(PING_IDENT));
+            }
+            _ => {}
+        }
+    }
 }
 
 /// The client: it sends a text to the echo server, asks for host b's name, pings it, and sends it one raw packet.
@@ -83,13 +91,13 @@ impl Application for Client {
     fn use_socket(
         &mut self,
         socket: &mut Socket<'_>,
-        interface: &Interface,
+        now: Moment,
         trace: &mut Trace,
     ) -> Result<(), AllocError> {
         match socket {
-            Socket::Tcp(socket) => self.run_tcp(socket, interface, trace),
-            Socket::Udp(socket) => self.ask_name(socket, interface, trace),
-            Socket::Icmp(socket) => self.ping(socket, interface, trace),
+            Socket::Tcp(socket) => self.run_tcp(socket, now, trace),
+            Socket::Udp(socket) => self.ask_name(socket, now, trace),
+            Socket::Icmp(socket) => self.ping(socket, now, trace),
             Socket::Raw(socket) => {
                 self.send_raw(socket);
                 Ok(())
@@ -132,17 +140,17 @@ impl Client {
     fn run_tcp(
         &mut self,
         socket: &mut tcp::Socket<'_>,
-        interface: &Interface,
+        now: Moment,
         trace: &mut Trace,
     ) -> Result<(), AllocError> {
-        note_state(&mut self.state, socket, "a", interface.millis(), trace)?;
-        self.send_piece(socket, interface.millis());
-        self.read_echo(socket, interface, trace)?;
+        note_state(&mut self.state, socket, "a", now.millis, trace)?;
+        self.send_piece(socket, now.millis);
+        self.read_echo(socket, now, trace)?;
         if self.state == State::Established && self.echoed.len() == TEXT.len() {
             socket.close();
-            self.compare_echo(interface.millis(), trace)?;
+            self.compare_echo(now.millis, trace)?;
         }
-        note_state(&mut self.state, socket, "a", interface.millis(), trace)
+        note_state(&mut self.state, socket, "a", now.millis, trace)
     }
 
     fn compare_echo(&self, now: u32, trace: &mut Trace) -> Result<(), AllocError> {
@@ -163,15 +171,15 @@ impl Client {
     fn read_echo(
         &mut self,
         socket: &mut tcp::Socket<'_>,
-        interface: &Interface,
+        now: Moment,
         trace: &mut Trace,
     ) -> Result<(), AllocError> {
         let mut bytes = [0u8; READ];
         if socket.can_recv() {
             if let Ok(count) = socket.recv_slice(&mut bytes) {
                 self.echoed.extend_from_slice(&bytes[..count])?;
-                let text = String::from_utf8_lossy(interface.outbox.alloc, &bytes[..count])?;
-                writeln!(trace.at(interface.millis())?, "a: echo {text:?}")?;
+                let text = String::from_utf8_lossy(now.alloc, &bytes[..count])?;
+                writeln!(trace.at(now.millis)?, "a: echo {text:?}")?;
             }
         }
         Ok(())
@@ -181,20 +189,20 @@ impl Client {
     fn ask_name(
         &mut self,
         socket: &mut udp::Socket<'_>,
-        interface: &Interface,
+        now: Moment,
         trace: &mut Trace,
     ) -> Result<(), AllocError> {
         for _ in 0..PLACES {
-            self.read_name(socket, interface, trace)?;
+            self.read_name(socket, now, trace)?;
         }
         match self.next_question {
-            Some(at) if at <= interface.millis() => {
+            Some(at) if at <= now.millis => {
                 let server = UdpMetadata::from_endpoint(IpEndpoint {
                     addr: IpAddress::Ipv4(B),
                     port: NAME_PORT,
                 });
                 let _ = socket.send_slice(b"name?", server);
-                self.next_question = Some(interface.millis().saturating_add(ASK_EVERY));
+                self.next_question = Some(now.millis.saturating_add(ASK_EVERY));
             }
             _ => {}
         }
@@ -204,13 +212,13 @@ impl Client {
     fn read_name(
         &mut self,
         socket: &mut udp::Socket<'_>,
-        interface: &Interface,
+        now: Moment,
         trace: &mut Trace,
     ) -> Result<(), AllocError> {
         let mut bytes = [0u8; READ];
         if let Ok((count, from)) = socket.recv_slice(&mut bytes) {
-            let text = String::from_utf8_lossy(interface.outbox.alloc, &bytes[..count])?;
-            writeln!(trace.at(interface.millis())?, "a: {from} answers {text:?}")?;
+            let text = String::from_utf8_lossy(now.alloc, &bytes[..count])?;
+            writeln!(trace.at(now.millis)?, "a: {from} answers {text:?}")?;
             self.next_question = None;
         }
         Ok(())
@@ -220,21 +228,21 @@ impl Client {
     fn ping(
         &mut self,
         socket: &mut icmp::Socket<'_>,
-        interface: &Interface,
+        now: Moment,
         trace: &mut Trace,
     ) -> Result<(), AllocError> {
         for _ in 0..PLACES {
-            read_pong(socket, interface.millis(), trace)?;
+            read_pong(socket, now.millis, trace)?;
         }
-        if self.pings < PINGS && self.next_ping <= interface.millis() {
+        if self.pings < PINGS && self.next_ping <= now.millis {
             self.pings += 1;
-            self.next_ping = interface.millis().saturating_add(PING_EVERY);
+            self.next_ping = now.millis.saturating_add(PING_EVERY);
             let request = Icmpv4Repr::EchoRequest {
                 ident: PING_IDENT,
                 seq_no: self.pings,
                 body: b"ping",
             };
-            let message = icmp_bytes(interface.outbox.alloc, &request)?;
+            let message = icmp_bytes(now.alloc, &request)?;
             let _ = socket.send_slice(message.as_slice(), IpAddress::Ipv4(B));
         }
         Ok(())

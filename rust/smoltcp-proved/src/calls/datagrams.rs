@@ -1,10 +1,11 @@
 //! The calls of UDP, raw and ICMP sockets. What they ask of a caller is cited as in `calls`.
-use super::{Own, Slots};
+use super::{Own, Reach, Slots};
 use crate::ffi;
 use core::fmt;
 use core::marker::PhantomData;
 use core::mem::MaybeUninit;
-use core::ptr::NonNull;
+use core::ptr::{NonNull, null};
+use core::slice;
 
 // Memory for a socket with two queues of packets, for a place of a queue, and for a whole queue.
 macro_rules! queue_memory {
@@ -54,8 +55,8 @@ macro_rules! queue_memory {
                 (self.places.len(), self.bytes.len())
             }
 
-            /// What the library is handed of it, and what frees it: each place is made before.
-            fn taken(mut self) -> (ffi::Places, ffi::Bytes, OwnQueue<$place>) {
+            /// What the library is handed of it, where its bytes lie, and what frees it: each place is made before.
+            fn taken(mut self) -> (ffi::Places, ffi::Bytes, Reach, OwnQueue<$place>) {
                 for place in self.places.items() {
                     let at = NonNull::from(place).cast().as_ptr();
                     // SAFETY: the memory has the size and the alignment of a place, and is this queue's alone.
@@ -64,7 +65,8 @@ macro_rules! queue_memory {
                 let (places, count, own_places) = self.places.taken();
                 let (bytes, len, own_bytes) = self.bytes.taken();
                 let places = ffi::Places { at: places.cast().as_ptr(), len: count };
-                (places, ffi::Bytes { at: bytes.as_ptr(), len }, (own_places, own_bytes))
+                let reach = Reach { at: bytes, len };
+                (places, ffi::Bytes { at: bytes.as_ptr(), len }, reach, (own_places, own_bytes))
             }
         }
     };
@@ -90,6 +92,8 @@ queue_memory!(
 /// A UDP socket in memory that is borrowed for `'a`, as are its buffers, or in its own.
 pub struct Udp<'a> {
     at: NonNull<u8>,
+    rx: Reach,
+    tx: Reach,
     _own: (Own<UdpMemory>, OwnQueue<UdpPlace>, OwnQueue<UdpPlace>),
     borrowed: PhantomData<&'a mut [u8]>,
 }
@@ -104,8 +108,10 @@ impl<'a> Udp<'a> {
         assert!(super::sizes().udp_place == size_of::<UdpPlace>(), "a library with other places");
         assert!(memory.len() == 1, "memory for one socket");
         let (at, _, own) = memory.taken();
-        let ((rx_places, rx, own_rx), (tx_places, tx, own_tx)) = (rx.taken(), tx.taken());
-        let made = Udp { at: at.cast(), _own: (own, own_rx, own_tx), borrowed: PhantomData };
+        let (rx_places, rx, rx_reach, own_rx) = rx.taken();
+        let (tx_places, tx, tx_reach, own_tx) = tx.taken();
+        let (own, borrowed) = ((own, own_rx, own_tx), PhantomData);
+        let made = Udp { at: at.cast(), rx: rx_reach, tx: tx_reach, _own: own, borrowed };
         // SAFETY: C.md: buffers, bytes. The memory has the size and the alignment of `struct smoltcp_udp`, and holds no
         // socket that is used: it is this one's alone, for 'a or for good. The lengths were tested, and `taken` made
         // the places.
@@ -163,6 +169,12 @@ impl<'a> Udp<'a> {
         unsafe { ffi::smoltcp_udp_peek_nonnull(&mut self.handle(), from, data.as_mut_ptr(), data.len()) }
     }
 
+    lends_places! {
+        send(to: &ffi::UdpMetadata) => smoltcp_udp_send_place_nonnull;
+        recv_place(from: &mut ffi::UdpMetadata) => smoltcp_udp_recv_place_nonnull;
+        peek_place(from: &mut ffi::UdpMetadata) => smoltcp_udp_peek_place_nonnull;
+    }
+
     pub fn accepts(&self, cx: &ffi::Context, packet: &[u8]) -> i64 {
         // SAFETY: C.md: socket, one call, buffers, bytes.
         unsafe { ffi::smoltcp_udp_accepts_nonnull(&mut self.handle(), cx, packet.as_ptr(), packet.len()) }
@@ -187,6 +199,8 @@ impl<'a> Udp<'a> {
 /// A raw socket in memory that is borrowed for `'a`, as are its buffers, or in its own.
 pub struct Raw<'a> {
     at: NonNull<u8>,
+    rx: Reach,
+    tx: Reach,
     _own: (Own<RawMemory>, OwnQueue<RawPlace>, OwnQueue<RawPlace>),
     borrowed: PhantomData<&'a mut [u8]>,
 }
@@ -206,8 +220,10 @@ impl<'a> Raw<'a> {
         assert!(super::sizes().raw_place == size_of::<RawPlace>(), "a library with other places");
         assert!(memory.len() == 1, "memory for one socket");
         let (at, _, own) = memory.taken();
-        let ((rx_places, rx, own_rx), (tx_places, tx, own_tx)) = (rx.taken(), tx.taken());
-        let made = Raw { at: at.cast(), _own: (own, own_rx, own_tx), borrowed: PhantomData };
+        let (rx_places, rx, rx_reach, own_rx) = rx.taken();
+        let (tx_places, tx, tx_reach, own_tx) = tx.taken();
+        let (own, borrowed) = ((own, own_rx, own_tx), PhantomData);
+        let made = Raw { at: at.cast(), rx: rx_reach, tx: tx_reach, _own: own, borrowed };
         // SAFETY: C.md: buffers, bytes. The memory has the size and the alignment of `struct smoltcp_raw`, and holds no
         // socket that is used: it is this one's alone, for 'a or for good. The lengths were tested, and `taken` made
         // the places.
@@ -251,6 +267,12 @@ impl<'a> Raw<'a> {
         unsafe { ffi::smoltcp_raw_peek_nonnull(&mut self.handle(), data.as_mut_ptr(), data.len()) }
     }
 
+    lends_places! {
+        send() => smoltcp_raw_send_place_nonnull;
+        recv_place() => smoltcp_raw_recv_place_nonnull;
+        peek_place() => smoltcp_raw_peek_place_nonnull;
+    }
+
     pub fn accepts(&self, packet: &[u8]) -> i64 {
         // SAFETY: C.md: socket, one call, buffers, bytes.
         unsafe { ffi::smoltcp_raw_accepts_nonnull(&mut self.handle(), packet.as_ptr(), packet.len()) }
@@ -275,6 +297,8 @@ impl<'a> Raw<'a> {
 /// An ICMP socket in memory that is borrowed for `'a`, as are its buffers, or in its own.
 pub struct Icmp<'a> {
     at: NonNull<u8>,
+    rx: Reach,
+    tx: Reach,
     _own: (Own<IcmpMemory>, OwnQueue<IcmpPlace>, OwnQueue<IcmpPlace>),
     borrowed: PhantomData<&'a mut [u8]>,
 }
@@ -289,8 +313,10 @@ impl<'a> Icmp<'a> {
         assert!(super::sizes().icmp_place == size_of::<IcmpPlace>(), "a library with other places");
         assert!(memory.len() == 1, "memory for one socket");
         let (at, _, own) = memory.taken();
-        let ((rx_places, rx, own_rx), (tx_places, tx, own_tx)) = (rx.taken(), tx.taken());
-        let made = Icmp { at: at.cast(), _own: (own, own_rx, own_tx), borrowed: PhantomData };
+        let (rx_places, rx, rx_reach, own_rx) = rx.taken();
+        let (tx_places, tx, tx_reach, own_tx) = tx.taken();
+        let (own, borrowed) = ((own, own_rx, own_tx), PhantomData);
+        let made = Icmp { at: at.cast(), rx: rx_reach, tx: tx_reach, _own: own, borrowed };
         // SAFETY: C.md: buffers, bytes. The memory has the size and the alignment of `struct smoltcp_icmp`, and holds
         // no socket that is used: it is this one's alone, for 'a or for good. The lengths were tested, and `taken` made
         // the places.
@@ -333,6 +359,11 @@ impl<'a> Icmp<'a> {
     pub fn recv(&mut self, from: &mut ffi::Address, data: &mut [u8]) -> i64 {
         // SAFETY: C.md: socket, one call, buffers, bytes.
         unsafe { ffi::smoltcp_icmp_recv_nonnull(&mut self.handle(), from, data.as_mut_ptr(), data.len()) }
+    }
+
+    lends_places! {
+        send(to: &ffi::Address) => smoltcp_icmp_send_place_nonnull;
+        recv_place(from: &mut ffi::Address) => smoltcp_icmp_recv_place_nonnull;
     }
 
     pub fn accepts(&self, cx: &ffi::Context, packet: &[u8]) -> i64 {

@@ -1,0 +1,15 @@
+//! Which sockets of a set may have changed.
+ghost use Rattle.std.specs.Prelude.{length};
+ghost use Rattle.host_bounds.specs.Bounding.{FindsReached, at_once};
+
+use crate::filed::{Filed, Keyed};
+
+impl<T: Keyed> Filed<T> {
+    /// The first place from one on whose socket took a TCP segment or was lent since `emit` last asked it; none behind
+    /// the last of them. So between `receive` and `emit` a program need not look at each of its connections.
+    pub fn touched(&self, from: usize) -> Option<usize>
+        ensures { FindsReached self.now.bounds from (length self.now.bounds) at_once result }
+    {
+        self.bounds.next(from, self.bounds.len(), i64::MIN)
+    }
+}

@@ -1,0 +1,345 @@
+//! The same conversations, on the hosts of `net_host`: only the sockets that may have changed are looked at.
+ghost use Rattle.std.specs.Prelude.{◌≤◌, length};
+
+use crate::clock::Clock;
+use crate::conversation::{Role, SERVICE, Talk};
+use crate::digest::Digest;
+use crate::random::Random;
+use crate::station::service;
+use crate::talks::{BUFFER, CLIENT, FAULTS, MOMENTS, PIECE, SERVER, SIZES, Work, answer_len};
+use crate::wire::{Fate, Wire, flip};
+use host_context::Seeded;
+use net_host::{Interface, IpCidr, SocketHandle, SocketSet};
+use smoltcp_socket::Socket;
+use smoltcp_socket::storage::RingBuffer;
+use smoltcp_socket::tcp::{self, State};
+use smoltcp_socket::time::Instant;
+use smoltcp_socket::wire::{IpAddress, IpEndpoint, IpListenEndpoint, Ipv4Address};
+use std::alloc::{AllocError, Global};
+use std::mem;
+
+// The longest packet.
+const PACKET: usize = 1500;
+
+// At most so many packets of a host go out at one moment.
+const PACKETS: u32 = 100_000;
+
+// Every so many moments each socket is looked at, as a timer may have closed it.
+const ROUND: u32 = 100;
+
+// A host. The set is a type parameter, as the check does not yet state a struct that has one in a field.
+#[derive(Drop)]
+struct Host<S> {
+    alloc: Global,
+    interface: Interface<Seeded>,
+    sockets: S,
+    handles: Vec<SocketHandle>,
+    talks: Vec<Talk>,
+    // answers that wait for the host's next turn
+    replies: Vec<Vec<u8>>,
+    // clients that have no conversation
+    idle: Vec<usize>,
+}
+
+type Station<'a> = Host<SocketSet<'a, Clock>>;
+
+/// Runs the conversations of hosts of several sizes.
+pub fn hosted(
+    alloc: Global,
+    share: u32,
+    source: &[u8],
+    random: &mut Random,
+    digest: &mut Digest,
+) -> Result<(), AllocError> {
+    for [sockets, sleepers, conversations] in SIZES {
+        let left = conversations.min(1_000_000) * share.min(1000) as usize / 1000;
+        let count = sockets.min(1000);
+        let mut bytes_a = vec![in alloc; 0u8; count * 2 * BUFFER]?;
+        let mut bytes_b = vec![in alloc; 0u8; count * 2 * BUFFER]?;
+        let mut client = station(alloc, CLIENT, count, random.word())?;
+        let mut server = station(alloc, SERVER, count, random.word())?;
+        client.fill(bytes_a.as_mut_slice(), sleepers, Role::Client)?;
+        server.fill(bytes_b.as_mut_slice(), 0, Role::Server)?;
+        let hosts = (&mut client, &mut server);
+        run(alloc, Work::new(left), hosts, source, random, digest)?;
+        client.add_to(digest);
+        server.add_to(digest);
+    }
+    Ok(())
+}
+
+fn station<'a>(
+    alloc: Global,
+    address: Ipv4Address,
+    count: usize,
+    seed: u32,
+) -> Result<Station<'a>, AllocError> {
+    let mut addresses = Vec::new(alloc);
+    addresses.push(IpCidr {
+        address: IpAddress::Ipv4(address),
+        prefix_len: 24,
+    })?;
+    let state = u64::from(seed);
+    Ok(Host {
+        alloc,
+        interface: Interface::new(addresses, Seeded { state }),
+        sockets: SocketSet::new(alloc, count)?,
+        handles: Vec::new(alloc),
+        talks: Vec::new(alloc),
+        replies: Vec::new(alloc),
+        idle: Vec::with_capacity(alloc, count)?,
+    })
+}
+
+// Moment after moment, until all conversations were had.
+fn run(
+    alloc: Global,
+    mut work: Work,
+    hosts: (&mut Station<'_>, &mut Station<'_>),
+    source: &[u8],
+    random: &mut Random,
+    digest: &mut Digest,
+) -> Result<(), AllocError> {
+    let (client, server) = hosts;
+    let mut there = Wire::new(alloc, FAULTS);
+    let mut back = Wire::new(alloc, FAULTS);
+    let mut scratch = vec![in alloc; 0u8; PIECE]?;
+    client.wake_sleepers(&mut work);
+    for millis in 0..MOMENTS {
+        let now = Instant::from_millis(i64::from(millis));
+        if millis % ROUND == 0 {
+            server.look_at_each(digest)?;
+            client.look_at_each(digest)?;
+        }
+        if !client.begin(&mut work, random, millis) {
+            break;
+        }
+        client.serve(scratch.as_mut_slice(), source, random, digest)?;
+        client.pass(server, now, &mut there, random)?;
+        server.serve(scratch.as_mut_slice(), source, random, digest)?;
+        server.pass(client, now, &mut back, random)?;
+    }
+    Ok(())
+}
+
+impl<'a> Host<SocketSet<'a, Clock>> {
+    fn fill(&mut self, bytes: &'a mut [u8], sleepers: usize, role: Role) -> Result<(), AllocError> {
+        let mut buffers = bytes.chunks_exact_mut(BUFFER);
+        for made in 0..1000usize {
+            let (Some(rx), Some(tx)) = (buffers.next(), buffers.next()) else {
+                break;
+            };
+            self.add(rx, tx, if made < sleepers { Role::Sleeper } else { role })?;
+        }
+        Ok(())
+    }
+
+    fn add(&mut self, rx: &'a mut [u8], tx: &'a mut [u8], role: Role) -> Result<(), AllocError> {
+        // a socket wants to know that its buffers are no longer
+        if rx.len() > BUFFER || tx.len() > BUFFER {
+            return Ok(());
+        }
+        let socket = tcp::Socket::closed(RingBuffer::new(rx), RingBuffer::new(tx), None);
+        let Ok(handle) = self.sockets.add(Socket::Tcp(socket)) else {
+            return Err(AllocError);
+        };
+        self.handles.push(handle)?;
+        self.talks.push(Talk::new(role))?;
+        Ok(())
+    }
+}
+
+impl Host<SocketSet<'_, Clock>> {
+    // A socket that was closed listens, or is idle. The application of one that may have changed reads and writes.
+    fn serve(
+        &mut self,
+        scratch: &mut [u8],
+        source: &[u8],
+        random: &mut Random,
+        digest: &mut Digest,
+    ) -> Result<(), AllocError> {
+        let mut from = 0usize;
+        for _ in 0..=self.talks.len() {
+            let Some(place) = self.sockets.touched(from) else {
+                break;
+            };
+            from = place.saturating_add(1);
+            let (Some(talk), Some(handle)) = (self.talks.get_mut(place), self.handles.get(place))
+            else {
+                continue;
+            };
+            if let Some(socket) = self.sockets.tcp_mut(*handle) {
+                talk.serve(socket, scratch, source, random, digest);
+            }
+            self.look_at(place, digest)?;
+        }
+        Ok(())
+    }
+
+    fn look_at_each(&mut self, digest: &mut Digest) -> Result<(), AllocError> {
+        self.idle.clear();
+        for place in 0..self.talks.len() {
+            self.look_at(place, digest)?;
+        }
+        Ok(())
+    }
+
+    fn state(&self, place: usize) -> Option<State> {
+        match self.sockets.get(*self.handles.get(place)?)? {
+            Socket::Tcp(socket) => Some(socket.state()),
+            _ => None,
+        }
+    }
+
+    fn look_at(&mut self, place: usize, digest: &mut Digest) -> Result<(), AllocError> {
+        if self.state(place) != Some(State::Closed) {
+            return Ok(());
+        }
+        let (Some(talk), Some(handle)) = (self.talks.get_mut(place), self.handles.get(place)) else {
+            return Ok(());
+        };
+        match talk.role {
+            Role::Server => {
+                talk.begin(0, 0);
+                if let Some(socket) = self.sockets.tcp_mut(*handle) {
+                    let _ = socket.listen(service());
+                }
+            }
+            Role::Client => {
+                talk.add_to(digest);
+                self.idle.push(place)?;
+            }
+            Role::Sleeper => {}
+        }
+        Ok(())
+    }
+
+    // Begins a conversation on each client that has none; whether there are still conversations.
+    fn begin(&mut self, work: &mut Work, random: &mut Random, millis: u32) -> bool {
+        for _ in 0..work.left {
+            let Some(place) = self.idle.pop() else {
+                break;
+            };
+            work.left = work.left.saturating_sub(1);
+            let answer = answer_len(random);
+            if let Some(talk) = self.talks.get_mut(place) {
+                talk.begin(20 + random.below(480) as usize, answer);
+            }
+            self.connect(place, work, random.happens(20));
+        }
+        work.left > 0 || millis % ROUND != 0 || self.is_busy()
+    }
+
+    fn is_busy(&self) -> bool {
+        let mut busy = false;
+        for (place, talk) in self.talks.iter().enumerate() {
+            busy = busy || (talk.role == Role::Client && self.state(place) != Some(State::Closed));
+        }
+        busy
+    }
+
+    fn wake_sleepers(&mut self, work: &mut Work) {
+        for place in 0..self.talks.len() {
+            let sleeps = match self.talks.get(place) {
+                Some(talk) => talk.role == Role::Sleeper,
+                None => false,
+            };
+            if sleeps {
+                self.connect(place, work, false);
+            }
+        }
+    }
+
+    // Connects from the next port to the service, or to a port where nobody is.
+    fn connect(&mut self, place: usize, work: &mut Work, wrong: bool) {
+        let remote = IpEndpoint {
+            addr: IpAddress::Ipv4(SERVER),
+            port: if wrong { SERVICE + 1 } else { SERVICE },
+        };
+        let local = IpListenEndpoint {
+            addr: None,
+            port: work.next_port(),
+        };
+        let Some(handle) = self.handles.get(place) else {
+            return;
+        };
+        if let Some(socket) = self.sockets.tcp_mut(*handle) {
+            let _ = socket.connect(self.interface.context(), remote, local);
+        }
+    }
+
+    fn add_to(&self, digest: &mut Digest) {
+        for (place, talk) in self.talks.iter().enumerate() {
+            talk.add_to(digest);
+            if let Some(state) = self.state(place) {
+                digest.bytes(state.name().as_bytes());
+            }
+        }
+    }
+}
+
+// The way of packets.
+impl Host<SocketSet<'_, Clock>> {
+    // Lets what the host says arrive at the other.
+    fn pass(
+        &mut self,
+        to: &mut Station<'_>,
+        now: Instant,
+        wire: &mut Wire,
+        random: &mut Random,
+    ) -> Result<(), AllocError> {
+        let held = wire.held();
+        let empty = Vec::new(self.alloc);
+        for packet in mem::replace(&mut self.replies, empty) {
+            to.arrive(packet, now, wire, random)?;
+        }
+        for _ in 0..PACKETS {
+            let mut packet = [0u8; PACKET];
+            let count = self
+                .interface
+                .emit(&mut self.sockets, now, &mut packet)
+                .unwrap_or(0)
+                .min(PACKET);
+            if count == 0 {
+                break;
+            }
+            let packet = Vec::from_slice(self.alloc, &packet[..count])?;
+            to.arrive(packet, now, wire, random)?;
+        }
+        for packet in held {
+            to.receive(packet.as_slice(), now)?;
+        }
+        Ok(())
+    }
+
+    fn arrive(
+        &mut self,
+        mut packet: Vec<u8>,
+        now: Instant,
+        wire: &mut Wire,
+        random: &mut Random,
+    ) -> Result<(), AllocError> {
+        match wire.fate(random) {
+            Fate::Lost => return Ok(()),
+            Fate::Late => return wire.hold(packet),
+            Fate::Twice => self.receive(packet.as_slice(), now)?,
+            Fate::Flipped => flip(&mut packet, random),
+            Fate::Arrives => {}
+        }
+        self.receive(packet.as_slice(), now)
+    }
+
+    fn receive(&mut self, packet: &[u8], now: Instant) -> Result<(), AllocError> {
+        let mut reply = [0u8; PACKET];
+        let count = self
+            .interface
+            .receive(&mut self.sockets, now, packet, &mut reply)
+            .unwrap_or(0)
+            .min(PACKET);
+        if count > 0 {
+            self.replies
+                .push(Vec::from_slice(self.alloc, &reply[..count])?)?;
+        }
+        Ok(())
+    }
+}
