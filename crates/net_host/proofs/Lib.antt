@@ -22,3 +22,4 @@ pub mod Each
 pub mod Firsts
 pub mod KeptKeys
 pub mod KeptSleep
+pub mod CookieAnswers

@@ -1,5 +1,6 @@
 pub mod Addresses
 pub mod Arrivals
+pub mod Cookies
 pub mod Counts
 pub mod Datagrams
 pub mod Emissions

@@ -1,5 +1,6 @@
 //! An interface: what arrives goes to the sockets that it is for, and what they have to say goes out.
-ghost use Rattle.std.specs.Prelude.{◌≡◌, ◌↔◌, ◌<◌, ◌≤◌, IsTrue, IfOk, Ok, is_err, length, max, min, pos, false};
+ghost use Rattle.std.specs.Prelude.{◌≡◌, ◌↔◌, ◌<◌, ◌≤◌, IsTrue, IfOk, Ok, None, is_err, length, max, min, pos};
+ghost use Rattle.std.specs.Prelude.{false};
 ghost use Rattle.sock_tcp.specs.Polls.{is_reached};
 ghost use Rattle.sock_tcp.specs.View.{moment_of};
 ghost use Rattle.net_host.specs.Facts.{facts_by};
@@ -24,6 +25,7 @@ use crate::speak::speak;
 use crate::terms::Terms;
 use crate::wire::TooShort;
 use host_context::Words;
+use host_cookies::SynCookies;
 use smoltcp_socket::PollAt;
 use smoltcp_socket::time::Instant;
 use smoltcp_socket::wire::{ChecksumCapabilities, IpAddress};
@@ -42,6 +44,8 @@ pub struct Interface<W> {
     pub(crate) errors: Limit,
     pub(crate) counters: Counters,
     pub(crate) guards: GuardSettings,
+    // where SYNs may be answered without a socket
+    pub(crate) cookies: Option<SynCookies>,
 }
 
 impl<W: Words> Interface<W> {
@@ -53,7 +57,9 @@ impl<W: Words> Interface<W> {
     /// socket that accepts it takes a copy. Then a broadcast that carries no UDP datagram is dropped, and another
     /// protocol than TCP, UDP and ICMP, of which the sender is told over IPv4 (RFC 1122, section 3.2.2.1). A segment
     /// goes to the first connection that accepts it, in the order of handles, else to the first socket that listens and
-    /// accepts it. One for no socket is answered by an RST (RFC 9293, section 3.10.7.1), unless it is one, at most
+    /// accepts it. With SYN cookies (RFC 4987, section 3.6) a SYN for which only a socket that is kept listens is
+    /// answered, and no socket takes it; the acknowledgement of that answer, within 64 seconds, takes a socket, which
+    /// hears the SYN as it was told again, and then the acknowledgement. One for no socket is answered by an RST (RFC 9293, section 3.10.7.1), unless it is one, at most
     /// `ANSWERS_A_SECOND` times a second. A datagram goes to the first UDP socket that accepts it; of one that none
     /// does the sender is told by an ICMP error (RFC 1122, section 4.1.3.1; RFC 4443, section 3.1). Errors go out for
     /// packets to an own address that no raw socket takes, at most `ANSWERS_A_SECOND` times a second, and fit the MTU.
@@ -179,6 +185,7 @@ impl<W> Interface<W> {
         ensures checksums { result.inner.environment.checksums ≡ all_checksums Both }
         ensures words { result.inner.words ≡ words }
         ensures guards { result.guards ≡ usual }
+        ensures cookies { result.cookies ≡ None }
     {
         Interface {
             inner: InterfaceInner {
@@ -190,6 +197,7 @@ impl<W> Interface<W> {
             errors: Limit::new(),
             counters: Counters::default(),
             guards: GuardSettings::new(),
+            cookies: None,
         }
     }
 
@@ -213,9 +221,19 @@ impl<W> Interface<W> {
         ensures guards { self.new.guards ≡ guards }
         ensures same { (self.new.inner ≡ self.old.inner) × (self.new.turn ≡ self.old.turn)
             × (self.new.resets ≡ self.old.resets) × (self.new.errors ≡ self.old.errors)
-            × (self.new.counters ≡ self.old.counters) }
+            × (self.new.counters ≡ self.old.counters) × (self.new.cookies ≡ self.old.cookies) }
     {
         self.guards = guards;
+    }
+
+    /// Sets whether SYNs may be answered without a socket, and how: from the next packet on. A new interface does not.
+    pub fn set_syn_cookies(&mut self, cookies: Option<SynCookies>)
+        ensures cookies { self.new.cookies ≡ cookies }
+        ensures same { (self.new.inner ≡ self.old.inner) × (self.new.turn ≡ self.old.turn)
+            × (self.new.resets ≡ self.old.resets) × (self.new.errors ≡ self.old.errors)
+            × (self.new.counters ≡ self.old.counters) × (self.new.guards ≡ self.old.guards) }
+    {
+        self.cookies = cookies;
     }
 
     /// Sets the largest IP packet, in bytes: 68 to 65535, and the nearest of these for any other. Over IPv6 less than
@@ -227,7 +245,8 @@ impl<W> Interface<W> {
             × (self.new.inner.environment.checksums ≡ self.old.inner.environment.checksums)
             × (self.new.inner.words ≡ self.old.inner.words) × (self.new.turn ≡ self.old.turn)
             × (self.new.resets ≡ self.old.resets) × (self.new.errors ≡ self.old.errors)
-            × (self.new.counters ≡ self.old.counters) × (self.new.guards ≡ self.old.guards) }
+            × (self.new.counters ≡ self.old.counters) × (self.new.guards ≡ self.old.guards)
+            × (self.new.cookies ≡ self.old.cookies) }
     {
         self.inner.environment.set_mtu(mtu);
     }
@@ -240,7 +259,8 @@ impl<W> Interface<W> {
             × (self.new.inner.environment.mtu ≡ self.old.inner.environment.mtu)
             × (self.new.inner.words ≡ self.old.inner.words) × (self.new.turn ≡ self.old.turn)
             × (self.new.resets ≡ self.old.resets) × (self.new.errors ≡ self.old.errors)
-            × (self.new.counters ≡ self.old.counters) × (self.new.guards ≡ self.old.guards) }
+            × (self.new.counters ≡ self.old.counters) × (self.new.guards ≡ self.old.guards)
+            × (self.new.cookies ≡ self.old.cookies) }
     {
         self.inner.environment.checksums = checksums;
     }

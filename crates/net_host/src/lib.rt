@@ -3,6 +3,7 @@
 
 pub mod arrival;
 pub mod cidr;
+pub mod cookies;
 pub mod copies;
 pub mod counters;
 pub mod datagrams;
@@ -12,6 +13,7 @@ pub mod filed;
 pub mod filing;
 pub mod find;
 pub mod guard;
+pub mod hearing;
 pub mod index;
 pub mod inner;
 pub mod interface;
@@ -41,6 +43,7 @@ pub mod wire;
 
 pub use cidr::IpCidr;
 pub use guard::GuardSettings;
+pub use host_cookies::SynCookies;
 pub use interface::Interface;
 pub use secret::Secret;
 pub use set::SocketSet;

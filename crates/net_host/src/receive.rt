@@ -6,17 +6,19 @@ ghost use Rattle.net_host.specs.Counts.{counted};
 ghost use Rattle.net_host.specs.Receiving.{ByAddresses, ByKind, IfShort, TakesDatagramOf, TakesOther, TakesPacket};
 ghost use Rattle.net_host.specs.Receiving.{TellsIf};
 ghost use Rattle.net_host.specs.Receiving.{TakesCarried, TakesIcmp, TakesMail, TakesSegment, TakesTcp, TakesUdp};
-ghost use Rattle.net_host.specs.Receiving.{counted_for, counted_if, datagram_in};
+ghost use Rattle.net_host.specs.Receiving.{counted_again, counted_for, counted_if, counted_on, datagram_in};
 ghost use Rattle.net_host.specs.Messages.{mail_of};
 ghost use Rattle.net_host.specs.Arrivals.{refusal};
 ghost use Rattle.net_host.specs.Facts.{facts_by};
 
 use crate::arrival::{Kind, kind_in, refusal};
+use crate::cookies::Course;
 use crate::copies::{copy_mail, copy_packet, hear_datagram_of};
 use crate::counters::{Counters, Reason};
+use crate::hearing::{Heard, hear_segment};
 use crate::interface::Interface;
 use crate::messages::{Mail, echoed, mail_in, put_answer};
-use crate::segments::{Taker, hear_segment};
+use crate::segments::Taker;
 use crate::set::SocketSet;
 use crate::unreachable::{Unmet, tell_sender};
 use host_context::Words;
@@ -293,8 +295,16 @@ impl<W: Words> Interface<W> {
             self.old
             sockets.old.slots.items out.old result self.new sockets.new.slots.items out.new }
     {
-        let (taker, len) = hear_segment(sockets, &mut self.inner, &mut self.resets, ip, repr, out);
-        count_taker(&mut self.counters, taker);
+        let (heard, len) = hear_segment(
+            sockets,
+            &mut self.inner,
+            &mut self.resets,
+            &self.cookies,
+            ip,
+            repr,
+            out,
+        );
+        count_heard(&mut self.counters, &heard);
         len
     }
 }
@@ -306,6 +316,29 @@ fn count_taker(counters: &mut Counters, taker: Taker)
         Taker::Busy => counters.count(Reason::Busy),
         Taker::Nobody => counters.count(Reason::Nobody),
         _ => {}
+    }
+}
+
+fn count_again(counters: &mut Counters, again: Taker)
+    ensures { counters.new ≡ counted_again again counters.old }
+{
+    match again {
+        Taker::Listener(_) | Taker::Reused(_) => counters.count_taken(),
+        _ => counters.count(Reason::Busy),
+    }
+}
+
+fn count_heard(counters: &mut Counters, heard: &Heard)
+    ensures { counters.new ≡ counted_on heard.now.course heard.now.taker heard.now.again counters.old }
+{
+    match heard.course {
+        Course::Plain => count_taker(counters, heard.taker),
+        Course::Doubted => {
+            count_taker(counters, heard.taker);
+            counters.count_wrong();
+        }
+        Course::Answered(..) => counters.count_sent(),
+        Course::Believed(..) => count_again(counters, heard.again),
     }
 }
 
