@@ -1,6 +1,6 @@
 -- SYN cookies: who is answered without a socket, and whose answer is believed (RFC 4987, section 3.6).
 use Rattle.std.specs.Prelude.{ℕ, ℤ, ◌≡◌, ◌-◌, ◌⊎◌, min, nat_le, List, Option, Some, None, IfSome, option_map, slice_get}
-use Rattle.std.specs.Prelude.{Bool, true, false, ◌&&◌, if◌then◌else◌}
+use Rattle.std.specs.Prelude.{Bool, true, false, ◌&&◌}
 use Rattle.ip_wire.specs.IpHeader.{dst_addr_of, src_addr_of}
 use Rattle.ip_wire.specs.declared.repr.IpRepr.{IpRepr}
 use Rattle.control_wire.specs.Segment.{Segment, bare_segment}

@@ -23,6 +23,7 @@ pub record MovesTo {W : Type 0} (at : Instant) (i j : Interface W) : Type 0 wher
   pub counters : j.counters ≡ i.counters
   pub guards : j.guards ≡ i.guards
   pub cookies : j.cookies ≡ i.cookies
+  pub groups : j.groups ≡ i.groups
 
 module _ {W G : Type 0} (is : IpAddress → IpAddress → Bool) where
   -- it is at the moment, and takes the packet
@@ -45,3 +46,4 @@ module _ {W G : Type 0} (is : IpAddress → IpAddress → Bool) where
     pub counters : j.counters ≡ i.counters
     pub guards : j.guards ≡ i.guards
     pub cookies : j.cookies ≡ i.cookies
+    pub groups : j.groups ≡ i.groups

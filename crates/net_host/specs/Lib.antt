@@ -15,6 +15,7 @@ pub mod Limits
 pub mod Looking
 pub mod Messages
 pub mod Moments
+pub mod Passing
 pub mod RawCopies
 pub mod Receiving
 pub mod Resting

@@ -7,6 +7,7 @@ use Rattle.ip_wire.specs.declared.address.IpAddress.{IpAddress}
 use Rattle.ip_wire.specs.declared.checksum.ChecksumCapabilities.{ChecksumCapabilities}
 use Rattle.ip_wire.specs.declared.repr.IpRepr.{IpRepr}
 use Rattle.control_wire.specs.Segment.{Segment}
+use Rattle.host_groups.specs.Joining.{has_group}
 use Rattle.segment_wire.specs.Packet.{Carried, carried}
 use Rattle.segment_wire.specs.Tcp.{tcp_parsed}
 use Rattle.sock_core.specs.Facts.{Facts}
@@ -17,6 +18,7 @@ use Rattle.net_host.specs.Counts.{counted, sent, taken, wrong}
 use Rattle.net_host.specs.Datagrams.{HeardBy, TakesDatagram}
 use Rattle.net_host.specs.Facts.{facts_by}
 use Rattle.net_host.specs.Messages.{AnyMail, Copies, answer_len, echoed, if_short, mail_in, with_answer}
+use Rattle.net_host.specs.Passing.{passed}
 use Rattle.net_host.specs.RawCopies.{CopiesPacket}
 use Rattle.net_host.specs.Segments.{IsTaker}
 use Rattle.net_host.specs.Unreachable.{TellsOf}
@@ -93,6 +95,7 @@ module _ {W G : Type 0} (is : IpAddress → IpAddress → Bool) (word_at : W →
     pub errors : j.errors ≡ i.errors
     pub guards : j.guards ≡ i.guards
     pub cookies : j.cookies ≡ i.cookies
+    pub groups : j.groups ≡ i.groups
 
   -- no segment has a payload of more than 65535 octets
   abbrev pub IfShort : Bool → IpRepr → Segment → Interface W → List (Slot G) → List ℕ → ℕ → Interface W → List (Slot G)
@@ -186,12 +189,19 @@ module _ {W G : Type 0} (is : IpAddress → IpAddress → Bool) (word_at : W →
   ByAddresses (Some why) ip octets i ss out n j ts out' = Drops why i ss out n j ts out'
   ByAddresses None ip octets i ss out n j ts out' = TakesCarried ip octets i ss out n j ts out'
 
+  -- behind its extension headers
+  abbrev pub ByPassed : Option Carried → Interface W → List (Slot G) → List ℕ → ℕ → Interface W → List (Slot G)
+      → List ℕ → Type 0
+  ByPassed None i ss out n j ts out' = Drops reason.Malformed i ss out n j ts out'
+  ByPassed (Some c) i ss out n j ts out' =
+      ByAddresses (refusal (facts_of i.inner) (has_group is i.groups (dst_addr_of c.ip)) c.ip) c.ip c.octets i ss out n
+      j ts out'
+
   -- with a header and what stands behind it, if it has them
   abbrev pub ByHeader : Option Carried → Interface W → List (Slot G) → List ℕ → ℕ → Interface W → List (Slot G)
       → List ℕ → Type 0
   ByHeader None i ss out n j ts out' = Drops reason.Malformed i ss out n j ts out'
-  ByHeader (Some c) i ss out n j ts out' =
-      ByAddresses (refusal (facts_of i.inner) c.ip) c.ip c.octets i ss out n j ts out'
+  ByHeader (Some c) i ss out n j ts out' = ByPassed (passed c.ip c.octets) i ss out n j ts out'
 
   abbrev pub TakesPacket : List ℕ → Interface W → List (Slot G) → List ℕ → ℕ → Interface W → List (Slot G) → List ℕ
       → Type 0

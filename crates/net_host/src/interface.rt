@@ -3,6 +3,7 @@ ghost use Rattle.std.specs.Prelude.{◌≡◌, ◌↔◌, ◌<◌, ◌≤◌, Is
 ghost use Rattle.std.specs.Prelude.{false};
 ghost use Rattle.sock_tcp.specs.Polls.{is_reached};
 ghost use Rattle.sock_tcp.specs.View.{moment_of};
+ghost use Rattle.host_groups.specs.Joining.{has_group, join_answer, joined, leave_answer, left, no_groups};
 ghost use Rattle.net_host.specs.Facts.{facts_by};
 ghost use Rattle.net_host.specs.Guards.{usual};
 ghost use Rattle.net_host.specs.HostCalls.{EmitsAt, MovesTo, ReceivesAt};
@@ -26,6 +27,7 @@ use crate::terms::Terms;
 use crate::wire::TooShort;
 use host_context::Words;
 use host_cookies::SynCookies;
+use host_groups::{Groups, MulticastError};
 use smoltcp_socket::PollAt;
 use smoltcp_socket::time::Instant;
 use smoltcp_socket::wire::{ChecksumCapabilities, IpAddress};
@@ -46,15 +48,18 @@ pub struct Interface<W> {
     pub(crate) guards: GuardSettings,
     // where SYNs may be answered without a socket
     pub(crate) cookies: Option<SynCookies>,
+    pub(crate) groups: Groups,
 }
 
 impl<W: Words> Interface<W> {
     /// Takes an IP packet that arrives at this moment, and answers how long the packet is that answers it, at the
     /// beginning of `reply`; 0 where none does.
     ///
-    /// The first row that fits: a packet that is malformed, or has a source that no single other host has, or another
-    /// destination than an address of the interface or a broadcast, is dropped and counted. Of any other each raw
-    /// socket that accepts it takes a copy. Then a broadcast that carries no UDP datagram is dropped, and another
+    /// The first row that fits: a packet that is malformed or a fragment, or has a source that no single other host has,
+    /// or another destination than an address of the interface, a broadcast or a group that was joined, is dropped and
+    /// counted. Hop-by-hop, destination and routing headers of IPv6 are passed over, four at most (RFC 8200, section 4);
+    /// of a routing header with segments left the packet is dropped. Of any other packet each raw socket that accepts
+    /// it takes a copy. Then what goes to a broadcast or a group and carries no UDP datagram is dropped, and another
     /// protocol than TCP, UDP and ICMP, of which the sender is told over IPv4 (RFC 1122, section 3.2.2.1). A segment
     /// goes to the first connection that accepts it, in the order of handles, else to the first socket that listens and
     /// accepts it. With SYN cookies (RFC 4987, section 3.6) a SYN for which only a socket that is kept listens is
@@ -186,6 +191,7 @@ impl<W> Interface<W> {
         ensures words { result.inner.words ≡ words }
         ensures guards { result.guards ≡ usual }
         ensures cookies { result.cookies ≡ None }
+        ensures groups { result.groups ≡ no_groups }
     {
         Interface {
             inner: InterfaceInner {
@@ -198,6 +204,7 @@ impl<W> Interface<W> {
             counters: Counters::default(),
             guards: GuardSettings::new(),
             cookies: None,
+            groups: Groups::none(),
         }
     }
 
@@ -221,7 +228,8 @@ impl<W> Interface<W> {
         ensures guards { self.new.guards ≡ guards }
         ensures same { (self.new.inner ≡ self.old.inner) × (self.new.turn ≡ self.old.turn)
             × (self.new.resets ≡ self.old.resets) × (self.new.errors ≡ self.old.errors)
-            × (self.new.counters ≡ self.old.counters) × (self.new.cookies ≡ self.old.cookies) }
+            × (self.new.counters ≡ self.old.counters) × (self.new.cookies ≡ self.old.cookies)
+            × (self.new.groups ≡ self.old.groups) }
     {
         self.guards = guards;
     }
@@ -231,7 +239,8 @@ impl<W> Interface<W> {
         ensures cookies { self.new.cookies ≡ cookies }
         ensures same { (self.new.inner ≡ self.old.inner) × (self.new.turn ≡ self.old.turn)
             × (self.new.resets ≡ self.old.resets) × (self.new.errors ≡ self.old.errors)
-            × (self.new.counters ≡ self.old.counters) × (self.new.guards ≡ self.old.guards) }
+            × (self.new.counters ≡ self.old.counters) × (self.new.guards ≡ self.old.guards)
+            × (self.new.groups ≡ self.old.groups) }
     {
         self.cookies = cookies;
     }
@@ -246,7 +255,7 @@ impl<W> Interface<W> {
             × (self.new.inner.words ≡ self.old.inner.words) × (self.new.turn ≡ self.old.turn)
             × (self.new.resets ≡ self.old.resets) × (self.new.errors ≡ self.old.errors)
             × (self.new.counters ≡ self.old.counters) × (self.new.guards ≡ self.old.guards)
-            × (self.new.cookies ≡ self.old.cookies) }
+            × (self.new.cookies ≡ self.old.cookies) × (self.new.groups ≡ self.old.groups) }
     {
         self.inner.environment.set_mtu(mtu);
     }
@@ -260,8 +269,42 @@ impl<W> Interface<W> {
             × (self.new.inner.words ≡ self.old.inner.words) × (self.new.turn ≡ self.old.turn)
             × (self.new.resets ≡ self.old.resets) × (self.new.errors ≡ self.old.errors)
             × (self.new.counters ≡ self.old.counters) × (self.new.guards ≡ self.old.guards)
-            × (self.new.cookies ≡ self.old.cookies) }
+            × (self.new.cookies ≡ self.old.cookies) × (self.new.groups ≡ self.old.groups) }
     {
         self.inner.environment.checksums = checksums;
+    }
+}
+
+// Groups.
+impl<W> Interface<W> {
+    /// Joins a group: packets to it are taken then, for UDP and raw sockets. Nobody is told of it by IGMP or MLD.
+    ///
+    /// `Unaddressable` where the address is none of a group, `GroupTableFull` where four others were joined.
+    pub fn join_multicast_group(&mut self, group: IpAddress) -> Result<(), MulticastError>
+        ensures answer { result ≡ join_answer ⟦<IpAddress as PartialEq>⟧.eq self.old.groups group }
+        ensures value { self.new ≡ record self.old {
+          groups = joined ⟦<IpAddress as PartialEq>⟧.eq self.old.groups
+              group;
+        } }
+    {
+        self.groups.join(group)
+    }
+
+    /// Leaves a group, if it was joined. `Unaddressable` where the address is none of a group.
+    pub fn leave_multicast_group(&mut self, group: IpAddress) -> Result<(), MulticastError>
+        ensures answer { result ≡ leave_answer group }
+        ensures value { self.new ≡ record self.old {
+          groups = left ⟦<IpAddress as PartialEq>⟧.eq self.old.groups
+              group;
+        } }
+    {
+        self.groups.leave(&group)
+    }
+
+    /// Whether a group was joined.
+    pub fn has_multicast_group(&self, group: IpAddress) -> bool
+        ensures { result ≡ has_group ⟦<IpAddress as PartialEq>⟧.eq self.now.groups group }
+    {
+        self.groups.has(&group)
     }
 }

@@ -3,7 +3,10 @@ ghost use Rattle.std.specs.Prelude.{◌≡◌, ◌≤◌, nat_le, length, option
 ghost use Rattle.segment_wire.specs.Udp.{datagram_of};
 ghost use Rattle.control_wire.specs.Segment.{segment_of};
 ghost use Rattle.net_host.specs.Counts.{counted};
-ghost use Rattle.net_host.specs.Receiving.{ByAddresses, ByKind, IfShort, TakesDatagramOf, TakesOther, TakesPacket};
+ghost use Rattle.ip_wire.specs.IpHeader.{dst_addr_of};
+ghost use Rattle.host_groups.specs.Joining.{has_group};
+ghost use Rattle.net_host.specs.Passing.{passed};
+ghost use Rattle.net_host.specs.Receiving.{ByAddresses, ByKind, ByPassed, IfShort, TakesDatagramOf, TakesOther, TakesPacket};
 ghost use Rattle.net_host.specs.Receiving.{TellsIf};
 ghost use Rattle.net_host.specs.Receiving.{TakesCarried, TakesIcmp, TakesMail, TakesSegment, TakesTcp, TakesUdp};
 ghost use Rattle.net_host.specs.Receiving.{counted_again, counted_for, counted_if, counted_on, datagram_in};
@@ -18,6 +21,7 @@ use crate::counters::{Counters, Reason};
 use crate::hearing::{Heard, hear_segment};
 use crate::interface::Interface;
 use crate::messages::{Mail, echoed, mail_in, put_answer};
+use crate::passing::passed;
 use crate::segments::Taker;
 use crate::set::SocketSet;
 use crate::unreachable::{Unmet, tell_sender};
@@ -46,6 +50,25 @@ impl<W: Words> Interface<W> {
         let caps = self.inner.checksum_caps();
         match carried(packet, &caps) {
             None => self.drop_packet(Reason::Malformed),
+            Some((ip, bytes)) => self.take_whole(sockets, &ip, bytes, out),
+        }
+    }
+
+    // Behind its extension headers.
+    fn take_whole<G: TsvalSource>(
+        &mut self,
+        sockets: &mut SocketSet<'_, G>,
+        ip: &IpRepr,
+        bytes: &[u8],
+        out: &mut [u8],
+    ) -> usize
+        requires { 100 ≤ length out.old }
+        ensures within { result ≤ length out.old }
+        ensures table { ByPassed ⟦<IpAddress as PartialEq>⟧.eq W.word_at G.tells (passed ip.now bytes.now) self.old
+            sockets.old.slots.items out.old result self.new sockets.new.slots.items out.new }
+    {
+        match passed(ip, bytes) {
+            None => self.drop_packet(Reason::Malformed),
             Some((ip, bytes)) => self.take_carried(sockets, &ip, bytes, out),
         }
     }
@@ -58,6 +81,13 @@ impl<W: Words> Interface<W> {
         0
     }
 
+    // Whether its destination is a group that was joined.
+    fn has_joined(&self, ip: &IpRepr) -> bool
+        ensures { result ≡ has_group ⟦<IpAddress as PartialEq>⟧.eq self.now.groups (dst_addr_of ip.now) }
+    {
+        self.groups.has(&ip.dst_addr())
+    }
+
     fn take_carried<G: TsvalSource>(
         &mut self,
         sockets: &mut SocketSet<'_, G>,
@@ -68,10 +98,11 @@ impl<W: Words> Interface<W> {
         requires { 100 ≤ length out.old }
         ensures within { result ≤ length out.old }
         ensures table { ByAddresses ⟦<IpAddress as PartialEq>⟧.eq W.word_at G.tells
-            (refusal (facts_by ⟦<IpAddress as PartialEq>⟧.eq self.old.inner.environment) ip.now) ip.now bytes.now
-            self.old sockets.old.slots.items out.old result self.new sockets.new.slots.items out.new }
+            (refusal (facts_by ⟦<IpAddress as PartialEq>⟧.eq self.old.inner.environment)
+            (has_group ⟦<IpAddress as PartialEq>⟧.eq self.old.groups (dst_addr_of ip.now)) ip.now) ip.now bytes.now self.old sockets.old.slots.items out.old result self.new sockets.new.slots.items out.new }
     {
-        match refusal(&self.inner, ip) {
+        let joined = self.has_joined(ip);
+        match refusal(&self.inner, joined, ip) {
             Some(reason) => self.drop_packet(reason),
             None => self.take_looked_at(sockets, ip, bytes, out),
         }

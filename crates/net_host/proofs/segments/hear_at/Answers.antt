@@ -1,5 +1,4 @@
-use Rattle.std.proofs.Common.{◌∙◌, sym, ap}
-use Rattle.std.specs.Prelude.{slice_get}
+use Rattle.std.proofs.Common.{◌∙◌, sym}
 use Rattle.net_host.specs.Filing.{keys_of}
 use Rattle.net_host.specs.Looking.{sleeps}
 use Rattle.net_host.proofs.Places.{lent_changed}

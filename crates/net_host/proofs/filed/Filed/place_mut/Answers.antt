@@ -1,5 +1,4 @@
-use Rattle.std.proofs.Common.{◌∙◌, sym, ap}
-use Rattle.std.specs.Prelude.{slice_get}
+use Rattle.std.proofs.Common.{◌∙◌, sym}
 use Rattle.net_host.proofs.Each.{set_len}
 use Rattle.net_host.proofs.Places.{lent_writes}
 use Rattle.net_host.proofs.Sleepers.{marked_writes}

@@ -17,4 +17,5 @@ returns-clause-table g c = record {
   counters = c.set_now.ensures.counters;
   guards = c.set_now.ensures.guards;
   cookies = c.set_now.ensures.cookies;
+  groups = c.set_now.ensures.groups;
 }

@@ -1,7 +1,6 @@
 use Rattle.net_host.specs.Looking.{sleeps}
 use Rattle.net_host.proofs.Sleepers.{changed_len, marked_changes}
-use Rattle.std.proofs.Common.{◌∙◌, sym, ap}
-use Rattle.std.specs.Prelude.{slice_get}
+use Rattle.std.proofs.Common.{◌∙◌, sym}
 use Rattle.net_host.specs.Filing.{keys_of}
 use Rattle.net_host.proofs.Places.{lent_changed}
 use Rattle.net_host.proofs.set.Filed+Slot+G.add.Goals as goal
