@@ -3,7 +3,7 @@ ghost use Rattle.std.specs.Prelude.{◌≡◌};
 ghost use Rattle.sock_core.specs.Congestion.{bounded, capped, deflated, fresh_reno, growth, growth_in_bytes, halved};
 ghost use Rattle.sock_core.specs.Congestion.{initial_window, most_growth, reno_acked, reno_counted, reno_grows};
 ghost use Rattle.sock_core.specs.Congestion.{reno_on_ack, reno_on_bytes_acked, reno_on_dup_ack, reno_on_loss};
-ghost use Rattle.sock_core.specs.Congestion.{reno_on_partial_ack, reno_on_rto, reno_opened, reno_partially_acked};
+ghost use Rattle.sock_core.specs.Congestion.{reno_on_partial_ack, reno_on_rto, reno_opened, reno_partially_acked, reno_restarted};
 ghost use Rattle.sock_core.specs.Congestion.{reno_post_transmit};
 ghost use Rattle.sock_core.specs.Congestion.{reno_pre_transmit, reno_with_mss, reno_with_remote_window};
 
@@ -194,6 +194,8 @@ impl Controller for Reno {
 
     ghost after_open = { reno_opened };
 
+    ghost after_restart = { reno_restarted };
+
     ghost after_dup_ack = { reno_on_dup_ack };
 
     ghost after_rto = { reno_on_rto };
@@ -227,6 +229,11 @@ impl Controller for Reno {
     #[tactic(auto, unfolding(crate::specs::Congestion::reno_on_bytes_acked))]
     fn on_bytes_acked(&mut self, _now: Instant, len: usize, careful: bool) {
         self.count(len, careful);
+    }
+
+    #[tactic(auto, unfolding(crate::specs::Congestion::reno_restarted))]
+    fn restart(&mut self) {
+        self.cwnd = self.cwnd.min(self.initial_window());
     }
 
     #[tactic(auto, unfolding(crate::specs::Congestion::reno_opened))]

@@ -2,3 +2,5 @@ pub mod Checks
 pub mod Refused
 pub mod Scoreboard
 pub mod Recovery
+pub mod Numbers
+pub mod Windows

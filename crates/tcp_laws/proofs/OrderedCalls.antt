@@ -104,6 +104,20 @@ fast_row state.LastAck keep now flight n r = (idle_has_moment now keep, r.1)
 fast_row state.FinWait2 keep now flight n r = (idle_has_moment now keep, r.1, r.2)
 fast_row state.TimeWait keep now flight n r = absurd cc
 
+-- SND.NXT goes back, and the timer of probes stays
+back_row : (st : State) (at : Instant) (delay : Duration) (keep : Option Duration) (flight n : ℕ) → Row st (timer.ZeroWindowProbe at delay) keep flight n → Row st (timer.ZeroWindowProbe at delay) keep 0 n
+back_row state.Closed at delay keep flight n r = tt
+back_row state.Listen at delay keep flight n r = r
+back_row state.SynSent at delay keep flight n r = absurd r.0
+back_row state.SynReceived at delay keep flight n r = (tt, r.1, omega arith)
+back_row state.Established at delay keep flight n r = (tt, omega arith)
+back_row state.CloseWait at delay keep flight n r = (tt, omega arith)
+back_row state.FinWait1 at delay keep flight n r = (tt, omega arith)
+back_row state.Closing at delay keep flight n r = (tt, omega arith)
+back_row state.LastAck at delay keep flight n r = (tt, omega arith)
+back_row state.FinWait2 at delay keep flight n r = (tt, r.1, refl)
+back_row state.TimeWait at delay keep flight n r = absurd cc
+
 begins_ordered : (now : Instant) → KeptByBeginnings IsOrdered now
 unfolding retransmission_begun fast_retransmission_marked
 begins_ordered now = record {
@@ -126,6 +140,14 @@ begins_ordered now = record {
     congestion = lost_open v.congestion_controller _ _ h.congestion;
     peered = h.peered;
     row = fast_row v.state v.keep_alive now _ _ (subst (λ x. Row v.state x v.keep_alive (seq_sub v.remote_last_seq v.local_seq_no) (length v.tx_buffer.bytes)) e h.row);
+  };
+  goes_back = λ v at delay e h. record {
+    una_small = h.una_small;
+    nxt_small = h.una_small;
+    room = h.room;
+    congestion = h.congestion;
+    peered = h.peered;
+    row = subst (λ x. Row v.state x v.keep_alive (seq_sub v.local_seq_no v.local_seq_no) (length v.tx_buffer.bytes)) (sym e) (subst (λ i. Row v.state (timer.ZeroWindowProbe at delay) v.keep_alive i (length v.tx_buffer.bytes)) (sym (no_distance v.local_seq_no h.una_small)) (back_row v.state at delay v.keep_alive _ _ (subst (λ x. Row v.state x v.keep_alive (seq_sub v.remote_last_seq v.local_seq_no) (length v.tx_buffer.bytes)) e h.row)));
   };
 }
 
