@@ -2,3 +2,4 @@ pub mod Checks
 pub mod Refused
 pub mod Scoreboard
 pub mod Recovery
+pub mod TailLoss

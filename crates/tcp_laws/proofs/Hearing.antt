@@ -126,7 +126,7 @@ stays_unheard P rules.Rfc v now s o is una h = subst (λ b. P (recovered_if b (b
 -- a fast retransmission that the tables call for
 fast_or_timed : (b : Before) (w : View) (now : Instant) → w.timer ≡ timer.FastRetransmit → Resends rules.Rfc (recovered b w now).timer
 unfolding recovered
-fast_or_timed b w now e = timer_as (Resends rules.Rfc) b w now (inl e) (inl refl) (λ at i. inr refl) (inr refl) no_probe
+fast_or_timed b w now e = timer_as (Resends rules.Rfc) b w now (inl e) (inl refl) (λ at i. inr refl) (inr refl) (inr refl) no_probe
   where
     no_probe : (at : Instant) (delay : Duration) → w.timer ≡ timer.ZeroWindowProbe at delay → Resends rules.Rfc (idle_from now w.keep_alive)
     no_probe at delay i = let no : timer.FastRetransmit ≡ timer.ZeroWindowProbe at delay = sym e ∙ i in absurd cc

@@ -481,7 +481,7 @@ module _ (now : Instant) (word : ℕ) (ip : IpRepr) (s : Segment) (small : word 
     room = i.room;
     congestion = controller_open (before_of v s) w h.congestion i.congestion;
     peered = i.peered;
-    row = row_recovers w.state (waited_for (before_of v s) w now) w.timer w.keep_alive (seq_sub w.remote_last_seq w.local_seq_no) (length w.tx_buffer.bytes) (λ m. waited_as (λ t. HasMoment t w.keep_alive) (before_of v s) w now m tt (λ at e. tt) tt (λ at delay e. idle_has_moment now w.keep_alive)) i.row;
+    row = row_recovers w.state (waited_for (before_of v s) w now) w.timer w.keep_alive (seq_sub w.remote_last_seq w.local_seq_no) (length w.tx_buffer.bytes) (λ m. waited_as (λ t. HasMoment t w.keep_alive) (before_of v s) w now m tt (λ at e. tt) tt tt (λ at delay e. idle_has_moment now w.keep_alive)) i.row;
   }
 
   pub process_ordered : (r : Rules) (v : View) → IsOrdered v → (v.state ≡ state.Listen → s.ack_number ≡ None) → IsOrdered (processed_by r v now word ip s).view
