@@ -21,7 +21,7 @@ use Rattle.pair_core.specs.declared.side.Side.{Side}
 use Rattle.pair_core.specs.declared.side.Side.TheVariants.{A, B}
 use Rattle.pair_core.proofs.PairAmounts.{hands_some, takes_some}
 use Rattle.pair_core.proofs.PairHosts.{host_at, version_at}
-use Rattle.pair_core.proofs.SocketCalls.{abort_call, close_call, connect_call, dispatch_call, listen_call, process_call, recv_call, send_call, set_call}
+use Rattle.pair_core.proofs.SocketCalls.{abort_call, close_call, connect_call, dispatch_call, listen_call, moment_lawful, process_call, recv_call, send_call, set_call}
 
 -- ---- one side
 
@@ -106,5 +106,5 @@ event_called tells (event.Recv s size) p o q i z x = one_side s p q x.host x.sam
 event_called tells (event.Close s) p o q i z x = one_side s p q x.host x.same (becomes (host_of s p) (closing (host_of s p)) x.host x.does.1 (close_call (host_of s p).control_block))
 event_called tells (event.Abort s) p o q i z x = one_side s p q x.host x.same (becomes (host_of s p) (aborting (host_of s p)) x.host x.does.1 (abort_call (host_of s p).control_block))
 event_called tells (event.Set s y) p o q i z x = one_side s p q x.host x.same (becomes (host_of s p) (setting (host_of s p) y) x.host x.does.1 (set_call y (host_of s p).control_block))
-event_called tells (event.Dispatch s m fail) p o q i z x = with_segments s p q x.host x.segments x.same (inr (dispatch_call tells (host_of s p).source (facts_of m) fail x.does.sent x.host.control_block (host_of s p).control_block x.does.does.socket))
+event_called tells (event.Dispatch s m fail) p o q i z x = with_segments s p q x.host x.segments x.same (inr (dispatch_call tells (host_of s p).source (facts_of m) (moment_lawful m) fail x.does.sent x.host.control_block (host_of s p).control_block x.does.does.socket))
 event_called tells (event.Deliver j m) p o q i z x = delivery tells j (slice_get p.segments j) m p q o z refl x

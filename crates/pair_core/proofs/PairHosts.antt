@@ -14,7 +14,7 @@ use Rattle.sock_tcp.specs.Queues.{may_send, may_recv, queued, read_off, receives
 use Rattle.tcp_laws.proofs.Frames.{process_peers}
 use Rattle.tcp_laws.specs.Laws.{IsPeered}
 use Rattle.sock_tcp.specs.Opening.{connected, listened, renewed}
-use Rattle.tcp_laws.specs.Polling.{IsReached}
+use Rattle.tcp_laws.specs.Awake.{IsReachedByOwn}
 use Rattle.sock_tcp.specs.declared.state.State.{State}
 use Rattle.sock_tcp.specs.declared.state.State.TheVariants as state
 use Rattle.sock_tcp.specs.declared.tuple.Tuple.{Tuple}
@@ -46,7 +46,7 @@ use Rattle.pair_core.proofs.Addresses.{tuple_is}
 use Rattle.pair_core.proofs.DispatchKeeps.{Keeps, closed_peer, keeps_in_dispatch}
 use Rattle.pair_core.proofs.PairListeners.{aborted_listens, closed_listens, connected_active, listened_passive, passive_kept, process_listens, queued_listens, read_listens, KeepsListener}
 use Rattle.pair_core.proofs.PairAmounts.{takes_some, hands_some}
-use Rattle.pair_core.proofs.SocketCalls.{abort_call, called_reached, close_call, connect_call, dispatch_call, listen_call, process_call, recv_call, send_call, set_call, source_call}
+use Rattle.pair_core.proofs.SocketCalls.{abort_call, called_reached, close_call, connect_call, dispatch_call, listen_call, moment_lawful, process_call, recv_call, send_call, set_call, source_call}
 
 -- a host that is one still, on the same endpoint
 pub record StaysHost {G : Type 0} (remote : IpEndpoint) (h k : HostView G) : Type 0 where
@@ -179,7 +179,7 @@ dispatch_stays {remote} tells s m fail o h k ts ts' i d =
     let x : HostDispatches tells m fail h d.sent k = d.does in
     let keeps : Keeps h.control_block k.control_block = keeps_in_dispatch tells h.source h.control_block k.control_block (facts_of m) fail d.sent x.socket in
     subst (StaysHost remote h) (sym x.same) (record {
-      host = record { reachable = i.reachable; idle = λ u. subst IsIdle (sym (idle_dispatches tells h.source h.control_block k.control_block (facts_of m) fail d.sent (i.idle u).tuple x.socket)) (i.idle u); passive = passive_kept h (record h { control_block = k.control_block }) i refl keeps.listener; reached = called_reached h.control_block k.control_block (dispatch_call tells h.source (facts_of m) fail d.sent k.control_block h.control_block x.socket) i.reached };
+      host = record { reachable = i.reachable; idle = λ u. subst IsIdle (sym (idle_dispatches tells h.source h.control_block k.control_block (facts_of m) fail d.sent (i.idle u).tuple x.socket)) (i.idle u); passive = passive_kept h (record h { control_block = k.control_block }) i refl keeps.listener; reached = called_reached h.control_block k.control_block (dispatch_call tells h.source (facts_of m) (moment_lawful m) fail d.sent k.control_block h.control_block x.socket) i.reached };
       endpoint = refl;
       peer = λ p. keeps.peer (tuple_to h _) p;
     })
@@ -270,10 +270,10 @@ new_peer : (rx : Received) (tx : Queue) (t : Tuple) → IsPeered (fresh rx tx).s
 unfolding fresh
 new_peer rx tx t = inl refl
 
-new_is_host : {G : Type 0} (rx : Received) (tx : Queue) (e : IpEndpoint) (x : Option G) → rx.bytes ≡ [] → tx.bytes ≡ [] → IsReachable e → IsReached (fresh rx tx) → IsHost (new_host (fresh rx tx) e x)
+new_is_host : {G : Type 0} (rx : Received) (tx : Queue) (e : IpEndpoint) (x : Option G) → rx.bytes ≡ [] → tx.bytes ≡ [] → IsReachable e → IsReachedByOwn (fresh rx tx) → IsHost (new_host (fresh rx tx) e x)
 new_is_host rx tx e x r t i c = record { reachable = i; idle = λ u. new_idle rx tx (is_some x) r t; passive = λ shut live. absurd (shut refl); reached = called_reached (fresh rx tx) _ (source_call (fresh rx tx) (is_some x)) c }
 
-pub new_is_pair : {G : Type 0} (arx : Received) (atx : Queue) (brx : Received) (btx : Queue) (a b : IpEndpoint) (x y : Option G) (limit : Option ℕ) (ha hb : HostView G) (ts : List StoredView) → ha ≡ new_host (fresh arx atx) a x → hb ≡ new_host (fresh brx btx) b y → ts ≡ [] → arx.bytes ≡ [] → atx.bytes ≡ [] → brx.bytes ≡ [] → btx.bytes ≡ [] → IsReachable a → IsReachable b → IsReached (fresh arx atx) → IsReached (fresh brx btx) → SameVersion a.addr b.addr → IsLimit limit → IsPair (record { a = ha; b = hb; segments = ts; limit = limit })
+pub new_is_pair : {G : Type 0} (arx : Received) (atx : Queue) (brx : Received) (btx : Queue) (a b : IpEndpoint) (x y : Option G) (limit : Option ℕ) (ha hb : HostView G) (ts : List StoredView) → ha ≡ new_host (fresh arx atx) a x → hb ≡ new_host (fresh brx btx) b y → ts ≡ [] → arx.bytes ≡ [] → atx.bytes ≡ [] → brx.bytes ≡ [] → btx.bytes ≡ [] → IsReachable a → IsReachable b → IsReachedByOwn (fresh arx atx) → IsReachedByOwn (fresh brx btx) → SameVersion a.addr b.addr → IsLimit limit → IsPair (record { a = ha; b = hb; segments = ts; limit = limit })
 new_is_pair arx atx brx btx a b x y limit ha hb ts ea eb et r1 t1 r2 t2 ia ib ca cb v l =
     subst (λ h. IsPair (record { a = h; b = hb; segments = ts; limit = limit })) (sym ea)
     (subst (λ h. IsPair (record { a = new_host (fresh arx atx) a x; b = h; segments = ts; limit = limit })) (sym eb)

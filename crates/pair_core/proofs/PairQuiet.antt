@@ -4,6 +4,7 @@ use Rattle.sock_tcp.specs.View.{View}
 use Rattle.tcp_laws.specs.Polling.{NoWorkNoBytes}
 use Rattle.sock_tcp.specs.declared.state.State.{State}
 use Rattle.sock_tcp.specs.declared.state.State.TheVariants as state
+use Rattle.tcp_laws.proofs.Awake.{reached_by_own}
 use Rattle.pair_core.specs.NetworkInvariant.{StreamInvariant}
 use Rattle.pair_core.specs.PairInvariant.{IsHost, IsPair}
 use Rattle.pair_core.specs.PairNetwork.{endpoint_of, phase_of, shown}
@@ -42,7 +43,7 @@ module _ {G : Type 0} (law : NoWorkNoBytes) (sender receiver : HostView G) (o : 
       record { taken = omega (arith, l, r.released, r.taken); released = omega (arith, l, r.released, r.taken) }
     where
       none : length v.tx_buffer.bytes ≡ 0
-      none = law v i.reached alive idle
+      none = law v (reached_by_own v i.reached) alive idle
 
       has : HasIss (phase_of v.state) → length sender.accepted ≤ sender.released
       has h = sent_all none (shows sender i alive) h

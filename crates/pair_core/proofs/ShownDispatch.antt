@@ -12,12 +12,13 @@ use Rattle.sock_core.specs.Seq.{later_of}
 use Rattle.sock_core.specs.Congestion.{post_transmitted}
 use Rattle.pair_core.proofs.ShownNumbers.{numbered_effect}
 use Rattle.sock_tcp.specs.Advance.{dropped}
-use Rattle.sock_tcp.specs.Begin.{last_ts_set, last_ts_set_at, told_ready, readied, retransmission_begun, fast_retransmission_marked, after_timer, after_timers, unless_paused, ended, begun, begun_to, nothing_due, by_due, before_emit, before_emit_to, peer_of, time_wait_ended, probing_begun}
+use Rattle.sock_tcp.specs.Begin.{last_ts_set, last_ts_set_at, told_ready, readied, retransmission_begun, fast_retransmission_marked, after_timer, after_timers, unless_paused, ended, begun, begun_to, nothing_due, by_due, before_emit, before_emit_to, peer_of, time_wait_ended, probing_begun, timers_by}
 use Rattle.sock_tcp.specs.Content.{Sending, asked, offset_of, content}
 use Rattle.sock_tcp.specs.Due.{is_due}
 use Rattle.sock_tcp.specs.Opening.{renewed}
 use Rattle.sock_tcp.specs.Polls.{is_reached, timeout_poll}
 use Rattle.sock_tcp.specs.Queue.{IsLent}
+use Rattle.sock_tcp.specs.Rfc.TailLoss.{probes_tail, tail_probed}
 use Rattle.sock_tcp.specs.Sent.{emitted_as, after_any, after_probe, snd_nxt_moved, sending_timed, after_kind, after_sending}
 use Rattle.sock_tcp.specs.Timers.{is_over, is_close_over, retransmit_unless_set}
 use Rattle.sock_tcp.specs.View.{View, moment_of, fresh}
@@ -78,12 +79,16 @@ timer_shows (timer.ZeroWindowProbe t delay) v now bounds = go (is_over t now)
 timer_shows (timer.Close t) v now bounds = Same refl
 
 timers_show : (v : View) (now : Instant) → (HasIss (phase_of v.state) → HasSendingBounds (shown v)) → DispatchEffect (shown v) (shown (after_timers v now))
-unfolding after_timers
+unfolding after_timers tail_probed
 timers_show v now bounds = go (is_reached (timeout_poll v.timeout v.remote_last_ts) now)
   where
-    go : (b : Bool) → DispatchEffect (shown v) (shown (cond b (record v { state = state.Closed }) (after_timer v.timer v now)))
+    probed : (b : Bool) → DispatchEffect (shown v) (shown (timers_by b v now))
+    probed true = Same refl
+    probed false = timer_shows v.timer v now bounds
+
+    go : (b : Bool) → DispatchEffect (shown v) (shown (cond b (record v { state = state.Closed }) (timers_by (probes_tail v now) v now)))
     go true = IsOver (record { phase = refl; receive_queue = inl refl; fin = λ e. (e, refl) })
-    go false = timer_shows v.timer v now bounds
+    go false = probed (probes_tail v now)
 
 reset_shows : (z : SocketView) (v : View) → DispatchEffect z (shown (renewed v))
 unfolding renewed fresh cleared

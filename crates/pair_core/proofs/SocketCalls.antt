@@ -11,7 +11,7 @@ use Rattle.ip_wire.specs.declared.endpoint.IpListenEndpoint.{IpListenEndpoint}
 use Rattle.ip_wire.specs.declared.repr.IpRepr.{IpRepr}
 use Rattle.net_base.specs.Ring.{Ring}
 use Rattle.control_wire.specs.Segment.{Segment}
-use Rattle.sock_core.specs.Facts.{Facts}
+use Rattle.sock_core.specs.Facts.{Facts, IsLawful}
 use Rattle.sock_core.specs.Received.{receiving}
 use Rattle.sock_tcp.specs.Begin.{before_emit, peer_of}
 use Rattle.sock_tcp.specs.Closing.{aborted, closed}
@@ -21,12 +21,14 @@ use Rattle.sock_tcp.specs.Process.{Accepts, AcceptsIn}
 use Rattle.sock_tcp.specs.Queue.{appended, queue_of}
 use Rattle.sock_tcp.specs.Queues.{Reads, Sends, fitting, last_ts_after, may_recv, may_send, queued, read_off, readable, recv_refusal, timer_after, written}
 use Rattle.tcp_laws.specs.SocketRun as calls
-use Rattle.tcp_laws.specs.SocketRun.{Counts, Run, SendsTo as Emits, Step, Ends, Then, starting, starting_if, is_reset, opens_listener, with_sent, accepted}
+use Rattle.tcp_laws.specs.SocketRun.{Counts, SendsTo as Emits, Step, starting, starting_if, is_reset, opens_listener, with_sent, accepted}
 use Rattle.sock_tcp.specs.View.{View, fresh}
-use Rattle.tcp_laws.specs.Polling.{IsReached}
+use Rattle.tcp_laws.specs.Awake.{IsByOwn, IsReachedByOwn, OwnEnds, OwnRun, OwnThen}
 use Rattle.sock_tcp.specs.declared.error.SendError.TheVariants as send_error
 use Rattle.sock_tcp.specs.declared.state.State.TheVariants as state
 use Rattle.sock_tcp.specs.declared.tuple.Tuple.{Tuple}
+use Rattle.sock_tcp.specs.declared.rules.Rules.{Rules}
+use Rattle.pair_core.specs.Moments.{facts_of}
 use Rattle.pair_core.specs.PairInvariant.{IsReachable}
 use Rattle.pair_core.specs.PairNetwork.{IsSmall}
 use Rattle.pair_core.specs.PairSteps.{processed_at}
@@ -41,18 +43,18 @@ use Rattle.pair_core.specs.declared.setting.Setting.TheVariants as setting
 
 -- ---- one call more
 
-then_step : (v w x : View) (k j l : Counts) → Run v k w j → Step w j x l → Run v k x l
-then_step v _ x k _ l (Ends _ j) s = Then v x x k l l s (Ends x l)
-then_step v w x k j l (Then _ u _ _ i _ s r) t = Then v u x k i l s (then_step u w x i j l r t)
+then_step : (v w x : View) (k j l : Counts) → OwnRun v k w j → (s : Step w j x l) → IsByOwn s → OwnRun v k x l
+then_step v _ x k _ l (OwnEnds _ j) s own = OwnThen v x x k l l s own (OwnEnds x l)
+then_step v w x k j l (OwnThen _ u _ _ i _ s b r) t own = OwnThen v u x k i l s b (then_step u w x i j l r t own)
 
-pub called_reached : (v w : View) → IsCall v w → IsReached v → IsReached w
-called_reached v w does h = record { rx = h.rx; tx = h.tx; counts = (does h.counts).0; rx_size = h.rx_size; tx_size = h.tx_size; run = then_step _ v w _ h.counts (does h.counts).0 h.run (does h.counts).1 }
+pub called_reached : (v w : View) → IsCall v w → IsReachedByOwn v → IsReachedByOwn w
+called_reached v w does h = record { rx = h.rx; tx = h.tx; counts = (does h.counts).0; rx_size = h.rx_size; tx_size = h.tx_size; run = then_step _ v w _ h.counts (does h.counts).0 h.run (does h.counts).1 (does h.counts).2 }
 
-new_reached : (rx tx : Ring ℕ) → length rx.queue + length rx.spare ≤ 2 ^ 30 → length tx.queue + length tx.spare ≤ 2 ^ 30 → IsReached (fresh (receiving rx) (queue_of tx))
-new_reached rx tx r t = record { rx = rx; tx = tx; counts = starting (fresh (receiving rx) (queue_of tx)); rx_size = r; tx_size = t; run = Ends _ _ }
+new_reached : (rx tx : Ring ℕ) → length rx.queue + length rx.spare ≤ 2 ^ 30 → length tx.queue + length tx.spare ≤ 2 ^ 30 → IsReachedByOwn (fresh (receiving rx) (queue_of tx))
+new_reached rx tx r t = record { rx = rx; tx = tx; counts = starting (fresh (receiving rx) (queue_of tx)); rx_size = r; tx_size = t; run = OwnEnds _ _ }
 
 -- empty buffers of at most 2^30 bytes
-pub begins : (rx tx : Ring ℕ) → (rx.queue ≡ []) × (length rx.spare ≤ 2 ^ 30) → (tx.queue ≡ []) × (length tx.spare ≤ 2 ^ 30) → IsReached (fresh (receiving rx) (queue_of tx))
+pub begins : (rx tx : Ring ℕ) → (rx.queue ≡ []) × (length rx.spare ≤ 2 ^ 30) → (tx.queue ≡ []) × (length tx.spare ≤ 2 ^ 30) → IsReachedByOwn (fresh (receiving rx) (queue_of tx))
 begins rx tx r t =
     let a : length rx.queue ≡ 0 = ap length r.0 in
     let b : length tx.queue ≡ 0 = ap length t.0 in
@@ -76,6 +78,7 @@ listen_call v e shut port k = (
     other = λ p l n. absurd (not_listening v shut l);
     busy = λ p o n. absurd (let no : false ≡ true = sym (is_closed v shut) ∙ o in cc);
   }) refl,
+  tt,
 )
 
 goes_on : {A : Type 0} (b : Bool) (x y : A) → b ≡ false → (if b then x else y) ≡ y
@@ -111,7 +114,7 @@ module _ (v : View) (f : Facts) (here remote : IpEndpoint) (shut : v.state ≡ s
       ∙ ap (λ b. if b then Ok both else no_address) (is_versioned here.addr remote.addr version)
 
   pub connect_call : (word : ℕ) → word < 2 ^ 32 → IsCall v (connected v both word)
-  connect_call word small k = (_, calls.Connect f word remote local small (ap (λ x. after_connect x v word) (sym lawful)) refl)
+  connect_call word small k = (_, calls.Connect f word remote local small (ap (λ x. after_connect x v word) (sym lawful)) refl, tt)
 
 -- ---- sending and receiving
 
@@ -131,7 +134,7 @@ module _ (v : View) (n : ℕ) (bs : List ℕ) (may : may_send v.state ≡ true) 
 
   -- the bytes that a send takes, by whichever call, are those that `send_slice` of them would take
   pub send_call : IsCall v (queued v n bs)
-  send_call k = (with_sent k (accepted (take n bs) (Ok n)), calls.SendSlice (take n bs) (Ok n) sends refl)
+  send_call k = (with_sent k (accepted (take n bs) (Ok n)), calls.SendSlice (take n bs) (Ok n) sends refl, tt)
 
 module _ (v : View) (n : ℕ) (may : may_recv v ≡ true) (within : n ≤ length v.rx_buffer.bytes) where
   abbrev into : List ℕ
@@ -152,44 +155,51 @@ module _ (v : View) (n : ℕ) (may : may_recv v ≡ true) (within : n ≤ length
   }
 
   pub recv_call : IsCall v (read_off v n)
-  recv_call k = (_, calls.RecvSlice into left (Ok (readable v (length into))) reads refl)
+  recv_call k = (_, calls.RecvSlice into left (Ok (readable v (length into))) reads refl, tt)
 
 -- ---- closing and setting
 
 pub close_call : (v : View) → IsCall v (closed v)
-close_call v k = (k, calls.Close refl refl)
+close_call v k = (k, calls.Close refl refl, tt)
 
 pub abort_call : (v : View) → IsCall v (aborted v)
-abort_call v k = (k, calls.Abort refl refl)
+abort_call v k = (k, calls.Abort refl refl, tt)
+
+goes_on_open : (b : Bool) (old new : Rules) → b ≡ true → (if b then old else new) ≡ old
+goes_on_open true old new e = refl
+goes_on_open false old new e = absurd cc
 
 pub set_call : (s : Setting) (v : View) → IsCall v (set_in s v)
-set_call (setting.Timeout t) v k = (k, calls.Set (calls.SetTimeout t.duration refl) refl)
-set_call (setting.AckDelay t) v k = (k, calls.Set (calls.SetAckDelay t.duration refl) refl)
-set_call (setting.KeepAlive t) v k = (k, calls.Set (calls.SetKeepAlive t.duration refl) refl)
-set_call (setting.Nagle on) v k = (k, calls.Set (calls.SetNagle on refl) refl)
-set_call (setting.HopLimit n) v k = (k, calls.Set (calls.SetHopLimit n.hop_limit refl) refl)
-set_call (setting.Congestion c) v k = (k, calls.Set (calls.SetCongestionControl c refl) refl)
-set_call (setting.Pause on) v k = (k, calls.Set (calls.PauseSynAck on refl) refl)
-set_call (setting.Rules x) v k = (k, calls.Set (calls.SetRules (rules_set v x).rules refl) refl)
+set_call (setting.Timeout t) v k = (k, calls.Set (calls.SetTimeout t.duration refl) refl, tt)
+set_call (setting.AckDelay t) v k = (k, calls.Set (calls.SetAckDelay t.duration refl) refl, tt)
+set_call (setting.KeepAlive t) v k = (k, calls.Set (calls.SetKeepAlive t.duration refl) refl, tt)
+set_call (setting.Nagle on) v k = (k, calls.Set (calls.SetNagle on refl) refl, tt)
+set_call (setting.HopLimit n) v k = (k, calls.Set (calls.SetHopLimit n.hop_limit refl) refl, tt)
+set_call (setting.Congestion c) v k = (k, calls.Set (calls.SetCongestionControl c refl) refl, tt)
+set_call (setting.Pause on) v k = (k, calls.Set (calls.PauseSynAck on refl) refl, tt)
+set_call (setting.Rules x) v k = (k, calls.Set (calls.SetRules (rules_set v x).rules refl) refl, λ o. goes_on_open (is_open v.state) v.rules x o)
 
 -- the source of timestamps that a new socket has
 pub source_call : (v : View) (is_there : Bool) → IsCall v (record v { stamps = is_there })
-source_call v is_there k = (k, calls.Set (calls.SetTsvalGenerator is_there refl) refl)
+source_call v is_there k = (k, calls.Set (calls.SetTsvalGenerator is_there refl) refl, tt)
 
 -- ---- dispatches and deliveries
 
-module _ {G : Type 0} (tells : G → ℕ → Type 0) (source : Option G) (f : Facts) (fail : Bool) (r : Sent) (w : View) where
+module _ {G : Type 0} (tells : G → ℕ → Type 0) (source : Option G) (f : Facts) (lawful : IsLawful f) (fail : Bool) (r : Sent) (w : View) where
   goes_out : (o : Option Tuple) (u : View) → SendsFrom tells source o u f fail r w → (out : Option Sending) × Emits o f u out w
   goes_out None u d = (None, (refl, d.1))
   goes_out (Some t) u d = (content u t f d.stamp d.bytes, record { stamp = d.stamp; told = d.stamped; bytes = d.bytes; lent = d.lent; ok = not fail; sends = refl; view = d.view })
 
   pub dispatch_call : (v : View) → SocketDispatches tells source v f fail r w → IsCall v w
   unfolding SocketDispatches
-  dispatch_call v d k = let x = goes_out (peer_of (before_emit v f)) (before_emit v f).view d in (starting_if (is_reset v f) w k, calls.Dispatch f x.0 x.1 refl)
+  dispatch_call v d k = let x = goes_out (peer_of (before_emit v f)) (before_emit v f).view d in (starting_if (is_reset v f) w k, calls.Dispatch f x.0 x.1 refl, lawful)
+
+pub moment_lawful : (m : Moment) → IsLawful (facts_of m)
+moment_lawful m = (m.moment, (omega (arith, m.mtu.0), m.mtu.1))
 
 -- LISTEN lets no segment with an acknowledgement in
 bare : (v : View) (ip : IpRepr) (s : Segment) → Accepts v ip s → v.state ≡ state.Listen → s.ack_number ≡ None
 bare v ip s a e = (subst (λ st. AcceptsIn st v ip s) e a).0.no_ack
 
 pub process_call : (v : View) (m : Moment) (t : StoredView) → IsSmall t.segment → Accepts v t.ip t.segment → IsCall v (processed_at v m t).view
-process_call v m t s a k = (_, calls.Process v.rules (record { micros = m.now.micros }) m.word t.ip t.segment m.fits (record { seq_number = s.seq; ack_number = s.ack }) s.payload (bare v t.ip t.segment a) refl refl)
+process_call v m t s a k = (_, calls.Process v.rules (record { micros = m.now.micros }) m.word t.ip t.segment m.fits (record { seq_number = s.seq; ack_number = s.ack }) s.payload (bare v t.ip t.segment a) refl refl, refl)

@@ -6,7 +6,7 @@ use Rattle.ip_wire.specs.declared.endpoint.IpEndpoint.{IpEndpoint}
 use Rattle.sock_core.specs.Received.{room_of}
 use Rattle.sock_tcp.specs.Queue.{capacity}
 use Rattle.sock_tcp.specs.View.{View, FinSays}
-use Rattle.tcp_laws.specs.Polling.{IsReached}
+use Rattle.tcp_laws.specs.Awake.{IsReachedByOwn}
 use Rattle.sock_tcp.specs.declared.state.State.TheVariants as state
 use Rattle.pair_core.specs.NetworkInvariant.{IsInvariant}
 use Rattle.pair_core.specs.PairAddresses.{AllGo, HasPeer, endpoint_at}
@@ -35,8 +35,8 @@ pub record IsHost {G : Type 0} (h : HostView G) : Type 0 where
   -- a socket that is not CLOSED listens on a port exactly where it was opened by listen
   pub passive : (h.opening ≡ opening.Unopened → ⊥) → (h.control_block.state ≡ state.Closed → ⊥)
       → is_passive h.control_block ≡ is_listener h.opening
-  -- its socket is what some list of calls makes of a new one
-  pub reached : IsReached h.control_block
+  -- its socket is what some list of calls, each by the socket's own rules, makes of a new one
+  pub reached : IsReachedByOwn h.control_block
 
 -- both sockets can be connected, and each to the other alone; segments go from the one to the other; and the network
 -- that the pair shows meets the invariant of the theorem on two streams

@@ -30,7 +30,7 @@ ghost use Rattle.pair_core.specs.PairInvariant.{IsPair, IsSized};
 ghost use Rattle.pair_core.specs.PairLaws.{IsBounded, MayEmit};
 ghost use Rattle.pair_core.specs.PairNetwork.{is_passive, network_of, shown, stream_segment, IsSmall};
 ghost use Rattle.pair_core.specs.PairPromises.{Prefix, Release, IsPromptAt, in_window};
-ghost use Rattle.pair_core.specs.PairQuiet.{NoWorkMeansTaken};
+ghost use Rattle.pair_core.specs.PairQuiet.{NeverSleeps, NoWorkMeansTaken};
 ghost use Rattle.pair_core.specs.PairRuns.{EventRun};
 ghost use Rattle.pair_core.specs.PairSteps.{EventStep};
 ghost use Rattle.pair_core.specs.PairStreams.{AddsUp, accepted_by, accepted_in, handed_out_by, handed_out_in};
@@ -148,7 +148,7 @@ pub fn outcomes_add_up<G: TsvalSource>()
 {}
 
 /// Each event of a pair is one call on each of its sockets, or none, in the words of the law on any list of calls of
-/// one socket (`Step`). So each socket of a pair is what some list of calls makes of a new one.
+/// one socket (`Step`), by the rules of the socket. So each socket of a pair is what some list of calls makes of a new one.
 pub fn events_are_calls<G: TsvalSource>()
     ensures step { (e : Event) (p : PairView G) (o : Outcome) (q : PairView G) → IsPair p → IsSized e p
         → EventStep G.tells e p o q → (s : Side) → IsCalled (host_of s p).control_block (host_of s q).control_block }
@@ -163,6 +163,13 @@ pub fn no_work_means_taken<G>()
     ensures of_b { (p : PairView G) → IsPair p → NoWorkMeansTaken p.b p.a }
 {
     tcp_laws::poll::no_work_no_bytes()
+}
+
+/// With the RFCs' rules a side of a pair that has work to do always has a moment: `poll_at` does not answer `Ingress`.
+pub fn sides_never_sleep<G>()
+    ensures { (p : PairView G) → IsPair p → (s : Side) → NeverSleeps (host_of s p) }
+{
+    tcp_laws::poll::never_sleeps_by_rfc()
 }
 
 /// The two sides of a pair agree on the numbers of both streams (`SidesAgree`), where the one sends and the other is in

@@ -15,14 +15,15 @@ use Rattle.control_wire.specs.declared.tcp.TcpControl.TheVariants as control
 use Rattle.sock_core.specs.Estimator.{backed_off, retransmitted}
 use Rattle.sock_core.specs.Facts.{Facts}
 use Rattle.sock_tcp.specs.declared.rules.Rules.{Rules}
-use Rattle.sock_tcp.specs.Begin.{Begun, last_ts_set, last_ts_set_at, told_ready, readied, retransmission_begun, fast_retransmission_marked, after_timer, after_timers, is_paused, begun, begun_to, unless_paused, nothing_due, by_due, before_emit, before_emit_to, going_on, peer_of, probing_begun}
+use Rattle.sock_tcp.specs.Begin.{Begun, last_ts_set, last_ts_set_at, told_ready, readied, retransmission_begun, fast_retransmission_marked, after_timer, after_timers, is_paused, begun, begun_to, unless_paused, nothing_due, by_due, before_emit, before_emit_to, going_on, peer_of, probing_begun, timers_by}
 use Rattle.sock_tcp.specs.Content.{Sending, asked, carries_data, content, data_control, emission_kind, filled, offset_of, plain_segment, sent_as, with_data}
 use Rattle.sock_tcp.specs.Due.{is_closing, is_due}
 use Rattle.sock_tcp.specs.Process.{Outcome}
 use Rattle.progress_laws.specs.Smoltcp.{processed}
 use Rattle.sock_tcp.specs.Polls.{is_reached, timeout_poll}
-use Rattle.sock_tcp.specs.Rfc.Recovery.{begun_by}
-use Rattle.sock_tcp.proofs.Recovering.{begun_as}
+use Rattle.sock_tcp.specs.Rfc.Recovery.{begun_by, marked_by}
+use Rattle.sock_tcp.specs.Rfc.TailLoss.{is_retransmission_over, may_probe, may_probe_by, probes_tail, tail_probed}
+use Rattle.sock_tcp.proofs.Recovering.{begun_as, marked_as}
 use Rattle.sock_tcp.specs.Sent.{left_by}
 use Rattle.sock_tcp.specs.Timers.{idle_from, is_close_over, is_over}
 use Rattle.sock_tcp.specs.View.{View, moment_of}
@@ -114,6 +115,11 @@ pub begun_idle : (x : View) (now : Instant) → x.rules ≡ rules.Smoltcp → (r
 unfolding retransmission_begun
 begun_idle x now e = ap (λ r. begun_by r x.remote_win_len (length x.tx_buffer.bytes) now x.keep_alive (retransmitted (backed_off x.rtte))) e
 
+-- and so it is once a fast retransmission is marked
+pub marked_idle : (x : View) (now : Instant) → x.rules ≡ rules.Smoltcp → (fast_retransmission_marked x now).timer ≡ idle_from now x.keep_alive
+unfolding fast_retransmission_marked
+marked_idle x now e = ap (λ r. marked_by r now x.keep_alive (retransmitted x.rtte)) e
+
 pub same_again : (x : View) (now : Instant) → Same x (retransmission_begun x now)
 unfolding retransmission_begun
 same_again x now = record { state = refl; peer = refl; timeout = refl; same_rules = refl; keep_alive = refl; una = refl; tx = refl; rx = refl; rcv = refl; window = refl; scale = refl; shift = refl; paused = refl }
@@ -177,7 +183,7 @@ timer_no_end (timer.Retransmit at) x now is e = go (is_over at now)
     go : (b : Bool) → is_close_over (if b then retransmission_begun x now else x).timer now ≡ false
     go true = begun_as (λ t. is_close_over t now ≡ false) x.rules x.remote_win_len (length x.tx_buffer.bytes) now x.keep_alive (retransmitted (backed_off x.rtte)) (idle_is_no_end now x.keep_alive) (λ z some. refl)
     go false = ap (λ t. is_close_over t now) is ∙ e
-timer_no_end timer.FastRetransmit x now is e = idle_is_no_end now x.keep_alive
+timer_no_end timer.FastRetransmit x now is e = marked_as (λ t. is_close_over t now ≡ false) x.rules now x.keep_alive (retransmitted x.rtte) (idle_is_no_end now x.keep_alive) refl
 timer_no_end (timer.Idle at) x now is e = ap (λ t. is_close_over t now) is ∙ e
 timer_no_end (timer.ZeroWindowProbe at delay) x now is e = go (is_over at now) x.rules
   where
@@ -211,6 +217,22 @@ timer_tuple (timer.ZeroWindowProbe at delay) v now = by (is_over at now) v.rules
 timer_tuple timer.FastRetransmit v now = refl
 timer_tuple _ v now = refl
 
+-- the same of what the timer asks for, or of a tail-loss probe
+timers_kept : (b : Bool) (x : View) (now : Instant) → ((timers_by b x now).state ≡ x.state) × ((timers_by b x now).synack_paused ≡ x.synack_paused)
+unfolding tail_probed
+timers_kept true x now = (refl, refl)
+timers_kept false x now = timer_kept x.timer x now
+
+timers_no_end : (b : Bool) (x : View) (now : Instant) → is_close_over x.timer now ≡ false → is_close_over (timers_by b x now).timer now ≡ false
+unfolding tail_probed
+timers_no_end true x now e = refl
+timers_no_end false x now e = timer_no_end x.timer x now refl e
+
+timers_tuple : (b : Bool) (x : View) (now : Instant) → (timers_by b x now).tuple ≡ x.tuple
+unfolding tail_probed
+timers_tuple true x now = refl
+timers_tuple false x now = timer_tuple x.timer x now
+
 -- a SYN|ACK alone may be paused
 pub carries_runs : (st : State) (b : Bool) → carries_data st ≡ true → is_paused st b ≡ false
 carries_runs state.SynReceived b c = absurd cc
@@ -224,20 +246,24 @@ module _ (v : View) (t : Tuple) (f : Facts) (h : GoesOn v t f) (c : is_paused v.
   x = readied v now
 
   abbrev pub beginning : View
-  beginning = after_timer v.timer x now
+  beginning = timers_by (probes_tail x now) x now
 
   still : Alike v x
   still = readied_alike v now
 
   pub timers_are : after_timers x now ≡ beginning
   unfolding after_timers
-  timers_are = rw (alive, still.timer) refl
+  timers_are = rw alive refl
     where
       alive : is_reached (timeout_poll x.timeout x.remote_last_ts) now ≡ false
       alive = ap (λ d. is_reached (timeout_poll d x.remote_last_ts) now) still.same.timeout ∙ h.alive
 
+  -- by smoltcp's rules what the timer asks for
+  pub smoltcp_begins : v.rules ≡ rules.Smoltcp → beginning ≡ after_timer v.timer x now
+  smoltcp_begins e = ap (λ r. timers_by (may_probe_by r (may_probe x.recovery x) && is_retransmission_over x.timer now) x now) (still.same.same_rules ∙ e) ∙ ap (λ tm. after_timer tm x now) still.timer
+
   goes_on : is_paused beginning.state beginning.synack_paused ≡ false
-  goes_on = (λ i. is_paused (((timer_kept v.timer x now).0 ∙ still.same.state) i) (((timer_kept v.timer x now).1 ∙ still.same.paused) i)) ∙ c
+  goes_on = let k = timers_kept (probes_tail x now) x now in (λ i. is_paused ((k.0 ∙ still.same.state) i) ((k.1 ∙ still.same.paused) i)) ∙ c
 
   not_waiting : (y : View) → is_paused y.state y.synack_paused ≡ false → unless_paused y ≡ going_on y
   not_waiting y e = rw e refl
@@ -250,7 +276,7 @@ module _ (v : View) (t : Tuple) (f : Facts) (h : GoesOn v t f) (c : is_paused v.
 
   -- its peer is that of v
   to_peer : beginning.tuple ≡ Some t
-  to_peer = timer_tuple v.timer x now ∙ readied_tuple v now ∙ h.peer
+  to_peer = timers_tuple (probes_tail x now) x now ∙ readied_tuple v now ∙ h.peer
 
   begins_so : before_emit v f ≡ by_due (is_due beginning t f) beginning f
   unfolding before_emit begun
@@ -258,7 +284,7 @@ module _ (v : View) (t : Tuple) (f : Facts) (h : GoesOn v t f) (c : is_paused v.
 
   unchanged : nothing_due beginning now ≡ beginning
   unfolding nothing_due
-  unchanged = rw (timer_no_end v.timer x now still.timer h.no_end) refl
+  unchanged = rw (timers_no_end (probes_tail x now) x now (ap (λ tm. is_close_over tm now) still.timer ∙ h.no_end)) refl
 
   -- what is due goes out
   pub sends_so : (out : Option Sending) (w : View) → is_due beginning t f ≡ true → SendsOk f t beginning out w → DispatchesOk f v out w

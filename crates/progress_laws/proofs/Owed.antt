@@ -30,7 +30,7 @@ use Rattle.sock_tcp.specs.declared.timer.Timer.TheVariants as timer
 use Rattle.sock_tcp.specs.declared.tuple.Tuple.{Tuple}
 use Rattle.progress_laws.specs.InStep.{takes_bytes, told}
 use Rattle.progress_laws.specs.Speech.{DispatchesOk, GoesOn, SendsOk}
-use Rattle.progress_laws.proofs.Begins.{Alike, beginning, content_is, content_waiting, lent_for, readied_alike, segment_for, sends_so, stamp_for, stamp_is}
+use Rattle.progress_laws.proofs.Begins.{smoltcp_begins, Alike, beginning, content_is, content_waiting, lent_for, readied_alike, segment_for, sends_so, stamp_for, stamp_is}
 use Rattle.progress_laws.proofs.Edges.{is_earlier, is_not_before, later_stays}
 use Rattle.progress_laws.proofs.Hears.{idle_is, idle_moment}
 use Rattle.progress_laws.proofs.Says.{keep_alive_due, no_probe}
@@ -75,7 +75,7 @@ module _ (s : Tuple) (w : View) (room n : ℕ) (y : View) (f : Facts) (now : Ins
   al = readied_alike y now
 
   u_is : beginning y s fa on carries ≡ u
-  u_is = ap (λ tm. after_timer tm u now) o.timer
+  u_is = smoltcp_begins y s fa on carries o.smoltcp ∙ ap (λ tm. after_timer tm u now) o.timer
 
   takes_on : takes_bytes u.state ≡ true
   takes_on = ap takes_bytes al.same.state ∙ o.state

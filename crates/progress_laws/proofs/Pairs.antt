@@ -16,6 +16,7 @@ use Rattle.sock_tcp.specs.Window.{next_ack}
 use Rattle.sock_tcp.specs.declared.state.State.{State}
 use Rattle.sock_tcp.specs.declared.state.State.TheVariants as state
 use Rattle.sock_tcp.specs.declared.tuple.Tuple.{Tuple}
+use Rattle.tcp_laws.proofs.Awake.{reached_by_own}
 use Rattle.tcp_laws.specs.Laws.{IsPeered}
 use Rattle.tcp_laws.proofs.OrderedCalls.{reached_ordered}
 use Rattle.pair_core.specs.PairAddresses.{HasPeer, tuple_to}
@@ -61,10 +62,10 @@ open_or_closing _ c = absurd cc
 
 module _ {G : Type 0} (h o : HostView G) (i : IsHost h) (peer : HasPeer h o.endpoint) where
   speaker : (d : Duration) → MaySpeak d h → IsSpeaker d (tuple_to h o.endpoint) h.control_block
-  speaker d s = record { reached = i.reached; carries = s.carries; peer = peered h.control_block.state h.control_block.tuple (tuple_to h o.endpoint) s.carries peer; no_timeout = s.no_timeout; smoltcp = s.smoltcp; keep_alive = s.keep_alive; waits = s.waits }
+  speaker d s = record { reached = reached_by_own h.control_block i.reached; carries = s.carries; peer = peered h.control_block.state h.control_block.tuple (tuple_to h o.endpoint) s.carries peer; no_timeout = s.no_timeout; smoltcp = s.smoltcp; keep_alive = s.keep_alive; waits = s.waits }
 
   taker : MayTake h → IsTaking h.control_block
-  taker s = record { reached = i.reached; state = s.receives; room = s.place }
+  taker s = record { reached = reached_by_own h.control_block i.reached; state = s.receives; room = s.place }
 
 module _ {G : Type 0} (h o : HostView G) (i : IsHost h) (j : IsHost o) (agree : SynchronizedSidesAgree h o) (d : Duration) (s : MaySpeak d h) (m : MayTake o) where
   abbrev v : View
@@ -85,7 +86,7 @@ module _ {G : Type 0} (h o : HostView G) (i : IsHost h) (j : IsHost o) (agree : 
       sides.there ∙ ap (λ n. seq_add v.local_seq_no n) alone
 
   una_there : v.local_seq_no.0 < 2 ^ 32
-  una_there = (reached_ordered v i.reached).una_small
+  una_there = (reached_ordered v (reached_by_own v i.reached)).una_small
 
   none_taken : sides.taken ≡ 0 → next_ack w ≡ v.local_seq_no
   none_taken z =
@@ -107,7 +108,7 @@ module _ {G : Type 0} (h o : HostView G) (i : IsHost h) (j : IsHost o) (peer : H
   agreement : (heard : ℕ) → heard ≤ length o.control_block.tx_buffer.bytes + fin_place o.control_block.state → next_ack h.control_block ≡ seq_add o.control_block.local_seq_no heard → Agreement d (tuple_to h o.endpoint) h.control_block o.control_block q.taken heard
   agreement heard within back = record {
     speaker = speaker h o i peer d c.speaks;
-    taker = record { reached = j.reached; state = c.takes.receives; room = c.takes.place };
+    taker = record { reached = reached_by_own o.control_block j.reached; state = c.takes.receives; room = c.takes.place };
     taken_within = q.taken_within;
     there = taken_to h o i j agree d c.speaks c.takes;
     held = q.held;

@@ -23,7 +23,7 @@ use Rattle.sock_tcp.specs.declared.timer.Timer.TheVariants as timer
 use Rattle.sock_tcp.specs.declared.tuple.Tuple.{Tuple}
 use Rattle.progress_laws.specs.InStep.{told}
 use Rattle.progress_laws.specs.Speech.{DispatchesOk, GoesOn}
-use Rattle.progress_laws.proofs.Begins.{Alike, Goes, Same, and_no, beginning, begun_idle, goes, lent_for, readied_alike, same_again, same_then, sends_so, stamp_for, stamp_is}
+use Rattle.progress_laws.proofs.Begins.{smoltcp_begins, Alike, Goes, Same, and_no, beginning, begun_idle, goes, lent_for, readied_alike, same_again, same_then, sends_so, stamp_for, stamp_is}
 use Rattle.progress_laws.proofs.Edges.{is_earlier, is_not_before, later_is, later_stays}
 use Rattle.progress_laws.proofs.Hears.{idle_is, idle_moment}
 use Rattle.progress_laws.proofs.Sends.{SentOf, left, plain_sent, plain_timer, plain_told}
@@ -152,21 +152,24 @@ module _ (st : State) (t : Tuple) (f : Facts) (x : View) (c : SendsSyn st t f x)
   unfolding retransmission_begun
   anew_nxt = refl
 
+  begins_is : u ≡ after_timer v.timer z now
+  begins_is = smoltcp_begins v t fa on runs (r.same.same_rules ∙ c.smoltcp)
+
   pub begun_so : Repeats x u
-  begun_so = by r.waits
+  begun_so = subst (Repeats x) (sym begins_is) (by r.waits)
     where
       go : (b : Bool) → Repeats x (if b then retransmission_begun z now else z)
       go true = anew_so
       go false = readied_so
 
-      by : SynWaits v → Repeats x u
+      by : SynWaits v → Repeats x (after_timer v.timer z now)
       by (NotSent o idle nxt) = subst (λ tm. Repeats x (after_timer tm z now)) (sym idle) readied_so
       by (IsSent at waits nxt) = subst (λ tm. Repeats x (after_timer tm z now)) (sym waits) (go (is_over at now))
 
   front : SynGoesOut v r.waits now → u.remote_last_seq ≡ u.local_seq_no
-  front d = by r.waits d
+  front d = subst (λ (y : View). y.remote_last_seq ≡ y.local_seq_no) (sym begins_is) (by r.waits d)
     where
-      by : (q : SynWaits v) → SynGoesOut v q now → u.remote_last_seq ≡ u.local_seq_no
+      by : (q : SynWaits v) → SynGoesOut v q now → (after_timer v.timer z now).remote_last_seq ≡ (after_timer v.timer z now).local_seq_no
       by (NotSent o idle nxt) d = subst (λ tm. (after_timer tm z now).remote_last_seq ≡ (after_timer tm z now).local_seq_no) (sym idle) (al.nxt ∙ nxt ∙ sym al.same.una)
       by (IsSent at waits nxt) d = subst (λ tm. (after_timer tm z now).remote_last_seq ≡ (after_timer tm z now).local_seq_no) (sym waits) (subst (λ b. (if b then retransmission_begun z now else z).remote_last_seq ≡ (if b then retransmission_begun z now else z).local_seq_no) (sym d) anew_nxt)
 

@@ -34,7 +34,7 @@ use Rattle.progress_laws.proofs.Again.{number_again}
 use Rattle.progress_laws.specs.Speech.{DispatchesOk, FromUna, IsPastTimer, KeepsAlive, Probes, Says, SendsOk, SpeaksPastItsTimers, SpeaksWithin, Speech}
 use Rattle.progress_laws.proofs.Lends.{marked_some, probe_byte}
 use Rattle.sock_tcp.specs.declared.rules.Rules.TheVariants as rules
-use Rattle.progress_laws.proofs.Begins.{Goes, Alike, and_no, beginning, begun_idle, carries_runs, content_is, dispatch_reached, goes, not_empty, not_zero, readied_alike, segment_for, probe_alone}
+use Rattle.progress_laws.proofs.Begins.{Goes, Alike, and_no, beginning, begun_idle, carries_runs, content_is, dispatch_reached, goes, not_empty, not_zero, readied_alike, segment_for, probe_alone, marked_idle, smoltcp_begins}
 
 -- ---- a socket that has to say something
 
@@ -239,7 +239,7 @@ module _ (d : Duration) (t : Tuple) where
     idle_goes {R} s out w k sends = by (goes v t f h.on (carries_runs v.state v.synack_paused s.carries) out w k)
       where
         u_is : beginning v t f h.on (carries_runs v.state v.synack_paused s.carries) ≡ idle_view
-        u_is = ap (λ tm. after_timer tm idle_view (moment_of f)) is
+        u_is = smoltcp_begins v t f h.on (carries_runs v.state v.synack_paused s.carries) s.smoltcp ∙ ap (λ tm. after_timer tm idle_view (moment_of f)) is
 
         by : Goes v t f h.on (carries_runs v.state v.synack_paused s.carries) out w → R
         by (inl o) = sends (subst (λ x. SendsOk f t x out w) u_is o.0)
@@ -289,7 +289,7 @@ module _ (d : Duration) (t : Tuple) where
       over = subst (λ tm. is_reached (timer_poll tm) (moment_of f) ≡ true) is h.over
 
       u_is : beginning v t f h.on (carries_runs v.state v.synack_paused s.carries) ≡ u
-      u_is = ap (λ tm. after_timer tm x (moment_of f)) is ∙ ap (λ c. if c then u else x) over
+      u_is = smoltcp_begins v t f h.on (carries_runs v.state v.synack_paused s.carries) s.smoltcp ∙ ap (λ tm. after_timer tm x (moment_of f)) is ∙ ap (λ c. if c then u else x) over
 
       idle_now : u.timer ≡ idle_from (moment_of f) x.keep_alive
       idle_now = begun_idle x (moment_of f) (still.same.same_rules ∙ s.smoltcp)
@@ -365,13 +365,16 @@ module _ (d : Duration) (t : Tuple) where
       u = fast_retransmission_marked x (moment_of f)
 
       u_is : beginning v t f h.on (carries_runs v.state v.synack_paused s.carries) ≡ u
-      u_is = ap (λ tm. after_timer tm x (moment_of f)) is
+      u_is = smoltcp_begins v t f h.on (carries_runs v.state v.synack_paused s.carries) s.smoltcp ∙ ap (λ tm. after_timer tm x (moment_of f)) is
+
+      marked : u.timer ≡ idle_from (moment_of f) x.keep_alive
+      marked = marked_idle x (moment_of f) (still.same.same_rules ∙ s.smoltcp)
 
       no_probing : is_probing u (moment_of f) ≡ false
-      no_probing = no_probe u (moment_of f) (idle_no_probe (moment_of f) x.keep_alive)
+      no_probing = no_probe u (moment_of f) (ap (λ tm. is_probe_over tm (moment_of f)) marked ∙ idle_no_probe (moment_of f) x.keep_alive)
 
       quiet : w ≡ u → SpeaksWithin (suc n) w t
-      quiet e = front_says n w (after (moment_of f) d) (still_says d f v out w s k (ap (λ (y : View). y.state) e ∙ still.same.state) (ap (λ (y : View). y.tx_buffer) e ∙ still.same.tx) (ap (λ (y : View). y.keep_alive) e ∙ still.same.keep_alive) (ap (λ (y : View). y.rules) e ∙ still.same.same_rules)) (ap (λ (y : View). y.timer) e ∙ ap (λ o. idle_from (moment_of f) o) (still.same.keep_alive ∙ s.keep_alive)) (inl (ap (λ (y : View). y.pending_fast_retransmit) e))
+      quiet e = front_says n w (after (moment_of f) d) (still_says d f v out w s k (ap (λ (y : View). y.state) e ∙ still.same.state) (ap (λ (y : View). y.tx_buffer) e ∙ still.same.tx) (ap (λ (y : View). y.keep_alive) e ∙ still.same.keep_alive) (ap (λ (y : View). y.rules) e ∙ still.same.same_rules)) (ap (λ (y : View). y.timer) e ∙ marked ∙ ap (λ o. idle_from (moment_of f) o) (still.same.keep_alive ∙ s.keep_alive)) (inl (ap (λ (y : View). y.pending_fast_retransmit) e))
 
       sends : (o : SendsOk f t u out w) → IsProbing u → Says v out
       sends o i = elim (says_or_ack v u t f o.stamp o.bytes still.same.una (still.same.same_rules ∙ s.smoltcp) (inl refl) no_probing) [
@@ -394,7 +397,7 @@ module _ (d : Duration) (t : Tuple) where
       still = readied_alike v (moment_of f)
 
       u_is : beginning v t f h.on (carries_runs v.state v.synack_paused s.carries) ≡ u
-      u_is = ap (λ tm. after_timer tm u (moment_of f)) is ∙ probe_alone u at delay (moment_of f) (still.same.same_rules ∙ s.smoltcp)
+      u_is = smoltcp_begins v t f h.on (carries_runs v.state v.synack_paused s.carries) s.smoltcp ∙ ap (λ tm. after_timer tm u (moment_of f)) is ∙ probe_alone u at delay (moment_of f) (still.same.same_rules ∙ s.smoltcp)
 
       probes : u.timer ≡ timer.ZeroWindowProbe at delay
       probes = still.timer ∙ is

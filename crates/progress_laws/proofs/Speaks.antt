@@ -10,7 +10,8 @@ use Rattle.sock_core.specs.Bounds.{IsMtu}
 use Rattle.sock_core.specs.Facts.{Facts}
 use Rattle.sock_core.specs.Seq.{later_of}
 use Rattle.sock_tcp.proofs.Lending.{lent_at_most, lent_beginning}
-use Rattle.sock_tcp.specs.Begin.{after_timer, after_timers, is_paused, readied, retransmission_begun}
+use Rattle.sock_tcp.specs.Begin.{timers_by, after_timer, after_timers, is_paused, readied, retransmission_begun}
+use Rattle.sock_tcp.specs.Rfc.TailLoss.{is_retransmission_over, may_probe, may_probe_by, probes_tail}
 use Rattle.sock_tcp.specs.Content.{Sending, asked, carries_data, emission_kind, is_probing, offset_of, sent_as, window_left}
 use Rattle.sock_tcp.specs.Due.{congestion_left, data_due, effective_mss, flight, is_closed, is_due, window_field}
 use Rattle.sock_tcp.specs.declared.rules.Rules.TheVariants as rules
@@ -32,7 +33,7 @@ use Rattle.tcp_laws.proofs.Sleeping.{window_sends}
 use Rattle.tcp_laws.proofs.Probing.{reached_probing}
 use Rattle.progress_laws.specs.InStep.{ForAnswer, ForKeepAlive, ForNothing, ForProbe, IsSender, Rests, told}
 use Rattle.progress_laws.specs.Speech.{DispatchesOk, GoesOn}
-use Rattle.progress_laws.proofs.Begins.{Same, beginning, begun_idle, carries_runs, dispatch_reached, lent_for, not_zero, quiet_so, readied_alike, same_again, same_then, segment_for, sends_as, stamp_for}
+use Rattle.progress_laws.proofs.Begins.{smoltcp_begins, Same, beginning, begun_idle, carries_runs, dispatch_reached, lent_for, not_zero, quiet_so, readied_alike, same_again, same_then, segment_for, sends_as, stamp_for}
 use Rattle.progress_laws.proofs.Edges.{is_earlier, is_not_before, later_is, later_stays}
 use Rattle.progress_laws.proofs.Hears.{IsData, IsOpenTimer, idle_is, idle_moment}
 use Rattle.progress_laws.proofs.Lends.{lent_some, mss_short, mss_some}
@@ -130,19 +131,22 @@ idle_front v now at r idle nxt =
     let al = readied_alike v now in
     record { same = al.same; nxt = al.nxt ∙ nxt; untold = record { last_ack = al.last_ack; last_win = al.last_win }; marked = al.marked; mss = al.mss; moment = at; idle = al.timer ∙ idle; ordered = readied_ordered v now (reached_ordered v r) }
 
-begins_again : (x : View) (now at : Instant) → x.timeout ≡ None → x.timer ≡ timer.Retransmit at → is_over at now ≡ true → after_timers x now ≡ retransmission_begun x now
+begins_again : (x : View) (now at : Instant) → x.timeout ≡ None → x.rules ≡ rules.Smoltcp → x.timer ≡ timer.Retransmit at → is_over at now ≡ true → after_timers x now ≡ retransmission_begun x now
 unfolding after_timers
-begins_again x now at none waits over = ap (λ b. if b then record x { state = state.Closed } else after_timer x.timer x now) alive ∙ ap (λ tm. after_timer tm x now) waits ∙ ap (λ c. if c then retransmission_begun x now else x) over
+begins_again x now at none smoltcp waits over = ap (λ b. if b then record x { state = state.Closed } else timers_by (probes_tail x now) x now) alive ∙ ap (λ b. timers_by b x now) no_tail ∙ ap (λ tm. after_timer tm x now) waits ∙ ap (λ c. if c then retransmission_begun x now else x) over
   where
     alive : is_reached (timeout_poll x.timeout x.remote_last_ts) now ≡ false
     alive = ap (λ o. is_reached (timeout_poll o x.remote_last_ts) now) none
+
+    no_tail : probes_tail x now ≡ false
+    no_tail = ap (λ r. may_probe_by r (may_probe x.recovery x) && is_retransmission_over x.timer now) smoltcp
 
 -- once the retransmission timer is over
 again_front : (v : View) (now at : Instant) → IsReached v → v.timeout ≡ None → v.rules ≡ rules.Smoltcp → v.timer ≡ timer.Retransmit at → is_over at now ≡ true → Front v (retransmission_begun (readied v now) now)
 unfolding retransmission_begun
 again_front v now at r no_timeout smoltcp waits over =
     let al = readied_alike v now in
-    record { same = same_then al.same (same_again (readied v now) now); nxt = al.same.una; untold = record { last_ack = al.last_ack; last_win = al.last_win }; marked = al.marked; mss = al.mss; moment = idle_moment now (readied v now).keep_alive; idle = begun_idle (readied v now) now (al.same.same_rules ∙ smoltcp) ∙ idle_is now (readied v now).keep_alive; ordered = subst IsOrdered (begins_again (readied v now) now at (al.same.timeout ∙ no_timeout) (al.timer ∙ waits) over) (timers_ordered (readied v now) now (readied_ordered v now (reached_ordered v r))) }
+    record { same = same_then al.same (same_again (readied v now) now); nxt = al.same.una; untold = record { last_ack = al.last_ack; last_win = al.last_win }; marked = al.marked; mss = al.mss; moment = idle_moment now (readied v now).keep_alive; idle = begun_idle (readied v now) now (al.same.same_rules ∙ smoltcp) ∙ idle_is now (readied v now).keep_alive; ordered = subst IsOrdered (begins_again (readied v now) now at (al.same.timeout ∙ no_timeout) (al.same.same_rules ∙ smoltcp) (al.timer ∙ waits) over) (timers_ordered (readied v now) now (readied_ordered v now (reached_ordered v r))) }
 
 -- nothing is in flight then, nothing is marked, and no probe goes out
 pub record FromFront (u : View) (now : Instant) : Type 0 where
@@ -402,19 +406,19 @@ begins t f v now r none ruled (ForKeepAlive at idle nxt) other over = record {
   view = readied v now;
   front = idle_front v now (Some at) r idle nxt;
   no_end = rw idle refl;
-  is = λ on carries. ap (λ tm. after_timer tm (readied v now) now) idle;
+  is = λ on carries. smoltcp_begins v t (told f now) on carries ruled ∙ ap (λ tm. after_timer tm (readied v now) now) idle;
 }
 begins t f v now r none ruled (ForNothing idle nxt some) other over = record {
   view = readied v now;
   front = idle_front v now None r idle nxt;
   no_end = rw idle refl;
-  is = λ on carries. ap (λ tm. after_timer tm (readied v now) now) idle;
+  is = λ on carries. smoltcp_begins v t (told f now) on carries ruled ∙ ap (λ tm. after_timer tm (readied v now) now) idle;
 }
 begins t f v now r none ruled (ForAnswer at again) other over = record {
   view = retransmission_begun (readied v now) now;
   front = again_front v now at r none ruled again over;
   no_end = rw again refl;
-  is = λ on carries. ap (λ tm. after_timer tm (readied v now) now) again ∙ ap (λ c. if c then retransmission_begun (readied v now) now else readied v now) over;
+  is = λ on carries. smoltcp_begins v t (told f now) on carries ruled ∙ ap (λ tm. after_timer tm (readied v now) now) again ∙ ap (λ c. if c then retransmission_begun (readied v now) now else readied v now) over;
 }
 
 module _ (d : Option Duration) (t : Tuple) (v : View) (f : Facts) (now : Instant) (mtu : IsMtu f.mtu) (address : f.has_address t.local.addr ≡ true) (s : IsSender d t v) where
@@ -431,7 +435,7 @@ module _ (d : Option Duration) (t : Tuple) (v : View) (f : Facts) (now : Instant
   says_plain r other over win queue = let b = begins t f v now s.reached s.no_timeout s.smoltcp r other over in speaks_plain d t v f now mtu s (goes_on b.no_end) carries_so b.view b.front (b.is (goes_on b.no_end) carries_so) win queue
 
   pub says_nothing : (at : Instant) → v.timer ≡ timer.Idle (Some at) → v.remote_last_seq ≡ v.local_seq_no → is_over at now ≡ true → v.remote_win_len ≡ 0 → SpeaksNothing (told f now) v
-  says_nothing at idle nxt over win = speaks_nothing d t v f now mtu s (goes_on (rw idle refl)) carries_so (readied v now) (idle_front v now (Some at) s.reached idle nxt) (ap (λ tm. after_timer tm (readied v now) now) idle) win (ap (λ tm. is_keep_alive_over tm now) ((readied_alike v now).timer ∙ idle) ∙ over)
+  says_nothing at idle nxt over win = speaks_nothing d t v f now mtu s (goes_on (rw idle refl)) carries_so (readied v now) (idle_front v now (Some at) s.reached idle nxt) (smoltcp_begins v t (told f now) (goes_on (rw idle refl)) carries_so s.smoltcp ∙ ap (λ tm. after_timer tm (readied v now) now) idle) win (ap (λ tm. is_keep_alive_over tm now) ((readied_alike v now).timer ∙ idle) ∙ over)
 
   pub falls_silent : (e : Duration) → v.keep_alive ≡ Some e → (r : Rests v) → IsNoProbe r → is_over (wakes r) now ≡ true → v.remote_win_len ≡ 0 → FallsSilent (told f now) v
   falls_silent e keeps r other over win = let b = begins t f v now s.reached s.no_timeout s.smoltcp r other over in silent d t v f now mtu s (goes_on b.no_end) carries_so b.view b.front (b.is (goes_on b.no_end) carries_so) e keeps win

@@ -15,7 +15,8 @@ use Rattle.sock_core.specs.Facts.{Facts}
 use Rattle.sock_tcp.proofs.Lending.{lent_at_most, lent_beginning}
 use Rattle.sock_tcp.specs.declared.rules.Rules.TheVariants as rules
 use Rattle.sock_tcp.specs.declared.rules.Rules.{Rules}
-use Rattle.sock_tcp.specs.Begin.{after_timer, fast_retransmission_marked, readied, retransmission_begun, probing_begun}
+use Rattle.sock_tcp.specs.Begin.{after_timer, fast_retransmission_marked, readied, retransmission_begun, probing_begun, timers_by}
+use Rattle.sock_tcp.specs.Rfc.TailLoss.{probes_tail, tail_probed}
 use Rattle.sock_tcp.specs.Content.{Sending, asked, carries_data, data_control, emission_kind, hole_of, offset_of, plain_segment, sent_as}
 use Rattle.sock_tcp.specs.Due.{flight, is_closing, window_field}
 use Rattle.sock_tcp.specs.Queue.{Queue}
@@ -72,6 +73,11 @@ timer_still (timer.ZeroWindowProbe at delay) x now = go (is_over at now) x.rules
     go true rules.Rfc = record { state = refl; una = refl; tx = refl; rx = refl; rcv = refl; shift = refl }
     go false r = unmoved x
 timer_still (timer.Close at) x now = unmoved x
+
+timers_still : (b : Bool) (x : View) (now : Instant) → Still x (timers_by b x now)
+unfolding tail_probed
+timers_still true x now = record { state = refl; una = refl; tx = refl; rx = refl; rcv = refl; shift = refl }
+timers_still false x now = timer_still x.timer x now
 
 pub sent_still : (b : View) (now : Instant) (e : Emitted) → Still b (after_sending b now e)
 unfolding after_sending sending_timed snd_nxt_moved after_any after_probe
@@ -147,7 +153,7 @@ module _ (t : Tuple) (f : Facts) (v : View) (out : Sending) (u : View) (h : HasS
   begun_still : Still v b
   begun_still =
       let al : Alike v (readied v now) = readied_alike v now in
-      then_still v (readied v now) b (record { state = al.same.state; una = al.same.una; tx = al.same.tx; rx = al.same.rx; rcv = al.same.rcv; shift = al.same.shift }) (timer_still v.timer (readied v now) now)
+      then_still v (readied v now) b (record { state = al.same.state; una = al.same.una; tx = al.same.tx; rx = al.same.rx; rcv = al.same.rcv; shift = al.same.shift }) (timers_still (probes_tail (readied v now) now) (readied v now) now)
 
   o : SendsOk f t b (Some out) u
   o = goes_out v t f h.on (carries_runs v.state v.synack_paused h.carries) out u h.dispatch

@@ -33,7 +33,7 @@ use Rattle.sock_tcp.proofs.Holes.{again_at_most}
 use Rattle.progress_laws.specs.Agreement.{ForAnswer, ForKeepAlive, ForProbe, ForRepeat, IsSpeaker, Waits}
 use Rattle.progress_laws.specs.InStep.{told}
 use Rattle.progress_laws.specs.Speech.{DispatchesOk, GoesOn}
-use Rattle.progress_laws.proofs.Begins.{Alike, Same, and_no, beginning, begun_idle, carries_runs, fin_len, lent_for, not_empty, not_zero, quiet_so, readied_alike, same_again, same_then, segment_for, sends_as, some_or_none, timers_are, stamp_for, probe_alone}
+use Rattle.progress_laws.proofs.Begins.{Alike, Same, and_no, beginning, begun_idle, carries_runs, fin_len, lent_for, not_empty, not_zero, quiet_so, readied_alike, same_again, same_then, segment_for, sends_as, some_or_none, timers_are, stamp_for, probe_alone, marked_idle, smoltcp_begins}
 use Rattle.progress_laws.proofs.Edges.{is_not_before, later_stays}
 use Rattle.progress_laws.proofs.Lends.{lent_some, marked_some, mss_short, mss_some, probe_byte}
 use Rattle.progress_laws.proofs.Says.{AtFront, front_number, keep_alive_due, no_probe, probe_due}
@@ -335,26 +335,26 @@ module _ (d : Duration) (t : Tuple) (f : Facts) (v : View) (now : Instant) (s : 
     view = retransmission_begun x now;
     started = record { same = same_then al.same (same_again x now); untold = record { last_ack = al.last_ack; last_win = al.last_win }; front = inr refl; ready = IsIdle (after now d) (begun_idle x now (al.same.same_rules ∙ s.smoltcp) ∙ ap (idle_from now) (al.same.keep_alive ∙ s.keep_alive)); mss = mss; quiet = λ e. ap (λ tm. is_keep_alive_over tm now) is };
     no_end = ap (λ tm. is_close_over tm now) is;
-    is = λ on runs. ap (λ tm. after_timer tm x now) is ∙ ap (λ c. if c then retransmission_begun x now else x) (subst (λ tm. is_reached (timer_poll tm) now ≡ true) is over);
+    is = λ on runs. smoltcp_begins v t (told f now) on runs s.smoltcp ∙ ap (λ tm. after_timer tm x now) is ∙ ap (λ c. if c then retransmission_begun x now else x) (subst (λ tm. is_reached (timer_poll tm) now ≡ true) is over);
   }
   begins (ForRepeat is) = record {
     view = fast_retransmission_marked x now;
-    started = record { same = same_then al.same (record { state = refl; peer = refl; timeout = refl; same_rules = refl; keep_alive = refl; una = refl; tx = refl; rx = refl; rcv = refl; window = refl; scale = refl; shift = refl; paused = refl }); untold = record { last_ack = al.last_ack; last_win = al.last_win }; front = inl refl; ready = IsIdle (after now d) (ap (idle_from now) (al.same.keep_alive ∙ s.keep_alive)); mss = mss; quiet = λ e. ap (λ tm. is_keep_alive_over tm now) is };
+    started = record { same = same_then al.same (record { state = refl; peer = refl; timeout = refl; same_rules = refl; keep_alive = refl; una = refl; tx = refl; rx = refl; rcv = refl; window = refl; scale = refl; shift = refl; paused = refl }); untold = record { last_ack = al.last_ack; last_win = al.last_win }; front = inl refl; ready = IsIdle (after now d) (marked_idle x now (al.same.same_rules ∙ s.smoltcp) ∙ ap (idle_from now) (al.same.keep_alive ∙ s.keep_alive)); mss = mss; quiet = λ e. ap (λ tm. is_keep_alive_over tm now) is };
     no_end = ap (λ tm. is_close_over tm now) is;
-    is = λ on runs. ap (λ tm. after_timer tm x now) is;
+    is = λ on runs. smoltcp_begins v t (told f now) on runs s.smoltcp ∙ ap (λ tm. after_timer tm x now) is;
   }
   begins (ForKeepAlive None is front) = absurd (true≢false (sym (subst (λ tm. is_reached (timer_poll tm) now ≡ true) is over)))
   begins (ForKeepAlive (Some at) is front) = record {
     view = x;
     started = record { same = al.same; untold = record { last_ack = al.last_ack; last_win = al.last_win }; front = front_x front; ready = IsIdle at (al.timer ∙ is); mss = mss; quiet = λ e. ap (λ tm. is_keep_alive_over tm now) (sym al.timer) ∙ e };
     no_end = ap (λ tm. is_close_over tm now) is;
-    is = λ on runs. ap (λ tm. after_timer tm x now) is;
+    is = λ on runs. smoltcp_begins v t (told f now) on runs s.smoltcp ∙ ap (λ tm. after_timer tm x now) is;
   }
   begins (ForProbe at delay is front) = record {
     view = x;
     started = record { same = al.same; untold = record { last_ack = al.last_ack; last_win = al.last_win }; front = front_x (by front); ready = IsProbe at delay (al.timer ∙ is) (subst (λ tm. is_reached (timer_poll tm) now ≡ true) is over) (al.same.window ∙ subst (λ tm. ProbesIn tm v.remote_win_len) is (reached_probing v s.reached).window) (queued front); mss = mss; quiet = λ e. ap (λ tm. is_keep_alive_over tm now) (sym al.timer) ∙ e };
     no_end = ap (λ tm. is_close_over tm now) is;
-    is = λ on runs. ap (λ tm. after_timer tm x now) is ∙ probe_alone x at delay now (al.same.same_rules ∙ s.smoltcp);
+    is = λ on runs. smoltcp_begins v t (told f now) on runs s.smoltcp ∙ ap (λ tm. after_timer tm x now) is ∙ probe_alone x at delay now (al.same.same_rules ∙ s.smoltcp);
   }
     where
       by : (v.pending_fast_retransmit ≡ true) ⊎ ((v.remote_last_seq ≡ v.local_seq_no) × (0 < length v.tx_buffer.bytes)) → AtFront v

@@ -1,5 +1,5 @@
 //! The estimator of round-trip times and of the retransmission timeout (RFC 6298).
-ghost use Rattle.std.specs.Prelude.{◌≡◌, ◌*◌, ◌≤◌, List, true, if◌then◌else◌};
+ghost use Rattle.std.specs.Prelude.{is_some, ◌≡◌, ◌*◌, ◌≤◌, List, true, if◌then◌else◌};
 ghost use Rattle.sock_core.specs.Estimator.{fresh_estimator, sampled, sent, acked, backed_off, retransmitted};
 ghost use Rattle.sock_core.specs.Estimator.{begun_anew, begun_with, bounded_below, is_backed_off, IsWait};
 ghost use Rattle.sock_core.specs.Estimator.{smoothed_by, timeout_of, AreSmall, IsTimeout, srtt_of, rttvar_of};
@@ -228,6 +228,13 @@ impl RttEstimator {
             least: self.least,
             ..RttEstimator::default()
         }
+    }
+
+    /// Whether there is a measurement.
+    pub fn is_measured(&self) -> bool
+        ensures { result ≡ is_some self.now.smoothed }
+    {
+        self.smoothed.is_some()
     }
 
     /// Whether a SYN was sent again, and nothing was measured since.

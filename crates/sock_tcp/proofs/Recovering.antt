@@ -9,8 +9,9 @@ use Rattle.ip_wire.specs.declared.repr.IpRepr.{IpRepr}
 use Rattle.sock_tcp.specs.Arrival.{arrival}
 use Rattle.sock_tcp.specs.Process.{Outcome, ack_sent, answered, by_verdict, processed_by, tuple_of}
 use Rattle.sock_tcp.specs.Replies.{ack_kept, ack_segment, sack_range}
-use Rattle.sock_tcp.specs.Rfc.Recovery.{before_of, begun_by, gone_on_from, has_timer, is_called, recovered, recovered_by, resends, running, timer_after, waited_for}
+use Rattle.sock_tcp.specs.Rfc.Recovery.{before_of, begun_by, gone_on_from, has_timer, is_called, recovered, recovered_by, resends, running, timer_after, waited_for, marked_by, waits_tail}
 use Rattle.sock_tcp.specs.Due.{flight}
+use Rattle.sock_tcp.specs.Rfc.TailLoss.{is_alone, tail_from, tail_waits}
 use Rattle.sock_core.specs.Estimator.{Estimator}
 use Rattle.sock_tcp.specs.Timers.{idle_from, probe_from, retransmit_from}
 use Rattle.sock_tcp.specs.Rfc.Checks.{verdict_by}
@@ -61,10 +62,10 @@ pub passes : (o : Outcome) (r : Rules) (v : View) (now : Instant) (word : ℕ) (
 unfolding processed_by
 passes o r v now word ip s p h = h ∙ ap (λ x. by_verdict r x v (arrival now (tuple_of ip s) word (windowed r v s))) (sym p)
 
--- ---- the timer that is left: as it was, a fast retransmission's, one that went on, a new one, or that of keep-alives
--- where it was a probe's
+-- ---- the timer that is left: as it was, a fast retransmission's, one that went on, a new one, that of a tail-loss probe,
+-- or that of keep-alives where it was a probe's
 
-module _ (Q : Timer → Type 0) (b : Before) (w : View) (now : Instant) (same : Q w.timer) (fast : Q timer.FastRetransmit) (kept : (at : Instant) → b.timer ≡ timer.Retransmit at → Q (timer.Retransmit at)) (new : Q (retransmit_from now w.rtte)) (idle : (at : Instant) (delay : Duration) → w.timer ≡ timer.ZeroWindowProbe at delay → Q (idle_from now w.keep_alive)) where
+module _ (Q : Timer → Type 0) (b : Before) (w : View) (now : Instant) (same : Q w.timer) (fast : Q timer.FastRetransmit) (kept : (at : Instant) → b.timer ≡ timer.Retransmit at → Q (timer.Retransmit at)) (new : Q (retransmit_from now w.rtte)) (tail : Q (tail_from now w.rtte (is_alone w))) (idle : (at : Instant) (delay : Duration) → w.timer ≡ timer.ZeroWindowProbe at delay → Q (idle_from now w.keep_alive)) where
   goes : (t : Timer) → b.timer ≡ t → Q (gone_on_from t now w.rtte)
   goes (timer.Retransmit at) e = kept at e
   goes (timer.Idle at) e = new
@@ -88,13 +89,25 @@ module _ (Q : Timer → Type 0) (b : Before) (w : View) (now : Instant) (same : 
   runs timer.FastRetransmit e h = h
   runs (timer.Close at) e h = h
 
+  -- that of a probe in place of it
+  probes : (b : Bool) (t : Timer) → Q t → Q (tail_waits b t now w.rtte (is_alone w))
+  probes true (timer.Retransmit at) h = tail
+  probes true (timer.Idle at) h = h
+  probes true timer.FastRetransmit h = h
+  probes true (timer.ZeroWindowProbe at delay) h = h
+  probes true (timer.Close at) h = h
+  probes false t h = h
+
   pub waited_as : Q (waited_for b w now)
   waited_as = by (resends b w) (is_called b w)
     where
-      by : (r c : Bool) → Q (if r then timer.FastRetransmit else (if c then gone_on_from b.timer now w.rtte else running w.timer (flight w) (length w.tx_buffer.bytes) w.keep_alive w.rtte now))
+      left : Timer
+      left = running w.timer (flight w) (length w.tx_buffer.bytes) w.keep_alive w.rtte now
+
+      by : (r c : Bool) → Q (if r then timer.FastRetransmit else (if c then gone_on_from b.timer now w.rtte else tail_waits (waits_tail b w) left now w.rtte (is_alone w)))
       by true c = fast
       by false true = goes b.timer refl
-      by false false = runs w.timer refl same
+      by false false = probes (waits_tail b w) left (runs w.timer refl same)
 
   pub timer_as : Q (timer_after b w now)
   timer_as = by (has_timer w.state)
@@ -112,3 +125,8 @@ begun_as Q rules.Rfc window queued now keep e idle probe = by (window == 0) refl
     by true n false i = probe (eqb-true window 0 n) i
     by true n true i = idle
     by false n z i = idle
+
+-- and once a fast retransmission is due: an idle one, or that of a retransmission
+pub marked_as : (Q : Timer → Type 0) (r : Rules) (now : Instant) (keep : Option Duration) (e : Estimator) → Q (idle_from now keep) → Q (retransmit_from now e) → Q (marked_by r now keep e)
+marked_as Q rules.Smoltcp now keep e idle runs = idle
+marked_as Q rules.Rfc now keep e idle runs = runs

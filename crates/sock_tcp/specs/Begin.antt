@@ -8,9 +8,10 @@ use Rattle.sock_tcp.specs.Advance.{dropped}
 use Rattle.sock_tcp.specs.Due.{flight, is_due}
 use Rattle.sock_tcp.specs.Opening.{renewed}
 use Rattle.sock_tcp.specs.Polls.{is_reached, timeout_poll}
-use Rattle.sock_tcp.specs.Rfc.Recovery.{begun_by, timed_out_by}
+use Rattle.sock_tcp.specs.Rfc.Recovery.{begun_by, marked_by, timed_out_by}
 use Rattle.sock_tcp.specs.Rfc.Scoreboard.{nothing_told}
-use Rattle.sock_tcp.specs.Timers.{is_over, idle_from, is_close_over}
+use Rattle.sock_tcp.specs.Rfc.TailLoss.{probes_tail, tail_probed}
+use Rattle.sock_tcp.specs.Timers.{is_over, is_close_over}
 use Rattle.sock_tcp.specs.View.{View, moment_of}
 use Rattle.sock_tcp.specs.declared.rules.Rules.{Rules}
 use Rattle.sock_tcp.specs.declared.rules.Rules.TheVariants as rules
@@ -85,7 +86,7 @@ fast_retransmission_marked v now =
           (flight_lost v.rules (flight v) (congestion_window v.congestion_controller));
       pending_fast_retransmit = true;
       rtte = retransmitted v.rtte;
-      timer = idle_from now v.keep_alive;
+      timer = marked_by v.rules now v.keep_alive (retransmitted v.rtte);
     }
 
 -- a window is to be probed for: by the RFCs' rules with the byte at SND.UNA, so that SND.NXT goes back, and what was
@@ -105,11 +106,17 @@ after_timer timer.FastRetransmit v now = fast_retransmission_marked v now
 after_timer (timer.ZeroWindowProbe t delay) v now = if is_over t now then probing_begun v.rules v else v
 after_timer _ v now = v
 
--- the user timeout is over: CLOSED, and the timer is left alone. Else what the timer asks for
+-- a tail-loss probe goes out, or what the timer asks for
+abbrev pub timers_by : Bool → View → Instant → View
+timers_by true v now = tail_probed v now
+timers_by false v now = after_timer v.timer v now
+
+-- the user timeout is over: CLOSED, and the timer is left alone. Else what the timer asks
+-- for
 unfoldable pub after_timers : View → Instant → View
 after_timers v now =
     if is_reached (timeout_poll v.timeout v.remote_last_ts) now then record v { state = state.Closed }
-    else after_timer v.timer v now
+    else timers_by (probes_tail v now) v now
 
 -- ---- the beginning, in this order: no peer, the local address gone, the moment of the last segment, the timers, a
 -- SYN|ACK that is paused

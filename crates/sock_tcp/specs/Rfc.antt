@@ -4,3 +4,4 @@ pub mod Scoreboard
 pub mod Recovery
 pub mod Numbers
 pub mod Windows
+pub mod TailLoss

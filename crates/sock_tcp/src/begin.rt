@@ -92,7 +92,7 @@ impl<'a> ControlBlock<'a> {
         self.congestion_controller.on_loss(now, flight);
         self.pending_fast_retransmit = true;
         self.rtte.on_retransmit();
-        self.timer = Timer::idle(now, self.keep_alive);
+        self.timer = self.timer_marked(now);
     }
 
     // A window is to be probed for: by the RFCs' rules with the byte at SND.UNA.
@@ -121,7 +121,11 @@ impl<'a> ControlBlock<'a> {
         match self.timer {
             Timer::Retransmit { expires_at } => {
                 if is_over(expires_at, now) {
-                    self.begin_retransmission(now);
+                    if self.may_probe_now() {
+                        self.probe_tail(now);
+                    } else {
+                        self.begin_retransmission(now);
+                    }
                 }
             }
             Timer::FastRetransmit => self.mark_fast_retransmission(now),

@@ -61,6 +61,7 @@ impl<'a> ControlBlock<'a> {
             (Rules::Rfc, Recovery::Open) => {
                 (self.local_rx_dup_acks.min(2) as usize) * self.remote_mss
             }
+            (Rules::Rfc, Recovery::Probe { .. }) => self.remote_mss,
             _ => 0,
         }
     }
@@ -77,7 +78,7 @@ impl<'a> ControlBlock<'a> {
     }
 
     // What of the transmit queue both windows let go out.
-    fn sendable(&self) -> usize
+    pub(crate) fn sendable(&self) -> usize
         ensures { result ≡ sendable self.now }
     {
         self.remote_win_len

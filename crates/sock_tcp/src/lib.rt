@@ -44,6 +44,7 @@ pub mod settings;
 pub mod socket;
 pub mod state;
 mod steps;
+mod tail;
 pub mod timer;
 pub mod tuple;
 pub mod verdict;

@@ -11,7 +11,7 @@ ghost use Rattle.sock_tcp.specs.Rfc.Recovery.{is_fast, is_grown, is_news, is_ope
 ghost use Rattle.sock_tcp.specs.Rfc.Recovery.{is_counted, is_early, may_resend, recovered};
 ghost use Rattle.sock_tcp.specs.Rfc.Recovery.{recovery_after, repeats_by, resends, running, timed_out_by, timer_after};
 ghost use Rattle.sock_tcp.specs.Rfc.Recovery.{before_it, is_timed_out, is_uncounted, told_of_bytes};
-ghost use Rattle.sock_tcp.specs.Rfc.Recovery.{segments_out, tells_loss, waited_for};
+ghost use Rattle.sock_tcp.specs.Rfc.Recovery.{marked_by, segments_out, tells_loss, waited_for};
 ghost use Rattle.sock_tcp.specs.Timers.{IsTimer};
 
 use crate::control_block::ControlBlock;
@@ -38,6 +38,13 @@ pub enum Recovery {
         high_rxt: TcpSeqNumber,
         /// The number behind all that was sent when SND.UNA moved last, or holes began to go out again.
         resent_at: TcpSeqNumber,
+    },
+    /// A tail-loss probe went out, and nothing was acknowledged since (RFC 8985, section 7).
+    Probe {
+        /// The number of the segment that was the last one.
+        start: TcpSeqNumber,
+        /// The number behind it.
+        end: TcpSeqNumber,
     },
     /// The retransmission timer was over, and not all that was sent before that is acknowledged.
     Timeout {
@@ -100,7 +107,7 @@ impl Recovery {
     fn is_over(self) -> bool
         ensures { result ≡ is_over self }
     {
-        matches!(self, Recovery::Open)
+        matches!(self, Recovery::Open | Recovery::Probe { .. })
     }
 
     // An acknowledgement of all that was sent before ends it.
@@ -108,7 +115,7 @@ impl Recovery {
         ensures { result ≡ gone_on self una }
     {
         match self {
-            Recovery::Open => self,
+            Recovery::Open | Recovery::Probe { .. } => self,
             Recovery::Fast { point, .. } | Recovery::Timeout { point } => {
                 if before(una, point) {
                     self
@@ -124,7 +131,7 @@ impl Recovery {
         ensures { result ≡ highest_of self next }
     {
         match self {
-            Recovery::Open => next,
+            Recovery::Open | Recovery::Probe { .. } => next,
             Recovery::Fast { point, .. } | Recovery::Timeout { point } => later(next, point),
         }
     }
@@ -202,7 +209,7 @@ impl Before {
         ensures { result ≡ tells_loss self.now after.now }
     {
         let third = self.is_uncounted(after) && self.duplicates == 2;
-        self.is_called(after) || (third || self.is_early(after))
+        self.is_called(after) || (third || (self.is_early(after) || self.is_probe_told(after)))
     }
 
     // Of new bytes, but not of all that was sent before a fast retransmission.
@@ -231,7 +238,7 @@ impl Before {
         self.begins(after) || after.may_resend() && (self.shows_hole(after) || self.lets_out(after))
     }
 
-    fn recovery_after(&self, after: &ControlBlock<'_>) -> Recovery
+    pub(crate) fn recovery_after(&self, after: &ControlBlock<'_>) -> Recovery
         ensures { result ≡ recovery_after self.now after.now }
     {
         if !after.state.carries_data() {
@@ -323,7 +330,9 @@ impl Before {
         if self.is_called(after) {
             return gone_on_from(self.timer, now, &after.rtte);
         }
-        after.running(now)
+        let waits = self.waits_tail(after);
+        let alone = after.is_alone();
+        after.running(now).or_tail(waits, now, &after.rtte, alone)
     }
 
     fn timer_after(&self, after: &ControlBlock<'_>, now: Instant) -> Timer
@@ -382,6 +391,18 @@ impl<'a> ControlBlock<'a> {
         ensures { result ≡ may_resend self.now }
     {
         self.state.carries_data() && !self.tx_buffer.is_empty()
+    }
+
+    // The timer once a fast retransmission is due.
+    pub(crate) fn timer_marked(&self, now: Instant) -> Timer
+        requires { IsMoment now.micros }
+        ensures value { result ≡ marked_by self.now.rules now self.now.keep_alive self.now.rtte }
+        ensures lawful { IsTimer result }
+    {
+        match self.rules {
+            Rules::Smoltcp => Timer::idle(now, self.keep_alive),
+            Rules::Rfc => Timer::retransmit(now, &self.rtte),
+        }
     }
 
     // The timer once that of a retransmission is over: a window is probed for where there is none, and bytes wait.

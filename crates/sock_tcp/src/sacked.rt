@@ -33,6 +33,10 @@ impl Recovery {
     {
         match self {
             Recovery::Fast { high_rxt, .. } => { sacked.hole_behind(offset_from(high_rxt, una)) }
+            Recovery::Probe { start, end } => Some(Hole {
+                start: start.since(una) as u32,
+                end: end.since(una) as u32,
+            }),
             _ => None,
         }
     }
@@ -96,6 +100,7 @@ impl Recovery {
                 high_rxt: una,
                 resent_at,
             },
+            (true, _, Recovery::Probe { .. }) => Recovery::Open,
             _ => self,
         }
     }
@@ -132,7 +137,7 @@ impl Before {
     }
 
     // It tells something new, and acknowledges nothing.
-    fn only_tells(&self, after: &ControlBlock<'_>) -> bool
+    pub(crate) fn only_tells(&self, after: &ControlBlock<'_>) -> bool
         ensures { result ≡ only_tells self.now after.now }
     {
         self.telling && !self.is_news(after)

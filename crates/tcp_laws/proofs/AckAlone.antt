@@ -13,14 +13,15 @@ use Rattle.control_wire.specs.Seq.{seq_add, seq_of}
 use Rattle.control_wire.specs.Segment.{Segment, control_len, segment_len}
 use Rattle.control_wire.specs.declared.tcp.TcpControl.TheVariants as control
 use Rattle.sock_core.specs.Facts.{Facts, IsLawful}
-use Rattle.sock_tcp.specs.Begin.{last_ts_set, last_ts_set_at, told_ready, readied, retransmission_begun, fast_retransmission_marked, after_timer, after_timers, begun, begun_to, unless_paused, ended, by_due, before_emit, before_emit_to, peer_of, probing_begun}
+use Rattle.sock_tcp.specs.Begin.{last_ts_set, last_ts_set_at, told_ready, readied, retransmission_begun, fast_retransmission_marked, after_timer, after_timers, begun, begun_to, unless_paused, ended, by_due, before_emit, before_emit_to, peer_of, probing_begun, timers_by}
 use Rattle.sock_tcp.specs.Content.{asked, carries_data, data_control, filled, hole_of, is_probing, offset_of, plain_segment, size_of, window_left, with_data, resent_size}
 use Rattle.sock_tcp.specs.Due.{congestion_left, effective_mss, flight, ip_header_len, mtu_for, is_closing, is_due, is_opening, sendable, timestamp_room, window_field}
 use Rattle.sock_tcp.specs.Opening.{renewed}
 use Rattle.sock_tcp.specs.Polls.{is_reached, timeout_poll}
 use Rattle.sock_tcp.specs.Queue.{IsLent, Queue}
 use Rattle.sock_tcp.specs.Rfc.Scoreboard.{hole_number, hole_start}
-use Rattle.sock_tcp.specs.Timers.{idle_from, is_over}
+use Rattle.sock_tcp.specs.Timers.{idle_from, is_over, retransmit_from, rto_of}
+use Rattle.sock_tcp.specs.Rfc.TailLoss.{probes_tail, tail_probed}
 use Rattle.sock_tcp.specs.declared.scoreboard.Hole.{Hole}
 use Rattle.sock_tcp.proofs.Holes.{again_some, start_within}
 use Rattle.sock_tcp.specs.View.{View, moment_of}
@@ -33,9 +34,10 @@ use Rattle.sock_tcp.specs.declared.timer.Timer.{Timer}
 use Rattle.sock_tcp.specs.declared.timer.Timer.TheVariants as timer
 use Rattle.sock_tcp.specs.declared.tuple.Tuple.{Tuple}
 use Rattle.tcp_laws.proofs.Ordered.{IsOrdered, Row}
+use Rattle.tcp_laws.proofs.Pacing.{fast_paced, not_yet}
 use Rattle.tcp_laws.proofs.Probing.{IsProbing}
-use Rattle.sock_core.specs.Estimator.{backed_off, retransmitted}
-use Rattle.sock_tcp.proofs.Recovering.{begun_as}
+use Rattle.sock_core.specs.Estimator.{Estimator, backed_off, retransmitted}
+use Rattle.sock_tcp.proofs.Recovering.{begun_as, marked_as}
 
 -- ---- how the dispatch begins
 
@@ -54,16 +56,19 @@ idle_set : (now : Instant) (keep : Option Duration) → IsSet (idle_from now kee
 idle_set now None = tt
 idle_set now (Some d) = tt
 
-timer_settles : (t : Timer) (x : View) (now : Instant) → x.timer ≡ t → is_none x.remote_last_ts ≡ false → is_reached (timeout_poll x.timeout x.remote_last_ts) now ≡ false → Settled (after_timer t x now) now
+timed_set : (now : Instant) (e : Estimator) → 0 < e.rto → IsSet (retransmit_from now e) now
+timed_set now e h = not_yet now (rto_of e) (omega (arith, h))
+
+timer_settles : (t : Timer) (x : View) (now : Instant) → 0 < x.rtte.rto → x.timer ≡ t → is_none x.remote_last_ts ≡ false → is_reached (timeout_poll x.timeout x.remote_last_ts) now ≡ false → Settled (after_timer t x now) now
 unfolding retransmission_begun fast_retransmission_marked
-timer_settles (timer.Retransmit at) x now is known e = go (is_over at now) refl
+timer_settles (timer.Retransmit at) x now paced is known e = go (is_over at now) refl
   where
     go : (b : Bool) → is_over at now ≡ b → Settled (if b then retransmission_begun x now else x) now
     go true o = record { known = known; alive = inr (e, begun_as (λ t. IsSet t now) x.rules x.remote_win_len (length x.tx_buffer.bytes) now x.keep_alive (retransmitted (backed_off x.rtte)) (idle_set now x.keep_alive) (λ z some. tt)) }
     go false o = record { known = known; alive = inr (e, subst (λ t. IsSet t now) (sym is) o) }
-timer_settles timer.FastRetransmit x now is known e = record { known = known; alive = inr (e, idle_set now x.keep_alive) }
-timer_settles (timer.Idle at) x now is known e = record { known = known; alive = inr (e, subst (λ t. IsSet t now) (sym is) tt) }
-timer_settles (timer.ZeroWindowProbe at delay) x now is known e = go (is_over at now) x.rules
+timer_settles timer.FastRetransmit x now paced is known e = record { known = known; alive = inr (e, marked_as (λ t. IsSet t now) x.rules now x.keep_alive (retransmitted x.rtte) (idle_set now x.keep_alive) (timed_set now (retransmitted x.rtte) (fast_paced x.rtte paced))) }
+timer_settles (timer.Idle at) x now paced is known e = record { known = known; alive = inr (e, subst (λ t. IsSet t now) (sym is) tt) }
+timer_settles (timer.ZeroWindowProbe at delay) x now paced is known e = go (is_over at now) x.rules
   where
     as_it_was : IsSet x.timer now
     as_it_was = subst (λ t. IsSet t now) (sym is) tt
@@ -72,15 +77,19 @@ timer_settles (timer.ZeroWindowProbe at delay) x now is known e = go (is_over at
     go true rules.Smoltcp = record { known = known; alive = inr (e, as_it_was) }
     go true rules.Rfc = record { known = known; alive = inr (e, as_it_was) }
     go false r = record { known = known; alive = inr (e, as_it_was) }
-timer_settles (timer.Close at) x now is known e = record { known = known; alive = inr (e, subst (λ t. IsSet t now) (sym is) tt) }
+timer_settles (timer.Close at) x now paced is known e = record { known = known; alive = inr (e, subst (λ t. IsSet t now) (sym is) tt) }
 
-pub timers_settle : (x : View) (now : Instant) → is_none x.remote_last_ts ≡ false → Settled (after_timers x now) now
-unfolding after_timers
-timers_settle x now known = go (is_reached (timeout_poll x.timeout x.remote_last_ts) now) refl
+pub timers_settle : (x : View) (now : Instant) → 0 < x.rtte.rto → is_none x.remote_last_ts ≡ false → Settled (after_timers x now) now
+unfolding after_timers tail_probed
+timers_settle x now paced known = go (is_reached (timeout_poll x.timeout x.remote_last_ts) now) refl
   where
-    go : (b : Bool) → is_reached (timeout_poll x.timeout x.remote_last_ts) now ≡ b → Settled (if b then record x { state = state.Closed } else after_timer x.timer x now) now
+    probed : (b : Bool) → is_reached (timeout_poll x.timeout x.remote_last_ts) now ≡ false → Settled (timers_by b x now) now
+    probed true e = record { known = known; alive = inr (e, timed_set now (retransmitted x.rtte) (fast_paced x.rtte paced)) }
+    probed false e = timer_settles x.timer x now paced refl known e
+
+    go : (b : Bool) → is_reached (timeout_poll x.timeout x.remote_last_ts) now ≡ b → Settled (if b then record x { state = state.Closed } else timers_by (probes_tail x now) x now) now
     go true e = record { known = known; alive = inl refl }
-    go false e = timer_settles x.timer x now refl known e
+    go false e = probed (probes_tail x now) e
 
 pub readied_knows : (v : View) (now : Instant) → is_none (readied v now).remote_last_ts ≡ false
 unfolding readied last_ts_set

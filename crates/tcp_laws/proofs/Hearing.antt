@@ -1,11 +1,11 @@
 -- What a segment tells a socket that waits for its peer.
-use Rattle.std.proofs.Common.{◌≡◌, ℕ, ◌+◌, ◌-◌, ◌<◌, ◌≤◌, ◌^◌, ◌*◌, ◌⊎◌, inl, inr, Bool, true, false, refl, sym, ap, subst, ◌∙◌, List, [], length, Option, Some, arith}
+use Rattle.std.proofs.Common.{◌≡◌, ℕ, ◌+◌, ◌-◌, ◌<◌, ◌≤◌, ◌^◌, ◌*◌, ◌⊎◌, inl, inr, Bool, true, false, refl, sym, ap, subst, ◌∙◌, List, length, Option, Some, arith}
 use Rattle.std.specs.Prelude.{if◌then◌else◌, ◌==◌}
-use Rattle.std.proofs.lemmas.Bool.{and_parts, eq-eqb, eqb-true}
+use Rattle.std.proofs.lemmas.Bool.{and_parts, eqb-true}
 use Rattle.std.proofs.Math.Nat.{mul-pos}
 use Rattle.std.proofs.lemmas.Nat.{pow_pos}
 use Rattle.net_base.specs.declared.time.Duration.{Duration}
-use Rattle.control_wire.specs.Seq.{seq_eq, seq_sub}
+use Rattle.control_wire.specs.Seq.{seq_sub}
 use Rattle.sock_core.specs.Seq.{is_before, is_not_after}
 use Rattle.ip_wire.specs.declared.repr.IpRepr.{IpRepr}
 use Rattle.net_base.specs.declared.time.Instant.{Instant}
@@ -113,7 +113,7 @@ module _ (now : Instant) (s : Segment) where
 -- a fast retransmission that the tables call for
 fast_or_timed : (b : Before) (w : View) (now : Instant) → w.timer ≡ timer.FastRetransmit → Resends rules.Rfc (recovered b w now).timer
 unfolding recovered
-fast_or_timed b w now e = timer_as (Resends rules.Rfc) b w now (inl e) (inl refl) (λ at i. inr refl) (inr refl) no_probe
+fast_or_timed b w now e = timer_as (Resends rules.Rfc) b w now (inl e) (inl refl) (λ at i. inr refl) (inr refl) (inr refl) no_probe
   where
     no_probe : (at : Instant) (delay : Duration) → w.timer ≡ timer.ZeroWindowProbe at delay → Resends rules.Rfc (idle_from now w.keep_alive)
     no_probe at delay i = let no : timer.FastRetransmit ≡ timer.ZeroWindowProbe at delay = sym e ∙ i in absurd cc

@@ -1,8 +1,8 @@
 -- What each step of a call keeps is kept by any list of calls.
-use Rattle.std.proofs.Common.{◌≡◌, ℕ, zero, suc, ◌≤◌, ◌<◌, ◌^◌, Bool, true, false, true≢false, refl, sym, ap, subst, ◌∙◌, List, length, ◌+◌, Option, Some, None, Result, Ok, Err, arith}
+use Rattle.std.proofs.Common.{◌≡◌, ℕ, zero, suc, ◌≤◌, ◌<◌, ◌^◌, Bool, true, false, true≢false, ◌&&◌, refl, sym, ap, subst, ◌∙◌, List, length, ◌+◌, Option, Some, None, Result, Ok, Err, arith}
 use Rattle.std.specs.Prelude.{if◌then◌else◌, ◌==◌, pos}
 use Rattle.std.specs.Option.{ForSome}
-use Rattle.std.proofs.lemmas.Bool.{eqb-true}
+use Rattle.std.proofs.lemmas.Bool.{and_parts, eqb-true}
 use Rattle.ip_wire.specs.declared.endpoint.IpListenEndpoint.{IpListenEndpoint}
 use Rattle.ip_wire.specs.declared.repr.IpRepr.{IpRepr}
 use Rattle.net_base.specs.Ring.{Ring}
@@ -16,7 +16,7 @@ use Rattle.sock_core.specs.Received.{receiving}
 use Rattle.sock_tcp.proofs.Lending.{free_within}
 pub use Rattle.sock_tcp.proofs.KeptSegments.{acked_view, timer_then, heard_kept, KeptByAnswers, challenged_kept, outside_kept, bytes_kept, KeptByRows, rows_kept, KeptBySegments, process_kept}
 use Rattle.sock_tcp.specs.Advance.{dropped}
-use Rattle.sock_tcp.specs.Begin.{last_ts_set, last_ts_set_at, told_ready, readied, retransmission_begun, fast_retransmission_marked, after_timer, after_timers, begun, begun_to, unless_paused, ended, nothing_due, by_due, before_emit, before_emit_to, peer_of, time_wait_ended, probing_begun}
+use Rattle.sock_tcp.specs.Begin.{last_ts_set, last_ts_set_at, told_ready, readied, retransmission_begun, fast_retransmission_marked, after_timer, after_timers, begun, begun_to, unless_paused, ended, nothing_due, by_due, before_emit, before_emit_to, peer_of, time_wait_ended, probing_begun, timers_by}
 use Rattle.sock_tcp.specs.Closing.{aborted, closed}
 use Rattle.sock_tcp.specs.Content.{Sending}
 use Rattle.sock_tcp.specs.Due.{is_due}
@@ -25,6 +25,7 @@ use Rattle.sock_tcp.specs.Polls.{is_reached, timeout_poll}
 use Rattle.sock_tcp.specs.Process.{processed_by}
 use Rattle.sock_tcp.specs.Queue.{queue_of}
 use Rattle.sock_tcp.specs.Queues.{ReadsWithIf, SendsWithIf, fitting, may_recv, may_send, queued, read_off, readable}
+use Rattle.sock_tcp.specs.Rfc.TailLoss.{is_retransmission_over, may_probe, may_probe_by, probes_tail, tail_probed}
 use Rattle.sock_tcp.specs.Sent.{after_any, after_kind, after_probe, after_sending, emitted_as, left_by, sending_timed, snd_nxt_moved}
 use Rattle.sock_tcp.specs.Timers.{is_close_over, is_over, retransmit_unless_set}
 use Rattle.sock_tcp.specs.View.{View, fresh, moment_of}
@@ -68,6 +69,7 @@ pub record KeptByBeginnings (P : View → Type 0) (now : Instant) : Type 0 where
   pub begins_again : (v : View) (at : Instant) → v.timer ≡ timer.Retransmit at → P v → P (retransmission_begun v now)
   pub marks : (v : View) → v.timer ≡ timer.FastRetransmit → P v → P (fast_retransmission_marked v now)
   pub goes_back : (v : View) (at : Instant) (delay : Duration) → v.timer ≡ timer.ZeroWindowProbe at delay → P v → P (probing_begun rules.Rfc v)
+  pub probes_tail : (v : View) (at : Instant) → v.timer ≡ timer.Retransmit at → P v → P (tail_probed v now)
 
 module _ (P : View → Type 0) (now : Instant) (k : KeptByBeginnings P now) where
   pub readied_kept : (v : View) → P v → P (readied v now)
@@ -100,9 +102,14 @@ module _ (P : View → Type 0) (now : Instant) (k : KeptByBeginnings P now) wher
   unfolding after_timers
   timers_kept v h = go (is_reached (timeout_poll v.timeout v.remote_last_ts) now)
     where
-      go : (b : Bool) → P (if b then record v { state = state.Closed } else after_timer v.timer v now)
+      probed : (t : Timer) → v.timer ≡ t → (b : Bool) → (may_probe_by v.rules (may_probe v.recovery v) && is_retransmission_over t now) ≡ b → P (timers_by b v now)
+      probed (timer.Retransmit at) e true i = k.probes_tail v at e h
+      probed t e true i = absurd (true≢false (sym (and_parts (may_probe_by v.rules (may_probe v.recovery v)) (is_retransmission_over t now) i).1))
+      probed t e false i = timer_kept v.timer v refl h
+
+      go : (b : Bool) → P (if b then record v { state = state.Closed } else timers_by (probes_tail v now) v now)
       go true = k.times_out v h
-      go false = timer_kept v.timer v refl h
+      go false = probed v.timer refl (probes_tail v now) refl
 
 -- and by a reset
 module _ (P : View → Type 0) (f : Facts) (k : KeptByBeginnings P (moment_of f)) (resets : (v : View) → P v → P (renewed v)) where
@@ -182,32 +189,43 @@ pub record KeptByCalls (P : View → Type 0) (Allows : Option Duration → Type 
   pub aborts : (v : View) → P v → P (aborted v)
   pub sets : (v w : View) (x : Sets v w) → Allows (interval_set x) → P v → P w
 
-module _ (P : View → Type 0) (Allows : Option Duration → Type 0) (k : KeptByCalls P Allows) where
-  slice_kept : (v w : View) (bs : List ℕ) (b : Bool) → may_send v.state ≡ b → w ≡ (if b then queued v (fitting v (length bs)) bs else v) → P v → P w
+-- by all of them but the setters
+pub record KeptByUses (P : View → Type 0) : Type 0 where
+  pub queues : (v : View) (n : ℕ) (bs : List ℕ) → may_send v.state ≡ true → n ≤ v.tx_buffer.window → P v → P (queued v n bs)
+  pub reads : (v : View) (n : ℕ) → P v → P (read_off v n)
+  pub connects : (v : View) (t : Tuple) (word : ℕ) → word < 2 ^ 32 → P v → P (connected v t word)
+  pub listens : (v : View) (e : IpListenEndpoint) → P v → P (listened v e)
+  pub decided : (v w : View) → v.state ≡ state.Listen → ((w ≡ v → ⊥) → ⊥) → P v → P w
+
+abbrev uses : (P : View → Type 0) (Allows : Option Duration → Type 0) → KeptByCalls P Allows → KeptByUses P
+uses P Allows k = record { queues = k.queues; reads = k.reads; connects = k.connects; listens = k.listens; decided = k.decided }
+
+module _ (P : View → Type 0) (k : KeptByUses P) where
+  pub slice_kept : (v w : View) (bs : List ℕ) (b : Bool) → may_send v.state ≡ b → w ≡ (if b then queued v (fitting v (length bs)) bs else v) → P v → P w
   slice_kept v w bs true may e h = subst P (sym e) (k.queues v (fitting v (length bs)) bs may (omega arith) h)
   slice_kept v w bs false may e h = subst P (sym e) h
 
-  closure_kept : (may : Bool) (v w : View) (r : Result (Unit {0}) SendError) → may_send v.state ≡ may → SendsWithIf may any_filling v r w → P v → P w
+  pub closure_kept : (may : Bool) (v w : View) (r : Result (Unit {0}) SendError) → may_send v.state ≡ may → SendsWithIf may any_filling v r w → P v → P w
   closure_kept true v w (Ok x) may h i = subst P (sym h.view) (k.queues v h.size h.left may (omega (arith, h.size_within, free_within v.tx_buffer)) i)
   closure_kept true v w (Err e) may h i = absurd h
   closure_kept false v w (Ok x) may h i = absurd h
   closure_kept false v w (Err e) may h i = subst P (sym h.1) i
 
-  slice_read_kept : (v w : View) (n : ℕ) (b : Bool) → w ≡ (if b then read_off v n else v) → P v → P w
+  pub slice_read_kept : (v w : View) (n : ℕ) (b : Bool) → w ≡ (if b then read_off v n else v) → P v → P w
   slice_read_kept v w n true e h = subst P (sym e) (k.reads v n h)
   slice_read_kept v w n false e h = subst P (sym e) h
 
-  closure_read_kept : (may : Bool) (v w : View) (r : Result (Unit {0}) RecvError) → ReadsWithIf may any_taking v r w → P v → P w
+  pub closure_read_kept : (may : Bool) (v w : View) (r : Result (Unit {0}) RecvError) → ReadsWithIf may any_taking v r w → P v → P w
   closure_read_kept true v w (Ok x) h i = subst P (sym h.view) (k.reads v h.size i)
   closure_read_kept true v w (Err e) h i = absurd h
   closure_read_kept false v w (Ok x) h i = absurd h
   closure_read_kept false v w (Err e) h i = subst P (sym h.1) i
 
-  connect_kept : (x : Result Tuple ConnectError) (v : View) (word : ℕ) → word < 2 ^ 32 → P v → P (after_connect x v word)
+  pub connect_kept : (x : Result Tuple ConnectError) (v : View) (word : ℕ) → word < 2 ^ 32 → P v → P (after_connect x v word)
   connect_kept (Ok t) v word small h = k.connects v t word small h
   connect_kept (Err e) v word small h = h
 
-  listen_kept : (v w : View) (e : IpListenEndpoint) (r : Result (Unit {0}) ListenError) → Listens v e r w → P v → P w
+  pub listen_kept : (v w : View) (e : IpListenEndpoint) (r : Result (Unit {0}) ListenError) → Listens v e r w → P v → P w
   listen_kept v w e r l h = port (e.port == 0) refl
     where
       -- what is asked in LISTEN can be decided
@@ -238,13 +256,13 @@ pub record Kept (P : Instant → View → Type 0) (Begins : Instant → Type 0) 
 
 module _ (P : Instant → View → Type 0) (Begins : Instant → Type 0) (Comes : Instant → Instant → Type 0) (Allows : Option Duration → Type 0) (k : Kept P Begins Comes Allows) where
   pub step_kept : (v w : View) (i j : Counts) (last : Instant) (s : Step v i w j) → Begins last → ForSome (moment_in s) (Comes last) → Allows (interval_in s) → P last v → P (latest (moment_in s) last) w
-  step_kept v w i j last (Listen e r h is) b n m p = listen_kept (P last) Allows (k.calls last b) v w e r h p
-  step_kept v w i j last (Connect f word remote local small h is) b n m p = subst (P last) (sym h) (connect_kept (P last) Allows (k.calls last b) (endpoints v f remote local) v word small p)
-  step_kept v w i j last (SendSlice bs r h is) b n m p = slice_kept (P last) Allows (k.calls last b) v w bs (may_send v.state) refl h.view p
-  step_kept v w i j last (Send r h is) b n m p = closure_kept (P last) Allows (k.calls last b) (may_send v.state) v w r refl h p
-  step_kept v w i j last (WriteStr bs all h is) b n m p = slice_kept (P last) Allows (k.calls last b) v w bs (may_send v.state) refl h.view p
-  step_kept v w i j last (RecvSlice bs bs' r h is) b n m p = slice_read_kept (P last) Allows (k.calls last b) v w (readable v (length bs)) (may_recv v) h.view p
-  step_kept v w i j last (Recv r h is) b n m p = closure_read_kept (P last) Allows (k.calls last b) (may_recv v) v w r h p
+  step_kept v w i j last (Listen e r h is) b n m p = listen_kept (P last) (uses (P last) Allows (k.calls last b)) v w e r h p
+  step_kept v w i j last (Connect f word remote local small h is) b n m p = subst (P last) (sym h) (connect_kept (P last) (uses (P last) Allows (k.calls last b)) (endpoints v f remote local) v word small p)
+  step_kept v w i j last (SendSlice bs r h is) b n m p = slice_kept (P last) (uses (P last) Allows (k.calls last b)) v w bs (may_send v.state) refl h.view p
+  step_kept v w i j last (Send r h is) b n m p = closure_kept (P last) (uses (P last) Allows (k.calls last b)) (may_send v.state) v w r refl h p
+  step_kept v w i j last (WriteStr bs all h is) b n m p = slice_kept (P last) (uses (P last) Allows (k.calls last b)) v w bs (may_send v.state) refl h.view p
+  step_kept v w i j last (RecvSlice bs bs' r h is) b n m p = slice_read_kept (P last) (uses (P last) Allows (k.calls last b)) v w (readable v (length bs)) (may_recv v) h.view p
+  step_kept v w i j last (Recv r h is) b n m p = closure_read_kept (P last) (uses (P last) Allows (k.calls last b)) (may_recv v) v w r h p
   step_kept v w i j last (Close h is) b n m p = subst (P last) (sym h) ((k.calls last b).closes v p)
   step_kept v w i j last (Abort h is) b n m p = subst (P last) (sym h) ((k.calls last b).aborts v p)
   step_kept v w i j last (Set x is) b n m p = (k.calls last b).sets v w x m p

@@ -16,10 +16,14 @@ pub mod OrderedSegments
 pub mod OrderedSendings
 pub mod OrderedCalls
 pub mod Sleeping
+pub mod Ruled
+pub mod Tabled
+pub mod Awake
 pub mod Hearing
 pub mod Blind
 pub mod TimingOut
 pub mod Probing
+pub mod Pacing
 pub mod Scaled
 pub mod AckAlone
 pub mod Repeating

@@ -20,9 +20,10 @@ use Rattle.sock_tcp.specs.Queue.{capacity, queue_of}
 use Rattle.sock_tcp.specs.Queues.{first_probe, may_send, queued, read_off}
 use Rattle.sock_tcp.specs.Settings.{keep_alive_timer}
 use Rattle.tcp_laws.specs.SocketRun.{Sets}
-use Rattle.sock_tcp.proofs.Recovering.{begun_as}
+use Rattle.sock_tcp.proofs.Recovering.{begun_as, marked_as}
 use Rattle.sock_tcp.specs.Rfc.Recovery.{begun_by}
-use Rattle.sock_tcp.specs.Timers.{idle_from, is_idle, probe_from}
+use Rattle.sock_tcp.specs.Rfc.TailLoss.{tail_probed}
+use Rattle.sock_tcp.specs.Timers.{idle_from, is_idle, probe_from, retransmit_from}
 use Rattle.sock_tcp.specs.declared.rules.Rules.{Rules}
 use Rattle.sock_tcp.specs.View.{View, fresh, moment_of}
 use Rattle.tcp_laws.specs.Polling.{IsReached}
@@ -118,8 +119,36 @@ back_row state.LastAck at delay keep flight n r = (tt, omega arith)
 back_row state.FinWait2 at delay keep flight n r = (tt, r.1, refl)
 back_row state.TimeWait at delay keep flight n r = absurd cc
 
-begins_ordered : (now : Instant) → KeptByBeginnings IsOrdered now
-unfolding retransmission_begun fast_retransmission_marked
+-- or it waits for a retransmission
+timed_row : (st : State) (now : Instant) (e : Estimator) (keep : Option Duration) (flight n : ℕ) → Row st timer.FastRetransmit keep flight n → Row st (retransmit_from now e) keep flight n
+timed_row state.Closed now e keep flight n r = tt
+timed_row state.Listen now e keep flight n r = r
+timed_row state.SynSent now e keep flight n r = absurd r.0
+timed_row state.SynReceived now e keep flight n r = r
+timed_row state.Established now e keep flight n r = r
+timed_row state.CloseWait now e keep flight n r = r
+timed_row state.FinWait1 now e keep flight n r = r
+timed_row state.Closing now e keep flight n r = r
+timed_row state.LastAck now e keep flight n r = r
+timed_row state.FinWait2 now e keep flight n r = r
+timed_row state.TimeWait now e keep flight n r = absurd cc
+
+-- as it did before, until another moment
+later_row : (st : State) (at now : Instant) (e : Estimator) (keep : Option Duration) (flight n : ℕ) → Row st (timer.Retransmit at) keep flight n → Row st (retransmit_from now e) keep flight n
+later_row state.Closed at now e keep flight n r = tt
+later_row state.Listen at now e keep flight n r = r
+later_row state.SynSent at now e keep flight n r = r
+later_row state.SynReceived at now e keep flight n r = r
+later_row state.Established at now e keep flight n r = r
+later_row state.CloseWait at now e keep flight n r = r
+later_row state.FinWait1 at now e keep flight n r = r
+later_row state.Closing at now e keep flight n r = r
+later_row state.LastAck at now e keep flight n r = r
+later_row state.FinWait2 at now e keep flight n r = r
+later_row state.TimeWait at now e keep flight n r = absurd cc
+
+pub begins_ordered : (now : Instant) → KeptByBeginnings IsOrdered now
+unfolding retransmission_begun fast_retransmission_marked tail_probed
 begins_ordered now = record {
   remembers = λ v h. h;
   tells = λ v h. record { una_small = h.una_small; nxt_small = h.nxt_small; room = h.room; congestion = pre_transmitted_open _ _ h.congestion; peered = h.peered; row = h.row };
@@ -139,7 +168,15 @@ begins_ordered now = record {
     room = h.room;
     congestion = lost_open v.congestion_controller _ _ h.congestion;
     peered = h.peered;
-    row = fast_row v.state v.keep_alive now _ _ (subst (λ x. Row v.state x v.keep_alive (seq_sub v.remote_last_seq v.local_seq_no) (length v.tx_buffer.bytes)) e h.row);
+    row = marked_as (λ x. Row v.state x v.keep_alive (seq_sub v.remote_last_seq v.local_seq_no) (length v.tx_buffer.bytes)) v.rules now v.keep_alive (retransmitted v.rtte) (fast_row v.state v.keep_alive now _ _ (was v timer.FastRetransmit e h)) (timed_row v.state now (retransmitted v.rtte) v.keep_alive _ _ (was v timer.FastRetransmit e h));
+  };
+  probes_tail = λ v at e h. record {
+    una_small = h.una_small;
+    nxt_small = h.nxt_small;
+    room = h.room;
+    congestion = h.congestion;
+    peered = h.peered;
+    row = later_row v.state at now (retransmitted v.rtte) v.keep_alive _ _ (was v (timer.Retransmit at) e h);
   };
   goes_back = λ v at delay e h. record {
     una_small = h.una_small;
@@ -150,6 +187,9 @@ begins_ordered now = record {
     row = subst (λ x. Row v.state x v.keep_alive (seq_sub v.local_seq_no v.local_seq_no) (length v.tx_buffer.bytes)) (sym e) (subst (λ i. Row v.state (timer.ZeroWindowProbe at delay) v.keep_alive i (length v.tx_buffer.bytes)) (sym (no_distance v.local_seq_no h.una_small)) (back_row v.state at delay v.keep_alive _ _ (subst (λ x. Row v.state x v.keep_alive (seq_sub v.remote_last_seq v.local_seq_no) (length v.tx_buffer.bytes)) e h.row)));
   };
 }
+  where
+    was : (v : View) (t : Timer) → v.timer ≡ t → IsOrdered v → Row v.state t v.keep_alive (seq_sub v.remote_last_seq v.local_seq_no) (length v.tx_buffer.bytes)
+    was v t e h = subst (λ x. Row v.state x v.keep_alive (seq_sub v.remote_last_seq v.local_seq_no) (length v.tx_buffer.bytes)) e h.row
 
 pub timers_ordered : (v : View) (now : Instant) → IsOrdered v → IsOrdered (after_timers v now)
 timers_ordered v now h = timers_kept IsOrdered now (begins_ordered now) v h
@@ -311,7 +351,7 @@ calls_ordered = record {
 
 -- ---- any call
 
-kept_ordered : Kept (λ at. IsOrdered) (λ at. Unit {0}) (λ last now. Unit {0}) (λ d. Unit {0})
+pub kept_ordered : Kept (λ at. IsOrdered) (λ at. Unit {0}) (λ last now. Unit {0}) (λ d. Unit {0})
 kept_ordered = record {
   later = λ last now v c h. h;
   calls = λ last b. calls_ordered;

@@ -35,7 +35,7 @@ use Rattle.sock_tcp.specs.declared.verdict.Verdict.TheVariants as verdicts
 use Rattle.sock_tcp.proofs.Acking.{acked_fits, none_acked, between, fin_place_le, one_place, passes, two_guards}
 use Rattle.tcp_laws.proofs.Kept.{KeptByAnswers, bytes_kept, challenged_kept, outside_kept}
 use Rattle.tcp_laws.proofs.Ordered.{HasMoment, IsOpen, IsOrdered, IsPeeredIn, Row, is_close, acked_open, bytes_acked_open, close_stays, dup_acked_open, idle_has_moment, later_small, opened_open, partially_acked_open, left_in_flight, less_in_flight, set_has_moment, taken_open, window_open}
-use Rattle.sock_core.specs.Congestion.{bytes_acked, dup_acked, opened, partially_acked, with_remote_window}
+use Rattle.sock_core.specs.Congestion.{bytes_acked, dup_acked, opened, partially_acked}
 use Rattle.sock_tcp.specs.Due.{flight as flight_of}
 use Rattle.sock_tcp.specs.Rfc.Recovery.{before_it, before_of, controller_after, has_timer, is_news, is_opened, is_partial, is_timed_out, is_uncounted, lets_out, opens_well, recovered, told_of_bytes, waited_for}
 use Rattle.sock_tcp.specs.Rfc.Refused.{is_plain_control, refused}
@@ -483,7 +483,7 @@ module _ (now : Instant) (word : ℕ) (ip : IpRepr) (s : Segment) (small : word 
     room = i.room;
     congestion = controller_open (before_of v s) w h.congestion i.congestion;
     peered = i.peered;
-    row = row_recovers w.state (waited_for (before_of v s) w now) w.timer w.keep_alive (seq_sub w.remote_last_seq w.local_seq_no) (length w.tx_buffer.bytes) (λ m. waited_as (λ t. HasMoment t w.keep_alive) (before_of v s) w now m tt (λ at e. tt) tt (λ at delay e. idle_has_moment now w.keep_alive)) i.row;
+    row = row_recovers w.state (waited_for (before_of v s) w now) w.timer w.keep_alive (seq_sub w.remote_last_seq w.local_seq_no) (length w.tx_buffer.bytes) (λ m. waited_as (λ t. HasMoment t w.keep_alive) (before_of v s) w now m tt (λ at e. tt) tt tt (λ at delay e. idle_has_moment now w.keep_alive)) i.row;
   }
 
   verdict_ordered : (r : Rules) (v : View) → IsOrdered v → (v.state ≡ state.Listen → s.ack_number ≡ None) → (x : Verdict) → verdict_of v s.control s.ack_number ≡ x → IsOrdered (by_verdict r x v (arrival now (tuple_of ip s) word s)).view

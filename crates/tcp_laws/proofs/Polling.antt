@@ -1,5 +1,5 @@
 -- Where `poll_at` answers later than now, a dispatch at now emits nothing.
-use Rattle.std.proofs.Common.{◌≡◌, Bool, true, false, not, Option, Some, None, is_none, refl, sym, ap, subst, ◌∙◌, arith}
+use Rattle.std.proofs.Common.{◌≡◌, Bool, true, false, not, ◌&&◌, Option, Some, None, is_none, refl, sym, ap, subst, ◌∙◌, arith}
 use Rattle.std.proofs.lemmas.Option.{same_Some}
 use Rattle.std.specs.Prelude.{◌||◌, if◌then◌else◌, int_le, ◌<ℤ◌}
 use Rattle.std.proofs.lemmas.Bool.{or_parts}
@@ -17,6 +17,7 @@ use Rattle.sock_tcp.specs.Opening.{renewed}
 use Rattle.sock_tcp.specs.Poll.{is_due_now, poll_moment_to, poll_moment}
 use Rattle.tcp_laws.specs.Polling.{PollHidesNothing}
 use Rattle.sock_tcp.specs.Polls.{is_reached, earlier, timer_poll, timeout_poll, IsLater}
+use Rattle.sock_tcp.specs.Rfc.TailLoss.{is_retransmission_over, may_probe, may_probe_by, probes_tail}
 use Rattle.sock_tcp.specs.Timers.{is_over, is_keep_alive_over, is_probe_over}
 use Rattle.sock_tcp.specs.View.{View, moment_of}
 use Rattle.sock_tcp.specs.declared.timer.Timer.{Timer}
@@ -66,6 +67,20 @@ no_effect (timer.Idle o) v now h = refl
 no_effect (timer.ZeroWindowProbe t delay) v now h = rw (not_over t now h) refl
 no_effect (timer.Close t) v now h = refl
 
+no_over : (m : Timer) (now : Instant) → IsLater (timer_poll m) now → is_retransmission_over m now ≡ false
+no_over (timer.Retransmit t) now h = not_over t now h
+no_over timer.FastRetransmit now h = absurd h
+no_over (timer.Idle o) now h = refl
+no_over (timer.ZeroWindowProbe t delay) now h = refl
+no_over (timer.Close t) now h = refl
+
+no_tail : (v : View) (now : Instant) → IsLater (timer_poll v.timer) now → probes_tail v now ≡ false
+no_tail v now h = by (may_probe_by v.rules (may_probe v.recovery v))
+  where
+    by : (b : Bool) → (b && is_retransmission_over v.timer now) ≡ false
+    by true = no_over v.timer now h
+    by false = refl
+
 -- ---- the beginning changes nothing
 
 same_last_ts_set : (o : Option Instant) (v : View) (now : Instant) → is_none o ≡ false → last_ts_set_at o v now ≡ v
@@ -85,7 +100,7 @@ same_readied v now known =
 
 same_timers : (v : View) (now : Instant) → IsLater (timer_poll v.timer) now → IsLater (timeout_poll v.timeout v.remote_last_ts) now → after_timers v now ≡ v
 unfolding after_timers
-same_timers v now m u = rw (not_reached (timeout_poll v.timeout v.remote_last_ts) now u) (no_effect v.timer v now m)
+same_timers v now m u = rw (not_reached (timeout_poll v.timeout v.remote_last_ts) now u) (rw (no_tail v now m) (no_effect v.timer v now m))
 
 same_begun : (v : View) (now : Instant) → is_none v.remote_last_ts ≡ false → IsLater (timer_poll v.timer) now → IsLater (timeout_poll v.timeout v.remote_last_ts) now → after_timers (readied v now) now ≡ v
 same_begun v now known m u = ap (λ (w : View). after_timers w now) (same_readied v now known) ∙ same_timers v now m u

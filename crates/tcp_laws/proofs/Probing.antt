@@ -14,6 +14,7 @@ use Rattle.sock_tcp.specs.Process.{close_restarted, timer_restarted}
 use Rattle.sock_tcp.specs.Queues.{first_probe, queued, read_off}
 use Rattle.sock_tcp.specs.Replies.{ack_kept}
 use Rattle.sock_tcp.specs.Rfc.Recovery.{before_of, recovered}
+use Rattle.sock_tcp.specs.Rfc.TailLoss.{tail_probed}
 use Rattle.sock_tcp.specs.Sent.{after_any, after_probe, snd_nxt_moved}
 use Rattle.sock_tcp.specs.Settings.{keep_alive_timer}
 use Rattle.sock_tcp.specs.Steps.{window_taken, released, ack_heard, duplicate_counted, ack_counted, una_advanced, timestamp_taken, timer_set, timer_acked, probe_ended, probe_set, begins_probe, heard, joined, ack_delayed}
@@ -27,7 +28,7 @@ use Rattle.sock_tcp.specs.declared.timer.Timer.{Timer}
 use Rattle.sock_tcp.specs.declared.timer.Timer.TheVariants as timer
 use Rattle.tcp_laws.specs.Polling.{IsReached}
 use Rattle.tcp_laws.specs.SocketRun.{Sets}
-use Rattle.sock_tcp.proofs.Recovering.{begun_as, timer_as}
+use Rattle.sock_tcp.proofs.Recovering.{begun_as, marked_as, timer_as}
 use Rattle.tcp_laws.proofs.Kept.{Kept, KeptByBeginnings, KeptByCalls, KeptByRows, KeptBySegments, KeptBySending, acked_view, before_kept, heard_kept, process_kept, reached_kept, sends_kept, timer_then}
 use Rattle.tcp_laws.proofs.SocketSteps.{same_number, setting_leaves}
 
@@ -136,7 +137,7 @@ module _ (s : Segment) (now : Instant) where
     rows = rows_probing word;
     joins = λ w o bs h. h;
     hears = λ u a h. heard_probing u a h;
-    recovers = λ v w h i. record { window = timer_as (λ t. ProbesIn t w.remote_win_len) (before_of v s) w now i.window tt (λ at e. tt) tt (λ at delay e. idle_probes now w.keep_alive w.remote_win_len); mss = i.mss };
+    recovers = λ v w h i. record { window = timer_as (λ t. ProbesIn t w.remote_win_len) (before_of v s) w now i.window tt (λ at e. tt) tt tt (λ at delay e. idle_probes now w.keep_alive w.remote_win_len); mss = i.mss };
   }
 
 -- ---- a dispatch
@@ -147,15 +148,16 @@ new_probing v = record { window = tt; mss = omega arith }
 
 module _ (now : Instant) where
   begins_probing : KeptByBeginnings IsProbing now
-  unfolding retransmission_begun fast_retransmission_marked
+  unfolding retransmission_begun fast_retransmission_marked tail_probed
   begins_probing = record {
     remembers = λ v h. h;
     tells = λ v h. h;
     times_out = λ v h. h;
     forgets = λ v h. h;
     begins_again = λ v at e h. record { window = begun_as (λ t. ProbesIn t v.remote_win_len) v.rules v.remote_win_len (length v.tx_buffer.bytes) now v.keep_alive (retransmitted (backed_off v.rtte)) (idle_probes now v.keep_alive v.remote_win_len) (λ z some. z); mss = h.mss };
-    marks = λ v e h. record { window = idle_probes now v.keep_alive v.remote_win_len; mss = h.mss };
+    marks = λ v e h. record { window = marked_as (λ t. ProbesIn t v.remote_win_len) v.rules now v.keep_alive (retransmitted v.rtte) (idle_probes now v.keep_alive v.remote_win_len) tt; mss = h.mss };
     goes_back = λ v at delay e h. record { window = h.window; mss = h.mss };
+    probes_tail = λ v at e h. record { window = tt; mss = h.mss };
   }
 
   sends_probing : KeptBySending IsProbing now
@@ -221,7 +223,7 @@ calls_probing = record {
 
 -- ---- any call
 
-kept_probing : Kept (λ at. IsProbing) (λ at. Unit {0}) (λ last now. Unit {0}) (λ d. Unit {0})
+pub kept_probing : Kept (λ at. IsProbing) (λ at. Unit {0}) (λ last now. Unit {0}) (λ d. Unit {0})
 kept_probing = record {
   later = λ last now v c h. h;
   calls = λ last b. calls_probing;

@@ -44,6 +44,7 @@ use Rattle.tcp_laws.specs.Repeating.{AcksRepeatOnlySo, IsAckAlone, WantsAnother,
 use Rattle.tcp_laws.proofs.DispatchFrames.{readied_keeps, timers_keep}
 use Rattle.tcp_laws.proofs.Ordered.{IsOrdered, Row, is_close}
 use Rattle.tcp_laws.proofs.OrderedCalls.{before_ordered, reached_ordered}
+use Rattle.tcp_laws.proofs.Pacing.{reached_paced, readied_paced}
 use Rattle.tcp_laws.proofs.Probing.{IsProbing, ProbesIn, before_probing, reached_probing}
 use Rattle.tcp_laws.proofs.SocketSteps.{holds_after}
 use Rattle.tcp_laws.proofs.AckAlone.{AckOf, IsSet, NothingDue, RstOrAck, Sends, Settled, goes, readied_knows, rst_or_ack, timers_settle}
@@ -245,7 +246,7 @@ module _ (u : View) (now : Instant) (b : Segment) (a : AckOf u b) (o : IsOrdered
   later_same : (x y : TcpSeqNumber) → is_before x y ≡ true → x ≡ y ⊎ (2 ^ 31 ≤ seq_sub x y)
   later_same x y e = inr (far x y e)
 
-  nxt_stays : later_of u.remote_last_seq (seq_add b.seq_number (segment_len b)) ≡ u.remote_last_seq
+  pub nxt_stays : later_of u.remote_last_seq (seq_add b.seq_number (segment_len b)) ≡ u.remote_last_seq
   unfolding later_of
   nxt_stays = by a.tells.number
     where
@@ -268,6 +269,7 @@ module _ (u : View) (now : Instant) (b : Segment) (a : AckOf u b) (o : IsOrdered
   limited_stays rules.Smoltcp c = refl
   limited_stays rules.Rfc recovery.Open = refl
   limited_stays rules.Rfc (recovery.Fast point high_rxt resent_at) = refl
+  limited_stays rules.Rfc (recovery.Probe start end) = refl
   limited_stays rules.Rfc (recovery.Timeout point) = refl
 
   left_as : LeftAs u plain_left now
@@ -402,7 +404,7 @@ acks_repeat_only_so v u w f out r lawful h alone reached =
     let at : u ≡ after_timers (readied v (moment_of f)) (moment_of f) = sym (ap (λ (x : Begun). x.view) h.begins) ∙ goes v f h.peer (ap peer_of h.begins ∙ h.to) in
     let o : IsOrdered u = subst IsOrdered (ap (λ (x : Begun). x.view) h.begins) (before_ordered f v (reached_ordered v r)) in
     let q : IsProbing u = subst IsProbing (ap (λ (x : Begun). x.view) h.begins) (before_probing f v (reached_probing v r)) in
-    let settled : Settled u (moment_of f) = subst (λ x. Settled x (moment_of f)) (sym at) (timers_settle (readied v (moment_of f)) (moment_of f) (readied_knows v (moment_of f))) in
+    let settled : Settled u (moment_of f) = subst (λ x. Settled x (moment_of f)) (sym at) (timers_settle (readied v (moment_of f)) (moment_of f) (readied_paced v (moment_of f) (reached_paced v r)) (readied_knows v (moment_of f))) in
     let rx : u.rx_buffer ≡ v.rx_buffer = ap (λ (x : View). x.rx_buffer) at ∙ (timers_keep (readied v (moment_of f)) (moment_of f)).rx ∙ (readied_keeps v (moment_of f)).rx in
     let own = (holds_after r.rx r.tx v r.counts r.rx_size r.run).room in
     let same : room_of u.rx_buffer ≡ room_of v.rx_buffer = ap room_of rx in

@@ -67,12 +67,12 @@ pub record Quiet (v : View) (t : Tuple) (f : Facts) : Type 0 where
   pub not_closed : is_closed v.state ≡ false
 
 -- one whose `poll_at` answers `Ingress`
-record Waits (v : View) (t : Tuple) (f : Facts) : Type 0 where
-  quiet : Quiet v t f
-  timeout : v.timeout ≡ None
-  no_ack : ack_due v ≡ false
+pub record Waits (v : View) (t : Tuple) (f : Facts) : Type 0 where
+  pub quiet : Quiet v t f
+  pub timeout : v.timeout ≡ None
+  pub no_ack : ack_due v ≡ false
 
-waits : (v : View) (t : Tuple) (f : Facts) → poll_moment_to (Some t) v f ≡ poll.Ingress → Waits v t f
+pub waits : (v : View) (t : Tuple) (f : Facts) → poll_moment_to (Some t) v f ≡ poll.Ingress → Waits v t f
 waits v t f e = go (is_due_now v t f) refl e
   where
     p : PollAt
@@ -95,7 +95,7 @@ waits v t f e = go (is_due_now v t f) refl e
 -- ---- what is not due
 
 -- a SYN that counts as unsent is due
-syn_due : (v : View) (t : Tuple) (f : Facts) → is_opening v.state ≡ true → flight v ≡ 0 → data_due v t f ≡ false → ⊥
+pub syn_due : (v : View) (t : Tuple) (f : Facts) → is_opening v.state ≡ true → flight v ≡ 0 → data_due v t f ≡ false → ⊥
 unfolding data_due
 syn_due v t f o z e =
     let a = or_parts ((v.pending_fast_retransmit && not (length v.tx_buffer.bytes == 0)) || (not (sendable v == 0) && not (is_held_back v (effective_mss v t f)))) _ e in
@@ -123,7 +123,7 @@ data_goes v t f e z = go (sendable v == 0) refl
     go false i = absurd (true≢false (sym (rw (i, not_held) refl) ∙ some))
 
 -- a FIN at SND.NXT is due
-fin_due : (v : View) (t : Tuple) (f : Facts) → is_closing v.state ≡ true → v.local_seq_no.0 < 2 ^ 32 → v.remote_last_seq.0 < 2 ^ 32 → flight v ≡ 0 → length v.tx_buffer.bytes ≡ 0 → data_due v t f ≡ false → ⊥
+pub fin_due : (v : View) (t : Tuple) (f : Facts) → is_closing v.state ≡ true → v.local_seq_no.0 < 2 ^ 32 → v.remote_last_seq.0 < 2 ^ 32 → flight v ≡ 0 → length v.tx_buffer.bytes ≡ 0 → data_due v t f ≡ false → ⊥
 unfolding data_due
 fin_due v t f o hu hn z n e =
     let a = or_parts ((v.pending_fast_retransmit && not (length v.tx_buffer.bytes == 0)) || (not (sendable v == 0) && not (is_held_back v (effective_mss v t f)))) _ e in
@@ -222,7 +222,7 @@ keep_alive_wakes v t d f r p k e =
     let w = waits v t f (subst (λ o. poll_moment_to o v f ≡ poll.Ingress) p e) in
     none-some d (sym (no_moment v t f (reached_ordered v r) w.quiet v.state refl p) ∙ k)
 
-no_peer : (st : State) (peer empty paused : Bool) → (peer ≡ true → ⊥) → works_in st peer empty paused ≡ true → IsPeeredIn st None → ⊥
+pub no_peer : (st : State) (peer empty paused : Bool) → (peer ≡ true → ⊥) → works_in st peer empty paused ≡ true → IsPeeredIn st None → ⊥
 no_peer state.Closed peer empty paused nr e p = nr e
 no_peer state.Listen peer empty paused nr e p = absurd cc
 no_peer _ peer empty paused nr e p = absurd cc

@@ -13,6 +13,7 @@ use Rattle.sock_tcp.specs.Content.{Sending, asked, content, emission_kind, fille
 use Rattle.sock_tcp.specs.Due.{data_due, effective_mss, flight, is_closing, is_due, is_held_back, is_opening, sendable}
 use Rattle.sock_tcp.specs.Polls.{is_reached, timeout_poll}
 use Rattle.sock_tcp.specs.Queue.{IsLent, Queue}
+use Rattle.sock_tcp.specs.Rfc.TailLoss.{probes_tail}
 use Rattle.sock_tcp.specs.View.{View, moment_of}
 use Rattle.sock_tcp.specs.declared.emission.Kind.{Kind}
 use Rattle.sock_tcp.specs.declared.emission.Kind.TheVariants as kind
@@ -113,14 +114,15 @@ record StillOf (v x : View) : Type 0 where
   window : x.remote_win_len ≡ v.remote_win_len
   una : x.local_seq_no ≡ v.local_seq_no
   tuple : x.tuple ≡ v.tuple
+  tail : (m : Instant) → probes_tail x m ≡ probes_tail v m
 
 readied_still : (v : View) (now : Instant) → StillOf v (readied v now)
 unfolding readied last_ts_set
 readied_still v now = go v.remote_last_ts
   where
     go : (o : Option Instant) → StillOf v (told_ready (last_ts_set_at o v now) now)
-    go None = record { timer = refl; timeout = refl; state = refl; tx = refl; window = refl; una = refl; tuple = refl }
-    go (Some at) = record { timer = refl; timeout = refl; state = refl; tx = refl; window = refl; una = refl; tuple = refl }
+    go None = record { timer = refl; timeout = refl; state = refl; tx = refl; window = refl; una = refl; tuple = refl; tail = λ m. refl }
+    go (Some at) = record { timer = refl; timeout = refl; state = refl; tx = refl; window = refl; una = refl; tuple = refl; tail = λ m. refl }
 
 -- in SYN-RECEIVED nothing waits
 not_paused : (st : State) (t : Timer) (keep : Option Duration) (i n : ℕ) (b : Bool) → Row st t keep i n → (0 < n) ⊎ (is_closing st ≡ true) → is_paused st b ≡ false
@@ -143,10 +145,13 @@ module _ (v : View) (t : Tuple) (f : Facts) (r : IsReached v) (h : IsRetransmiss
 
   begins_is : after_timers x now ≡ u
   unfolding after_timers
-  begins_is = rw (alive, timed, h.over) refl
+  begins_is = rw (alive, quiet, timed, h.over) refl
     where
       alive : is_reached (timeout_poll x.timeout x.remote_last_ts) now ≡ false
       alive = ap (λ d. is_reached (timeout_poll d x.remote_last_ts) now) still.timeout ∙ h.alive
+
+      quiet : probes_tail x now ≡ false
+      quiet = still.tail now ∙ h.no_probe
 
       timed : x.timer ≡ timer.Retransmit h.at
       timed = still.timer ∙ h.timer

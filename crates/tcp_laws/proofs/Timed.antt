@@ -14,6 +14,7 @@ use Rattle.sock_tcp.specs.Process.{close_restarted}
 use Rattle.sock_tcp.specs.Queues.{first_probe, queued, read_off}
 use Rattle.sock_tcp.specs.Replies.{ack_kept}
 use Rattle.sock_tcp.specs.Rfc.Recovery.{before_of, is_opened, recovered}
+use Rattle.sock_tcp.specs.Rfc.TailLoss.{is_alone, tail_probed}
 use Rattle.sock_tcp.specs.Sent.{after_any, after_probe, snd_nxt_moved}
 use Rattle.sock_tcp.specs.Settings.{keep_alive_timer}
 use Rattle.sock_tcp.specs.Steps.{is_duplicate, is_window_changed, window_taken, released, ack_heard, duplicate_counted, ack_counted, una_advanced, acknowledged, timestamp_taken, timer_set, timer_acked, heard, joined, ack_delayed}
@@ -27,11 +28,11 @@ use Rattle.tcp_laws.specs.Clocks.{IsAtMost, interval_set}
 use Rattle.tcp_laws.specs.SocketRun.{Sets}
 use Rattle.tcp_laws.specs.SocketRun.{SetCongestionControl, SetTimeout, SetAckDelay, SetNagle, SetKeepAlive, SetHopLimit, PauseSynAck, SetTsvalGenerator, SetRules, SetMinRto}
 use Rattle.sock_core.specs.Estimator.{backed_off, retransmitted}
-use Rattle.sock_tcp.proofs.Recovering.{begun_as, timer_as}
+use Rattle.sock_tcp.proofs.Recovering.{begun_as, marked_as, timer_as}
 use Rattle.tcp_laws.proofs.Kept.{Kept, KeptByBeginnings, KeptByCalls, KeptByRows, KeptBySegments, KeptBySending, process_kept, sends_kept}
 use Rattle.tcp_laws.proofs.SocketSteps.{same_number}
 use Rattle.tcp_laws.proofs.OrderedCalls.{same_flag}
-use Rattle.tcp_laws.proofs.Moments.{IsTimed, acked_by, acked_short, again_short, and_true, bounded_short, close_by, delayed_by, doubled_by, fast_short, idle_by, is_by, is_delay_by, is_short, is_timer_by, later_timed, opened_short, probe_by, renewed_by, restarted_by, rto_by, sent_short, set_by, timed_by}
+use Rattle.tcp_laws.proofs.Moments.{IsTimed, acked_by, acked_short, again_short, and_true, bounded_short, close_by, delayed_by, doubled_by, fast_short, idle_by, is_by, is_delay_by, is_short, is_timer_by, later_timed, opened_short, probe_by, renewed_by, restarted_by, rto_by, sent_short, set_by, tail_by, timed_by}
 
 module _ (most : Duration) (minute : 60000000 ≤ most.micros) where
   -- ---- a segment
@@ -88,7 +89,7 @@ module _ (most : Duration) (minute : 60000000 ≤ most.micros) where
       rows = rows_timed word;
       joins = λ w o bs h. delayed_timed w o bs h;
       hears = λ u a h. heard_timed u a h;
-      recovers = λ v w h i. record { timer = timer_as (λ t. is_timer_by now most t ≡ true) (before_of v s) w now i.timer refl (λ at e. sym (ap (is_timer_by now most) e) ∙ h.timer) (rto_by most minute now w.rtte i.timeout) (λ at delay e. idle_by most minute now w.keep_alive i.keep_short); waits = i.waits; timeout = opened_short (is_opened (before_of v s) w) w.rtte i.timeout; keep_short = i.keep_short; delay_short = i.delay_short };
+      recovers = λ v w h i. record { timer = timer_as (λ t. is_timer_by now most t ≡ true) (before_of v s) w now i.timer refl (λ at e. sym (ap (is_timer_by now most) e) ∙ h.timer) (rto_by most minute now w.rtte i.timeout) (tail_by most minute now w.rtte (is_alone w) i.timeout) (λ at delay e. idle_by most minute now w.keep_alive i.keep_short); waits = i.waits; timeout = opened_short (is_opened (before_of v s) w) w.rtte i.timeout; keep_short = i.keep_short; delay_short = i.delay_short };
     }
 
   -- ---- a reset
@@ -101,15 +102,16 @@ module _ (most : Duration) (minute : 60000000 ≤ most.micros) where
 
   module _ (now : Instant) where
     begins_timed : KeptByBeginnings (IsTimed now most) now
-    unfolding retransmission_begun fast_retransmission_marked
+    unfolding retransmission_begun fast_retransmission_marked tail_probed
     begins_timed = record {
       remembers = λ v h. h;
       tells = λ v h. h;
       times_out = λ v h. h;
       forgets = λ v h. h;
       begins_again = λ v at e h. record { timer = begun_as (λ t. is_timer_by now most t ≡ true) v.rules v.remote_win_len (length v.tx_buffer.bytes) now v.keep_alive (retransmitted (backed_off v.rtte)) (idle_by most minute now v.keep_alive h.keep_short) (λ z some. probe_by most minute now (retransmitted (backed_off v.rtte)) (again_short v.rtte h.timeout)); waits = h.waits; timeout = again_short v.rtte h.timeout; keep_short = h.keep_short; delay_short = h.delay_short };
-      marks = λ v e h. record { timer = idle_by most minute now v.keep_alive h.keep_short; waits = h.waits; timeout = fast_short v.rtte h.timeout; keep_short = h.keep_short; delay_short = h.delay_short };
+      marks = λ v e h. record { timer = marked_as (λ t. is_timer_by now most t ≡ true) v.rules now v.keep_alive (retransmitted v.rtte) (idle_by most minute now v.keep_alive h.keep_short) (rto_by most minute now (retransmitted v.rtte) (fast_short v.rtte h.timeout)); waits = h.waits; timeout = fast_short v.rtte h.timeout; keep_short = h.keep_short; delay_short = h.delay_short };
       goes_back = λ v at delay e h. record { timer = h.timer; waits = h.waits; timeout = fast_short v.rtte h.timeout; keep_short = h.keep_short; delay_short = h.delay_short };
+      probes_tail = λ v at e h. record { timer = rto_by most minute now (retransmitted v.rtte) (fast_short v.rtte h.timeout); waits = h.waits; timeout = fast_short v.rtte h.timeout; keep_short = h.keep_short; delay_short = h.delay_short };
     }
 
     sends_timed : KeptBySending (IsTimed now most) now

@@ -2,6 +2,7 @@ pub mod Laws
 pub mod SocketRun
 pub mod SocketBytes
 pub mod Polling
+pub mod Awake
 pub mod Waking
 pub mod Blind
 pub mod Repeating

@@ -7,6 +7,7 @@ use Rattle.sock_tcp.specs.Begin.{before_emit, readied, peer_of}
 use Rattle.sock_tcp.specs.Content.{Sending}
 use Rattle.sock_tcp.specs.Due.{data_due}
 use Rattle.sock_tcp.specs.Polls.{is_reached, timeout_poll}
+use Rattle.sock_tcp.specs.Rfc.TailLoss.{probes_tail}
 use Rattle.sock_tcp.specs.Timers.{is_over}
 use Rattle.sock_tcp.specs.View.{View, moment_of}
 use Rattle.sock_tcp.specs.declared.state.State.TheVariants as state
@@ -26,7 +27,8 @@ DueDataGoesOut = (v u w : View) (f : Facts) (out : Sending)
     → data_due u h.peer f ≡ true
     → 0 < segment_len out.segment
 
--- the retransmission timer of a socket with a peer is over, and its address is there; the user timeout is not over
+-- the retransmission timer of a socket with a peer is over, and its address is there; the user timeout is not over, and
+-- by the RFCs' rules no tail-loss probe goes out first
 pub record IsRetransmissionOver (v : View) (t : Tuple) (f : Facts) : Type 0 where
   pub peer : v.tuple ≡ Some t
   pub address : f.has_address t.local.addr ≡ true
@@ -34,6 +36,7 @@ pub record IsRetransmissionOver (v : View) (t : Tuple) (f : Facts) : Type 0 wher
   pub at : Instant
   pub timer : v.timer ≡ timer.Retransmit at
   pub over : is_over at (moment_of f) ≡ true
+  pub no_probe : probes_tail v (moment_of f) ≡ false
 
 -- the dispatch comes to its emit as u, with data due from SND.UNA on
 pub record BeginsAgain (v : View) (t : Tuple) (f : Facts) : Type 0 where

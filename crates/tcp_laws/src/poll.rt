@@ -5,6 +5,7 @@ ghost use Rattle.sock_tcp.specs.View.{moment_of};
 ghost use Rattle.sock_tcp.specs.Polls.{IsLater};
 ghost use Rattle.sock_tcp.specs.Dispatch.{Dispatches};
 ghost use Rattle.sock_tcp.specs.Poll.{poll_moment};
+ghost use Rattle.tcp_laws.specs.Awake.{NeverSleeps};
 ghost use Rattle.tcp_laws.specs.Blind.{BlindSegmentsChangeNothing};
 ghost use Rattle.tcp_laws.specs.Clocks.{KeepAliveIsBounded, WakeUpIsBounded};
 ghost use Rattle.tcp_laws.specs.Repeating.{AcksRepeatOnlySo};
@@ -54,6 +55,14 @@ pub fn payload_keeps_to_windows()
 /// nothing is and the peer's window is 0.
 pub fn sleeps_only_so()
     ensures { SleepsOnlySo }
+{}
+
+/// With the RFCs' rules a socket with work to do never waits for a segment alone: `poll_at` does not answer `Ingress`;
+/// after any list of calls on a new socket, as its functions have them (each segment is processed by the rules that the
+/// socket has, an open socket keeps its rules, and contexts tell lawful facts), over any two buffers of at most 2^30
+/// bytes, with any segments that `accepts` lets in.
+pub fn never_sleeps_by_rfc()
+    ensures { NeverSleeps }
 {}
 
 /// Without work to do a socket that is not CLOSED has an empty transmit queue, after any list of calls as above.
@@ -144,7 +153,7 @@ pub fn due_data_goes_out()
 {}
 
 /// A dispatch once the retransmission timer is over, while the peer has a window and bytes or a FIN wait, has data due
-/// from SND.UNA on (RFC 6298, section 5, rule 5.4).
+/// from SND.UNA on (RFC 6298, section 5, rule 5.4), unless by the RFCs' rules a tail-loss probe goes out first.
 pub fn retransmission_begins()
     ensures { RetransmissionBegins }
 {}

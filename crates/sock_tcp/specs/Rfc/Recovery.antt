@@ -20,6 +20,7 @@ use Rattle.sock_tcp.specs.Content.{again_from, carries_data, next_hole}
 use Rattle.sock_tcp.specs.Due.{flight, is_opening}
 use Rattle.sock_tcp.specs.Inside.{Outcome}
 use Rattle.sock_tcp.specs.Rfc.Scoreboard.{all_told, any_news, highest_told, is_blank, moved, nothing_told}
+use Rattle.sock_tcp.specs.Rfc.TailLoss.{is_alone, may_probe, tail_waits}
 use Rattle.sock_tcp.specs.Steps.{is_duplicate}
 use Rattle.sock_tcp.specs.Timers.{idle_from, probe_from, retransmit_from}
 use Rattle.sock_tcp.specs.View.{View}
@@ -51,6 +52,7 @@ repeats_by (Some ack) v c n = is_bare_control c && is_duplicate v ack n false
 -- the highest number that was sent, and not before SND.NXT
 abbrev pub highest_of : Recovery → TcpSeqNumber → TcpSeqNumber
 highest_of recovery.Open nxt = nxt
+highest_of (recovery.Probe start end) nxt = nxt
 highest_of (recovery.Fast point high_rxt resent_at) nxt = later_of nxt point
 highest_of (recovery.Timeout point) nxt = later_of nxt point
 
@@ -124,9 +126,27 @@ is_early b w =
     is_counted b w && (nat_le (length w.tx_buffer.bytes) (flight w)
     && (nat_lt (segments_out w) 4 && (w.local_rx_dup_acks + 1 == segments_out w)))
 
+-- what the peer told, from SND.UNA on
+abbrev pub sacked_after : Before → View → Scoreboard
+sacked_after b w =
+    if carries_data w.state then moved b.sacked (seq_sub w.local_seq_no b.una) else nothing_told
+
+-- it tells something new, and acknowledges nothing
+abbrev pub only_tells : Before → View → Bool
+only_tells b w = b.telling && not (is_news b w)
+
+-- all up to the end of what went out as a probe, or before it (RFC 8985, section 7.3)
+abbrev pub is_told_to_end : Recovery → Scoreboard → TcpSeqNumber → Bool
+is_told_to_end (recovery.Probe start end) k una = nat_le (seq_sub end una) (highest_told k)
+is_told_to_end _ k una = false
+
+-- a tail-loss probe shows a hole
+abbrev pub is_probe_told : Before → View → Bool
+is_probe_told b w = only_tells b w && is_told_to_end b.recovery (sacked_after b w) w.local_seq_no
+
 -- the third duplicate, or an earlier one that suffices
 abbrev pub tells_loss : Before → View → Bool
-tells_loss b w = is_called b w || ((is_uncounted b w && (b.duplicates == 2)) || is_early b w)
+tells_loss b w = is_called b w || ((is_uncounted b w && (b.duplicates == 2)) || (is_early b w || is_probe_told b w))
 
 abbrev pub duplicates_after : Before → View → ℕ
 duplicates_after b w = if is_uncounted b w then min (b.duplicates + 1) 255 else w.local_rx_dup_acks
@@ -143,6 +163,7 @@ is_partial b w = is_partial_in b.recovery (is_news b w) w.local_seq_no
 
 abbrev pub is_over : Recovery → Bool
 is_over recovery.Open = true
+is_over (recovery.Probe start end) = true
 is_over _ = false
 
 -- there are bytes to send again
@@ -152,11 +173,6 @@ may_resend w = carries_data w.state && not (length w.tx_buffer.bytes == 0)
 -- duplicates begin a recovery, where none goes on
 abbrev pub begins : Before → View → Bool
 begins b w = may_resend w && (tells_loss b w && is_over b.recovery)
-
--- what the peer told, from SND.UNA on
-abbrev pub sacked_after : Before → View → Scoreboard
-sacked_after b w =
-    if carries_data w.state then moved b.sacked (seq_sub w.local_seq_no b.una) else nothing_told
 
 -- there is a hole that was not sent again in this recovery
 abbrev pub has_hole : Recovery → Scoreboard → TcpSeqNumber → Bool
@@ -171,10 +187,6 @@ is_sent_again _ una = false
 abbrev pub shows_hole : Recovery → Scoreboard → TcpSeqNumber → Bool
 shows_hole r k una = has_hole r k una || (is_blank k || not (is_sent_again r una))
 
--- it tells something new, and acknowledges nothing
-abbrev pub only_tells : Before → View → Bool
-only_tells b w = b.telling && not (is_news b w)
-
 -- the segment at SND.UNA was sent again, and lost again: more than two segments of what was sent behind it were told
 -- (as IsLost of RFC 6675, section 4, which is of what was sent once)
 abbrev pub is_lost_in : Recovery → Scoreboard → TcpSeqNumber → ℕ → Bool
@@ -185,13 +197,14 @@ is_lost_in _ k una mss = false
 abbrev pub is_lost_again : Before → View → Bool
 is_lost_again b w = only_tells b w && is_lost_in b.recovery (sacked_after b w) w.local_seq_no w.remote_mss
 
--- where SND.UNA has moved, what is told next is measured from now on; where a segment was lost again, holes go out
+-- where SND.UNA has moved, no probe is out any longer, and what is told next is measured from now on; where a segment was lost again, holes go out
 -- again from SND.UNA on
 abbrev pub again_by : Bool → Bool → Recovery → TcpSeqNumber → TcpSeqNumber → Recovery
 again_by true lost (recovery.Fast point high_rxt resent_at) una nxt =
     recovery.Fast point high_rxt (highest_of (recovery.Fast point high_rxt resent_at) nxt)
 again_by false true (recovery.Fast point high_rxt resent_at) una nxt =
     recovery.Fast point una (highest_of (recovery.Fast point high_rxt resent_at) nxt)
+again_by true lost (recovery.Probe start end) una nxt = recovery.Open
 again_by _ _ r una nxt = r
 
 abbrev pub again : Before → View → Recovery
@@ -215,6 +228,7 @@ reached_by una r point = if is_before una point then r else recovery.Open
 
 abbrev pub gone_on : Recovery → TcpSeqNumber → Recovery
 gone_on recovery.Open una = recovery.Open
+gone_on (recovery.Probe start end) una = recovery.Probe start end
 gone_on (recovery.Fast point high_rxt resent_at) una =
     reached_by una (recovery.Fast point high_rxt resent_at) point
 gone_on (recovery.Timeout point) una = reached_by una (recovery.Timeout point) point
@@ -286,11 +300,16 @@ running (timer.ZeroWindowProbe at delay) sent queued keep e now =
     else timer.ZeroWindowProbe at delay
 running t sent queued keep e now = t
 
+-- where something new is acknowledged, and bytes are still in flight, a tail-loss probe is waited for
+abbrev pub waits_tail : Before → View → Bool
+waits_tail b w = is_news b w && may_probe (recovery_after b w) w
+
 abbrev pub waited_for : Before → View → Instant → Timer
 waited_for b w now =
     if resends b w then timer.FastRetransmit
     else (if is_called b w then gone_on_from b.timer now w.rtte
-    else running w.timer (flight w) (length w.tx_buffer.bytes) w.keep_alive w.rtte now)
+    else tail_waits (waits_tail b w)
+    (running w.timer (flight w) (length w.tx_buffer.bytes) w.keep_alive w.rtte now) now w.rtte (is_alone w))
 
 abbrev pub timer_after : Before → View → Instant → Timer
 timer_after b w now = if has_timer w.state then waited_for b w now else w.timer
@@ -324,6 +343,13 @@ abbrev pub begun_by : Rules → ℕ → ℕ → Instant → Option Duration → 
 begun_by rules.Smoltcp window queued now keep e = idle_from now keep
 begun_by rules.Rfc window queued now keep e =
     if (window == 0) && not (queued == 0) then probe_from now e else idle_from now keep
+
+-- ---- a fast retransmission is due: by the RFCs' rules the timer runs from then on, whatever becomes of its emit (RFC
+-- 6298, rule 5.1)
+
+abbrev pub marked_by : Rules → Instant → Option Duration → Estimator → Timer
+marked_by rules.Smoltcp now keep e = idle_from now keep
+marked_by rules.Rfc now keep e = retransmit_from now e
 
 -- ---- the retransmission timer is over (RFC 6582, section 4): what was sent until now is to be acknowledged before
 -- duplicates count again

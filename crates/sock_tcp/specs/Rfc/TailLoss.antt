@@ -1,0 +1,88 @@
+-- Tail-loss probes, by the RFCs' rules (RFC 8985, section 7): where the acknowledgements stop, one segment goes out before
+-- the retransmission timer is over, so that a loss at the end of a flight is told by SACK.
+use Rattle.std.specs.Prelude.{ℕ, ◌+◌, ◌-◌, ◌*◌, nat_lt, nat_le, length, max, min, is_some, Bool, true, false, not}
+use Rattle.std.specs.Prelude.{◌==◌, ◌&&◌, ◌||◌, if◌then◌else◌}
+use Rattle.control_wire.specs.Seq.{seq_add}
+use Rattle.net_base.specs.declared.time.Duration.{Duration}
+use Rattle.net_base.specs.declared.time.Instant.{Instant}
+use Rattle.sock_core.specs.Estimator.{Estimator, retransmitted, srtt_of}
+use Rattle.sock_tcp.specs.Content.{carries_data}
+use Rattle.sock_tcp.specs.Due.{flight, sendable}
+use Rattle.sock_tcp.specs.Timers.{after, is_over, retransmit_from}
+use Rattle.sock_tcp.specs.View.{View}
+use Rattle.sock_tcp.specs.declared.recovery.Recovery.{Recovery}
+use Rattle.sock_tcp.specs.declared.recovery.Recovery.TheVariants as recovery
+use Rattle.sock_tcp.specs.declared.rules.Rules.{Rules}
+use Rattle.sock_tcp.specs.declared.rules.Rules.TheVariants as rules
+use Rattle.sock_tcp.specs.declared.timer.Timer.{Timer}
+use Rattle.sock_tcp.specs.declared.timer.Timer.TheVariants as timer
+
+-- ---- how long it waits (section 7.2)
+
+-- beyond two round trips, in milliseconds: where one segment alone is out, as long as the peer may wait with its
+-- acknowledgement
+abbrev pub margin_of : Bool → ℕ
+margin_of alone = if alone then 200 else 10
+
+-- at most as long as a retransmission
+abbrev pub tail_wait : Estimator → Bool → Duration
+tail_wait e alone = record { micros = min ((2 * srtt_of e.smoothed + margin_of alone) * 1000) (e.rto * 1000) }
+
+abbrev pub tail_from : Instant → Estimator → Bool → Timer
+tail_from now e alone = timer.Retransmit (after now (tail_wait e alone))
+
+abbrev pub is_alone : View → Bool
+is_alone v = nat_le (flight v) v.remote_mss
+
+-- ---- whether one goes out (sections 7.1 and 7.3)
+
+-- no loss was told, and no probe went out since the last news
+abbrev pub is_calm : Recovery → Bool
+is_calm recovery.Open = true
+is_calm _ = false
+
+-- bytes are in flight to a peer that tells by SACK and has a window, and a round trip was measured
+abbrev pub may_probe : Recovery → View → Bool
+may_probe r v =
+    is_calm r && (v.remote_has_sack && (carries_data v.state && (not (length v.tx_buffer.bytes == 0)
+    && (not (flight v == 0) && (not (v.remote_win_len == 0) && is_some v.rtte.smoothed)))))
+
+abbrev pub may_probe_by : Rules → Bool → Bool
+may_probe_by rules.Smoltcp may = false
+may_probe_by rules.Rfc may = may
+
+abbrev pub is_retransmission_over : Timer → Instant → Bool
+is_retransmission_over (timer.Retransmit t) now = is_over t now
+is_retransmission_over _ now = false
+
+abbrev pub probes_tail : View → Instant → Bool
+probes_tail v now = may_probe_by v.rules (may_probe v.recovery v) && is_retransmission_over v.timer now
+
+-- ---- what goes out (section 7.3)
+
+-- how long the last segment was, if all were full
+abbrev pub last_len : View → ℕ
+last_len v = min (flight v) v.remote_mss
+
+abbrev pub probe_of : View → Recovery
+probe_of v = recovery.Probe (seq_add v.local_seq_no (flight v - last_len v)) v.remote_last_seq
+
+abbrev pub tail_marked : View → View
+tail_marked v = record v { recovery = probe_of v }
+
+-- a segment of new bytes, one beyond the congestion window, or where none is to be had the last one again; then the
+-- retransmission timer runs
+unfoldable pub tail_probed : View → Instant → View
+tail_probed v now =
+    record v {
+      recovery = probe_of v;
+      pending_fast_retransmit =
+          v.pending_fast_retransmit || nat_lt (sendable (tail_marked v)) (max v.remote_mss 1);
+      rtte = retransmitted v.rtte;
+      timer = retransmit_from now (retransmitted v.rtte);
+    }
+
+-- ---- the timer that waits for news of the peer is that of the probe, where one may go out
+abbrev pub tail_waits : Bool → Timer → Instant → Estimator → Bool → Timer
+tail_waits true (timer.Retransmit at) now e alone = tail_from now e alone
+tail_waits _ t now e alone = t

@@ -1,0 +1,159 @@
+//! Tail-loss probes, by the RFCs' rules (RFC 8985, section 7).
+ghost use Rattle.std.specs.Prelude.{◌≡◌, ◌≤◌};
+ghost use Rattle.sock_core.specs.Bounds.{IsMoment};
+ghost use Rattle.sock_tcp.specs.Rfc.Recovery.{is_probe_told, is_told_to_end, waits_tail};
+ghost use Rattle.sock_tcp.specs.Rfc.TailLoss.{is_alone, is_calm, last_len, margin_of, may_probe, may_probe_by, probe_of};
+ghost use Rattle.sock_tcp.specs.Rfc.TailLoss.{tail_from, tail_probed, tail_wait, tail_waits};
+ghost use Rattle.sock_tcp.specs.Timers.{IsTimer};
+
+use crate::control_block::ControlBlock;
+use crate::recovery::{Before, Recovery};
+use crate::rules::Rules;
+use crate::scoreboard::Scoreboard;
+use crate::timer::{Timer, after};
+use control_wire::TcpSeqNumber;
+use net_base::time::{Duration, Instant};
+use sock_core::rtte::RttEstimator;
+
+// How long the peer may wait with an acknowledgement, in milliseconds.
+const DELAYED_ACK: u64 = 200;
+
+// How much longer than two round trips a probe waits at least, in milliseconds.
+const LEAST_MARGIN: u64 = 10;
+
+// How long after news of the peer the probe goes out, where one segment alone is out or not.
+fn tail_wait(rtte: &RttEstimator, alone: bool) -> Duration
+    ensures value { result ≡ tail_wait rtte.now alone }
+    ensures short { result.micros ≤ 60000000 }
+{
+    let margin = if alone { DELAYED_ACK } else { LEAST_MARGIN };
+    let round_trips = 2 * rtte.srtt() as u64;
+    let timeout = rtte.retransmission_timeout();
+    Duration {
+        micros: ((round_trips + margin) * 1_000).min(timeout.micros),
+    }
+}
+
+impl Timer {
+    // A tail-loss probe goes out so long from now.
+    fn tail(now: Instant, rtte: &RttEstimator, alone: bool) -> Timer
+        requires { IsMoment now.micros }
+        ensures value { result ≡ tail_from now rtte.now alone }
+        ensures lawful { IsTimer result }
+    {
+        Timer::Retransmit {
+            expires_at: after(now, tail_wait(rtte, alone)),
+        }
+    }
+
+    // The timer that waits for news of the peer is that of the probe, where one may go out.
+    pub(crate) fn or_tail(
+        self,
+        waits: bool,
+        now: Instant,
+        rtte: &RttEstimator,
+        alone: bool,
+    ) -> Timer
+        requires moment { IsMoment now.micros }
+        requires lawful { IsTimer self }
+        ensures value { result ≡ tail_waits waits self now rtte.now alone }
+        ensures lawful { IsTimer result }
+    {
+        match (waits, self) {
+            (true, Timer::Retransmit { .. }) => Timer::tail(now, rtte, alone),
+            _ => self,
+        }
+    }
+}
+
+impl Recovery {
+    // No loss was told, and no probe went out since the last news.
+    fn is_calm(self) -> bool
+        ensures { result ≡ is_calm self }
+    {
+        matches!(self, Recovery::Open)
+    }
+
+    // What was sent up to the end of the probe, or before it, was told.
+    fn is_told_to_end(self, sacked: &Scoreboard, una: TcpSeqNumber) -> bool
+        ensures { result ≡ is_told_to_end self sacked.now una }
+    {
+        match self {
+            Recovery::Probe { end, .. } => end.since(una) <= sacked.highest_told() as usize,
+            _ => false,
+        }
+    }
+}
+
+impl Before {
+    // A tail-loss probe shows a hole.
+    pub(crate) fn is_probe_told(&self, after: &ControlBlock<'_>) -> bool
+        ensures { result ≡ is_probe_told self.now after.now }
+    {
+        if !self.only_tells(after) {
+            return false;
+        }
+        let sacked = self.sacked_after(after);
+        self.recovery.is_told_to_end(&sacked, after.local_seq_no)
+    }
+
+    // Something new is acknowledged, and a tail-loss probe may follow.
+    pub(crate) fn waits_tail(&self, after: &ControlBlock<'_>) -> bool
+        ensures { result ≡ waits_tail self.now after.now }
+    {
+        self.is_news(after) && after.may_probe(self.recovery_after(after))
+    }
+}
+
+impl<'a> ControlBlock<'a> {
+    // One segment alone is out.
+    pub(crate) fn is_alone(&self) -> bool
+        ensures { result ≡ is_alone self.now }
+    {
+        self.flight() <= self.remote_mss
+    }
+
+    // Bytes are in flight to a peer that tells by SACK and has a window, and a round trip was measured.
+    fn may_probe(&self, recovery: Recovery) -> bool
+        ensures { result ≡ may_probe recovery self.now }
+    {
+        let peer = recovery.is_calm() && (self.remote_has_sack && self.state.carries_data());
+        let bytes = !self.tx_buffer.is_empty() && self.flight() != 0;
+        peer && (bytes && (self.remote_win_len != 0 && self.rtte.is_measured()))
+    }
+
+    // A probe goes out where the retransmission timer is over.
+    pub(crate) fn may_probe_now(&self) -> bool
+        ensures { result ≡ may_probe_by self.now.rules (may_probe self.now.recovery self.now) }
+    {
+        match self.rules {
+            Rules::Smoltcp => false,
+            Rules::Rfc => self.may_probe(self.recovery),
+        }
+    }
+
+    // What goes out as a probe, where it is the last segment again.
+    fn probe(&self) -> Recovery
+        ensures { result ≡ probe_of self.now }
+    {
+        let last = self.flight().min(self.remote_mss);
+        Recovery::Probe {
+            start: self.local_seq_no.plus(self.flight() - last),
+            end: self.remote_last_seq,
+        }
+    }
+
+    // A segment of new bytes is to go out, or the last one again; then the retransmission timer runs.
+    #[tactic(auto, unfolding(crate::specs::Rfc::TailLoss::tail_probed))]
+    pub(crate) fn probe_tail(&mut self, now: Instant)
+        requires { IsMoment now.micros }
+        ensures table { self.new ≡ tail_probed self.old now }
+        ensures stamps { self.new.stamps ≡ self.old.stamps }
+    {
+        self.recovery = self.probe();
+        let again = self.sendable() < self.remote_mss.max(1);
+        self.pending_fast_retransmit = self.pending_fast_retransmit || again;
+        self.rtte.on_retransmit();
+        self.timer = Timer::retransmit(now, &self.rtte);
+    }
+}
