@@ -23,3 +23,4 @@ pub mod Firsts
 pub mod KeptKeys
 pub mod KeptSleep
 pub mod CookieAnswers
+pub mod Believed

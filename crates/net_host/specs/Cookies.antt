@@ -1,5 +1,5 @@
 -- SYN cookies: who is answered without a socket, and whose answer is believed (RFC 4987, section 3.6).
-use Rattle.std.specs.Prelude.{ℕ, ℤ, ◌≡◌, ◌-◌, ◌⊎◌, min, nat_le, List, Option, Some, None, IfSome, option_map, slice_get}
+use Rattle.std.specs.Prelude.{ℕ, ℤ, ◌≡◌, ◌+◌, ◌<◌, ◌-◌, ◌⊎◌, min, nat_le, List, Option, Some, None, IfSome, option_map, slice_get}
 use Rattle.std.specs.Prelude.{Bool, true, false, ◌&&◌}
 use Rattle.ip_wire.specs.IpHeader.{dst_addr_of, src_addr_of}
 use Rattle.ip_wire.specs.declared.repr.IpRepr.{IpRepr}
@@ -187,3 +187,22 @@ module _ {C G : Type 0} (facts : C → Facts) (word_at : C → ℕ → ℕ) (tel
     pub taken : TakenOn c t again ss cx l ip s reply ts cx' l'
     pub len : n ≡ reply_len (option_map reply_of reply)
     pub octets : out' ≡ with_reply (facts cx).checksums (option_map reply_of reply) out
+
+-- ---- the law
+
+-- it acknowledges the answer to a SYN, and stands behind that
+pub record AnswersCookie (c : SynCookies) (sent : ℤ) (ip : IpRepr) (s : Segment) (ip' : IpRepr) (a : Segment) : Type 0
+  where
+    pub remote : src_addr_of ip' ≡ src_addr_of ip
+    pub local : dst_addr_of ip' ≡ dst_addr_of ip
+    pub src_port : a.src_port ≡ s.src_port
+    pub dst_port : a.dst_port ≡ s.dst_port
+    pub number : a.seq_number ≡ seq_add s.seq_number 1
+    pub acked : acked_by a ≡ Some (seq_add (seq_of (answer_number c sent ip s)) 1)
+
+-- where no socket takes it, it is believed in the answer's count of 64 seconds, and in the next
+abbrev pub AnswersAreBelieved : Type 0
+AnswersAreBelieved =
+    (c : SynCookies) (sent heard : ℤ) (ip ip' : IpRepr) (s a : Segment) → s.seq_number.0 < 4294967296
+    → AnswersCookie c sent ip s ip' a → (step_of heard ≡ step_of sent) ⊎ (step_of heard ≡ step_of sent + 1)
+    → course_under c taker.Nobody heard ip' a ≡ course.Believed (class_of s.max_seg_size) (answer_number c sent ip s)

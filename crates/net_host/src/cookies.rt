@@ -6,7 +6,7 @@ ghost use Rattle.control_wire.specs.Segment.{segment_of};
 ghost use Rattle.sock_core.specs.Bounds.{IsMtu};
 ghost use Rattle.sock_tcp.specs.Due.{ip_header_len, mtu_for};
 ghost use Rattle.sock_tcp.specs.Process.{reply_of};
-ghost use Rattle.net_host.specs.Cookies.{HearsIf, HearsSyn, acked_by, answer_of, answer_segment, call_of, class_told};
+ghost use Rattle.net_host.specs.Cookies.{AnswersAreBelieved, acked_by, answer_of, answer_segment, call_of, class_told};
 ghost use Rattle.net_host.specs.Cookies.{course_of, course_under, doubted_by, room_at, room_in, syn_before};
 ghost use Rattle.net_host.specs.Resting.{is_opening};
 
@@ -14,6 +14,7 @@ use crate::rest::opens;
 use crate::segments::Taker;
 use crate::slot::Slot;
 use control_wire::TcpSeqNumber;
+use host_cookies::cookies::answers_are_recognised;
 use host_cookies::{Call, SynCookies, class_of, mss_of};
 use smoltcp_socket::time::Instant;
 use smoltcp_socket::wire::{
@@ -275,4 +276,13 @@ pub(crate) fn answer_of<C: Context>(
         64,
     );
     (header, answer)
+}
+
+/// Where no socket takes it, the acknowledgement of an answer is believed within 64 seconds: as of the class that the
+/// SYN told, and of the number of the answer.
+#[tactic(auto, using(crate::proofs::Believed::believed))]
+pub fn answers_are_believed()
+    ensures { AnswersAreBelieved }
+{
+    answers_are_recognised();
 }
