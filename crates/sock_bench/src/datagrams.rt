@@ -1,8 +1,8 @@
 //! Many datagrams between two hosts, over UDP, ICMP and raw sockets: small ones most of them, through queues that are
 //! often full.
 
-use crate::digest::Digest;
-use crate::random::Random;
+use bench_parts::digest::Digest;
+use bench_parts::random::Random;
 use host_context::{Interface, Outbox, Seeded, take_packets};
 use segment_wire::packet;
 use smoltcp_socket::storage::PacketBuffer;

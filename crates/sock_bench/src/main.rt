@@ -3,38 +3,27 @@
 //! `sock_bench JOB SEED SHARE` prints a digest of all that the job's calls answered, and no times.
 #![tactic(auto)]
 
-mod clock;
-mod conversation;
 mod datagrams;
-mod digest;
-mod hosted;
 mod plan;
-mod random;
 mod station;
 mod talks;
 mod transfer;
-mod wire;
 
 use crate::datagrams::datagrams;
-use crate::digest::Digest;
-use crate::hosted::hosted;
 use crate::plan::{clean_transfers, lossy_transfers};
-use crate::random::Random;
 use crate::talks::talks;
+use bench_parts::digest::Digest;
+use bench_parts::random::{Random, source};
 use std::alloc::{AllocError, Global};
 use std::env;
 use std::process::ExitCode;
-
-// How many bytes the applications take what they send from.
-const SOURCE: usize = 1 << 17;
 
 const USAGE: &str = "\
 usage: sock_bench JOB SEED SHARE
 
 Runs a job on inputs made from SEED and prints a digest of what came of it.
 
-JOB    bytes, lossy, conversations, hosted (these on the hosts of net_host),
-       datagrams, or all
+JOB    bytes, lossy, conversations, datagrams, or all
 SEED   0 to 4294967295
 SHARE  how much of the job is done, in thousandths: 1 to 1000
 ";
@@ -73,7 +62,7 @@ fn task_of(rt: &HostRuntime) -> Option<Task> {
 fn run(rt: &HostRuntime, task: &Task) -> Result<(), AllocError> {
     let mut random = Random::new(task.seed);
     let source = source(rt.alloc(), &mut random)?;
-    for job in ["bytes", "lossy", "conversations", "datagrams", "hosted"] {
+    for job in ["bytes", "lossy", "conversations", "datagrams"] {
         if task.job.as_str() == job || task.job.as_str() == "all" {
             let mut digest = Digest::new();
             run_job(
@@ -108,18 +97,7 @@ fn run_job(
         lossy_transfers(alloc, share, source, random, digest)
     } else if job == "conversations" {
         talks(alloc, share, source, random, digest)
-    } else if job == "hosted" {
-        hosted(alloc, share, source, random, digest)
     } else {
         datagrams(alloc, share, source, random, digest)
     }
-}
-
-// Bytes that no two places of which begin alike.
-fn source(alloc: Global, random: &mut Random) -> Result<Vec<u8>, AllocError> {
-    let mut bytes = vec![in alloc; 0u8; SOURCE]?;
-    for byte in bytes.iter_mut() {
-        *byte = random.below(256) as u8;
-    }
-    Ok(bytes)
 }

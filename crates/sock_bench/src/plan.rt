@@ -1,10 +1,10 @@
 //! The transfers of a job: through packets and buffers of several sizes, over both versions of IP, with timestamps and
 //! without, one way and both ways.
 
-use crate::digest::Digest;
-use crate::random::Random;
 use crate::transfer::transfer;
-use crate::wire::{CLEAN, Faults};
+use bench_parts::digest::Digest;
+use bench_parts::random::Random;
+use bench_parts::wire::{CLEAN, Faults};
 use smoltcp_socket::tcp::CongestionControl;
 use std::alloc::{AllocError, Global};
 

@@ -1,16 +1,16 @@
 //! A host with many sockets, and the interface layer that serves them.
 ghost use Rattle.std.specs.Prelude.{◌≤◌, length};
 
-use crate::clock::Clock;
-use crate::conversation::{Role, SERVICE, Talk};
-use crate::digest::Digest;
-use crate::random::Random;
-use crate::wire::{Fate, Wire, flip};
+use bench_parts::clock::Clock;
+use bench_parts::conversation::{Role, Talk, service};
+use bench_parts::digest::Digest;
+use bench_parts::random::Random;
+use bench_parts::wire::{Fate, Wire, flip};
 use host_context::{Interface, Outbox, Seeded, dispatch_tcp, take_packets};
 use host_guard::Guard;
 use segment_wire::packet;
 use smoltcp_socket::tcp::{Socket, State};
-use smoltcp_socket::wire::{IpListenEndpoint, IpRepr, Ipv4Address, TcpControl, TcpRepr};
+use smoltcp_socket::wire::{IpRepr, Ipv4Address, TcpControl, TcpRepr};
 use smoltcp_socket::{Context, PollAt};
 use std::alloc::{AllocError, Global};
 
@@ -51,14 +51,6 @@ impl<'a> Slot<'a> {
     /// Whether the client may begin another one; it counts what came of the last.
     pub fn is_idle(&self) -> bool {
         self.talk.role == Role::Client && self.socket.state() == State::Closed
-    }
-}
-
-/// The service, at every address.
-pub fn service() -> IpListenEndpoint {
-    IpListenEndpoint {
-        addr: None,
-        port: SERVICE,
     }
 }
 

@@ -1,64 +1,18 @@
 //! Many short conversations between two hosts: small requests and answers of up to some thousand bytes, each over a
 //! connection of its own, beside sockets that sleep, with a few hostile packets.
-ghost use Rattle.std.specs.Prelude.{◌≤◌, ◌^◌, length};
+ghost use Rattle.std.specs.Prelude.{◌≤◌, length};
 
-use crate::conversation::{Role, SERVICE};
-use crate::digest::Digest;
-use crate::random::Random;
 use crate::station::{Slot, Station};
-use crate::wire::{Faults, Wire};
+use bench_parts::conversation::{Role, SERVICE};
+use bench_parts::digest::Digest;
+use bench_parts::random::Random;
+use bench_parts::wire::Wire;
+use bench_parts::work::{BUFFER, CLIENT, FAULTS, MOMENTS, PIECE, SERVER, SIZES, Work, answer_len};
 use smoltcp_socket::Context;
 use smoltcp_socket::storage::RingBuffer;
 use smoltcp_socket::tcp::Socket;
-use smoltcp_socket::wire::{IpAddress, IpEndpoint, IpListenEndpoint, Ipv4Address};
+use smoltcp_socket::wire::{IpAddress, IpEndpoint, IpListenEndpoint};
 use std::alloc::{AllocError, Global};
-
-pub const CLIENT: Ipv4Address = Ipv4Address([10, 0, 0, 1]);
-
-pub const SERVER: Ipv4Address = Ipv4Address([10, 0, 0, 2]);
-
-// The size of each buffer.
-pub const BUFFER: usize = 4096;
-
-// How many bytes an application reads at once.
-pub const PIECE: usize = 2048;
-
-// The hosts end after so many moments, whatever is left to do.
-pub const MOMENTS: u32 = 1_000_000;
-
-pub const FAULTS: Faults = Faults {
-    lost: 5,
-    late: 10,
-    twice: 5,
-    flipped: 5,
-};
-
-// How many sockets each host has, how many of them sleep, and how many conversations they have.
-pub const SIZES: [[usize; 3]; 2] = [[32, 4, 60_000], [256, 200, 12_000]];
-
-// What is still to do.
-#[derive(Debug, Drop)]
-pub struct Work {
-    pub left: usize,
-    port: u16,
-}
-
-impl Work {
-    /// So many conversations.
-    pub fn new(left: usize) -> Work {
-        Work { left, port: 20_000 }
-    }
-
-    /// The next port of the client.
-    pub fn next_port(&mut self) -> u16 {
-        self.port = if self.port > 60_000 {
-            20_000
-        } else {
-            self.port + 1
-        };
-        self.port
-    }
-}
 
 /// Runs the conversations of hosts of several sizes.
 pub fn talks(
@@ -187,16 +141,6 @@ fn begin(
         connect(slot, &mut client.host, work, random.happens(20));
     }
     busy
-}
-
-// 100 to 600 bytes, and of some 600 to 8,000.
-pub fn answer_len(random: &mut Random) -> usize {
-    let small = 100 + random.below(500) as usize;
-    if random.happens(300) {
-        600 + random.below(7400) as usize
-    } else {
-        small
-    }
 }
 
 // The sockets that sleep are connected at the beginning.

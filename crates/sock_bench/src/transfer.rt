@@ -1,11 +1,11 @@
 //! Bytes through a connection: two hosts, whose applications read and write, and the packets between them.
 ghost use Rattle.std.specs.Prelude.{◌≤◌, ◌^◌, length};
 
-use crate::clock::Clock;
-use crate::digest::Digest;
 use crate::plan::Plan;
-use crate::random::Random;
-use crate::wire::{Fate, Wire, flip};
+use bench_parts::clock::Clock;
+use bench_parts::digest::Digest;
+use bench_parts::random::Random;
+use bench_parts::wire::{Fate, Wire, flip};
 use host_context::{Interface, Outbox, Seeded, dispatch_tcp, receive_tcp, take_packets};
 use host_guard::guard::{KEEP_ALIVE, TIMEOUT};
 use smoltcp_socket::storage::RingBuffer;

@@ -4,6 +4,7 @@ use crate::clock::Clock;
 use crate::digest::Digest;
 use crate::random::Random;
 use smoltcp_socket::tcp::{RecvError, Socket, State};
+use smoltcp_socket::wire::IpListenEndpoint;
 
 // How many pieces are read at one moment.
 const PIECES: u32 = 16;
@@ -23,6 +24,14 @@ pub enum Role {
     Client,
     /// It is connected, and says nothing.
     Sleeper,
+}
+
+/// The service, at every address.
+pub fn service() -> IpListenEndpoint {
+    IpListenEndpoint {
+        addr: None,
+        port: SERVICE,
+    }
 }
 
 /// A conversation.

@@ -1,6 +1,11 @@
 //! Random numbers from a seed.
 ghost use Rattle.std.specs.Prelude.{◌<◌};
 
+use std::alloc::{AllocError, Global};
+
+// How many bytes the applications take what they send from.
+const SOURCE: usize = 1 << 17;
+
 /// A linear congruential generator modulo 2^64 (Knuth, MMIX).
 #[derive(Debug, Drop)]
 pub struct Random {
@@ -51,4 +56,13 @@ impl Random {
         let at = self.below(places as u32) as usize;
         &bytes[at..at + len]
     }
+}
+
+/// Bytes that no two places of which begin alike.
+pub fn source(alloc: Global, random: &mut Random) -> Result<Vec<u8>, AllocError> {
+    let mut bytes = vec![in alloc; 0u8; SOURCE]?;
+    for byte in bytes.iter_mut() {
+        *byte = random.below(256) as u8;
+    }
+    Ok(bytes)
 }

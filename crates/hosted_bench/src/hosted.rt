@@ -1,13 +1,12 @@
-//! The same conversations, on the hosts of `net_host`: only the sockets that may have changed are looked at.
+//! The conversations of `sock_bench`, on the hosts of `net_host`: only the sockets that may have changed are looked at.
 ghost use Rattle.std.specs.Prelude.{◌≤◌, length};
 
-use crate::clock::Clock;
-use crate::conversation::{Role, SERVICE, Talk};
-use crate::digest::Digest;
-use crate::random::Random;
-use crate::station::service;
-use crate::talks::{BUFFER, CLIENT, FAULTS, MOMENTS, PIECE, SERVER, SIZES, Work, answer_len};
-use crate::wire::{Fate, Wire, flip};
+use bench_parts::clock::Clock;
+use bench_parts::conversation::{Role, SERVICE, Talk, service};
+use bench_parts::digest::Digest;
+use bench_parts::random::Random;
+use bench_parts::wire::{Fate, Wire, flip};
+use bench_parts::work::{BUFFER, CLIENT, FAULTS, MOMENTS, PIECE, SERVER, SIZES, Work, answer_len};
 use host_context::Seeded;
 use net_host::{Interface, IpCidr, SocketHandle, SocketSet};
 use smoltcp_socket::Socket;
