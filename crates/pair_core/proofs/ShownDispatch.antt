@@ -21,6 +21,7 @@ use Rattle.sock_tcp.specs.Queue.{IsLent}
 use Rattle.sock_tcp.specs.Rfc.TailLoss.{probes_tail, tail_probed}
 use Rattle.sock_tcp.specs.Sent.{emitted_as, after_any, after_probe, snd_nxt_moved, sending_timed, after_kind, after_sending}
 use Rattle.sock_tcp.specs.Timers.{is_over, is_close_over, retransmit_unless_set}
+use Rattle.sock_tcp.specs.Rfc.Idle.{idle_by, restarted_by}
 use Rattle.sock_tcp.specs.View.{View, moment_of, fresh}
 use Rattle.sock_tcp.specs.declared.emission.Kind.{Kind}
 use Rattle.sock_tcp.specs.declared.emission.Kind.TheVariants as kind
@@ -146,7 +147,7 @@ timed_shows : (v : View) (now : Instant) (s : Emitted) → shown (sending_timed 
 unfolding sending_timed
 timed_shows v now s = go (s.len == 0)
   where
-    go : (b : Bool) → shown (cond b v (record v { rtte = sent v.rtte now s.end; timer = retransmit_unless_set v.timer now v.rtte; congestion_controller = post_transmitted v.congestion_controller now s.len })) ≡ shown v
+    go : (b : Bool) → shown (cond b v (record v { rtte = sent v.rtte now s.end; timer = retransmit_unless_set v.timer now v.rtte; congestion_controller = post_transmitted (restarted_by v.rules v.idle_at now v.congestion_controller) now s.len; idle_at = idle_by v.rules v.idle_at now v.rtte })) ≡ shown v
     go true = refl
     go false = refl
 

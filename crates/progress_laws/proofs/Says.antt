@@ -11,6 +11,7 @@ use Rattle.sock_core.specs.Facts.{Facts}
 use Rattle.sock_core.specs.Congestion.{post_transmitted}
 use Rattle.sock_core.specs.Estimator.{sent}
 use Rattle.sock_core.specs.Seq.{is_before, later_of}
+use Rattle.sock_tcp.specs.Rfc.Idle.{idle_by, restarted_by}
 use Rattle.sock_tcp.specs.Begin.{after_timer, readied, retransmission_begun, fast_retransmission_marked}
 use Rattle.sock_tcp.specs.Content.{Sending, carries_data, emission_kind, is_probing, plain_segment, sent_as, window_left}
 use Rattle.sock_tcp.specs.Due.{ack_poll, data_due, flight, is_closed, is_closing, is_due, window_doubled}
@@ -126,7 +127,7 @@ module _ (u : View) (p : Tuple) (now : Instant) (s : Segment) where
       x : View
       x = snd_nxt_moved (after_any u now) e
 
-      go : (z : Bool) → LeftOf u (if z then x else record x { rtte = sent x.rtte now e.end; timer = retransmit_unless_set x.timer now x.rtte; congestion_controller = post_transmitted x.congestion_controller now e.len })
+      go : (z : Bool) → LeftOf u (if z then x else record x { rtte = sent x.rtte now e.end; timer = retransmit_unless_set x.timer now x.rtte; congestion_controller = post_transmitted (restarted_by x.rules x.idle_at now x.congestion_controller) now e.len; idle_at = idle_by x.rules x.idle_at now x.rtte })
       go true = record { state = refl; tx = refl; keep_alive = refl; ruled = refl; una = refl }
       go false = record { state = refl; tx = refl; keep_alive = refl; ruled = refl; una = refl }
 

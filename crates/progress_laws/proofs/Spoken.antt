@@ -13,6 +13,7 @@ use Rattle.sock_core.specs.Congestion.{post_transmitted}
 use Rattle.sock_core.specs.Estimator.{sent}
 use Rattle.sock_core.specs.Facts.{Facts}
 use Rattle.sock_tcp.proofs.Lending.{lent_at_most, lent_beginning}
+use Rattle.sock_tcp.specs.Rfc.Idle.{idle_by, restarted_by}
 use Rattle.sock_tcp.specs.declared.rules.Rules.TheVariants as rules
 use Rattle.sock_tcp.specs.declared.rules.Rules.{Rules}
 use Rattle.sock_tcp.specs.Begin.{after_timer, fast_retransmission_marked, readied, retransmission_begun, probing_begun, timers_by}
@@ -86,7 +87,7 @@ sent_still b now e = by e.kind
     x : View
     x = snd_nxt_moved (after_any b now) e
 
-    timed : (z : Bool) → Still b (if z then x else record x { rtte = sent x.rtte now e.end; timer = retransmit_unless_set x.timer now x.rtte; congestion_controller = post_transmitted x.congestion_controller now e.len })
+    timed : (z : Bool) → Still b (if z then x else record x { rtte = sent x.rtte now e.end; timer = retransmit_unless_set x.timer now x.rtte; congestion_controller = post_transmitted (restarted_by x.rules x.idle_at now x.congestion_controller) now e.len; idle_at = idle_by x.rules x.idle_at now x.rtte })
     timed true = record { state = refl; una = refl; tx = refl; rx = refl; rcv = refl; shift = refl }
     timed false = record { state = refl; una = refl; tx = refl; rx = refl; rcv = refl; shift = refl }
 

@@ -9,6 +9,7 @@ use Rattle.sock_core.specs.Estimator.{sent}
 use Rattle.sock_core.specs.Seq.{is_before, later_of}
 use Rattle.sock_tcp.specs.Content.{carries_data, Sending}
 use Rattle.sock_tcp.specs.Due.{is_closed}
+use Rattle.sock_tcp.specs.Rfc.Idle.{idle_by, restarted_by}
 use Rattle.sock_tcp.specs.Timers.{keep_alive_renewed, probe_doubled, retransmit_unless_set}
 use Rattle.sock_tcp.specs.View.{View}
 use Rattle.sock_tcp.specs.declared.emission.Kind.{Kind}
@@ -68,7 +69,9 @@ sending_timed v now s =
     else record v {
       rtte = sent v.rtte now s.end;
       timer = retransmit_unless_set v.timer now v.rtte;
-      congestion_controller = post_transmitted v.congestion_controller now s.len;
+      congestion_controller =
+          post_transmitted (restarted_by v.rules v.idle_at now v.congestion_controller) now s.len;
+      idle_at = idle_by v.rules v.idle_at now v.rtte;
     }
 
 -- by kind; an acknowledgement that a probe or a keep-alive carries does not count as sent

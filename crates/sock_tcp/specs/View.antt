@@ -71,6 +71,7 @@ pub record View : Type 0 where
   pub sacked : Scoreboard  -- what the peer told by SACK, by the RFCs' rules
   pub snd_wl1 : TcpSeqNumber  -- SND.WL1, the number of the segment that told SND.WND, by the RFCs' rules
   pub snd_wl2 : TcpSeqNumber  -- SND.WL2, what it acknowledged
+  pub idle_at : Option Instant  -- from when on nothing was sent for a retransmission timeout, by the RFCs' rules
 
 -- the moment that a context tells
 abbrev pub moment_of : Facts → Instant
@@ -152,4 +153,5 @@ fresh rx tx =
       sacked = nothing_told;
       snd_wl1 = seq_of 0;
       snd_wl2 = seq_of 0;
+      idle_at = None;
     }

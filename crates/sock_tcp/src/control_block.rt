@@ -99,6 +99,8 @@ pub struct ControlBlock<'a> {
     // SND.WL1 and SND.WL2, by the RFCs' rules
     pub(crate) snd_wl1: TcpSeqNumber,
     pub(crate) snd_wl2: TcpSeqNumber,
+    // from when on nothing was sent for a retransmission timeout, by the RFCs' rules
+    pub(crate) idle_at: Option<Instant>,
 }
 
 impl<'a> Model for ControlBlock<'a> {
@@ -147,6 +149,7 @@ impl<'a> Model for ControlBlock<'a> {
       sacked = s.sacked;
       snd_wl1 = s.snd_wl1;
       snd_wl2 = s.snd_wl2;
+      idle_at = s.idle_at;
     } };
 
     ghost invariant = { λ s. IsSound s.rx_buffer (queue_of s.tx_buffer) s.tuple

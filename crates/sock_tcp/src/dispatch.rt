@@ -72,6 +72,7 @@ impl<'a> ControlBlock<'a> {
             return;
         }
         self.timer = self.timer.retransmit_unless_set(now, &self.rtte);
+        self.end_idle(now);
         self.rtte.on_send(now, emitted.end);
         self.congestion_controller.post_transmit(now, emitted.len);
     }

@@ -26,6 +26,7 @@ pub mod emission;
 pub mod ended;
 pub mod error;
 pub mod generator;
+mod idle;
 pub mod measures;
 pub mod negotiated;
 mod numbers;

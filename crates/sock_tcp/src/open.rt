@@ -87,6 +87,7 @@ impl<'a> ControlBlock<'a> {
             sacked: NOTHING_TOLD,
             snd_wl1: TcpSeqNumber(0),
             snd_wl2: TcpSeqNumber(0),
+            idle_at: None,
         }
     }
 
@@ -123,6 +124,7 @@ impl<'a> ControlBlock<'a> {
         self.sacked = NOTHING_TOLD;
         self.snd_wl1 = TcpSeqNumber(0);
         self.snd_wl2 = TcpSeqNumber(0);
+        self.idle_at = None;
     }
 
     pub(crate) fn is_open(&self) -> bool

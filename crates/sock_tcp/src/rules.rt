@@ -31,8 +31,8 @@ pub enum Rules {
     /// window is probed for with the byte at SND.UNA, and no window is probed with nothing to send (RFC 9293, section
     /// 3.8.6.1).
     ///
-    /// The congestion window begins with ten segments (RFC 6928), and grows by the bytes that are acknowledged (RFC
-    /// 3465).
+    /// The congestion window begins with ten segments (RFC 6928), grows by the bytes that are acknowledged (RFC 3465),
+    /// and is at most ten segments again after a retransmission timeout without sending (RFC 5681, section 4.1).
     ///
     /// Of attacks: an RST counts at RCV.NXT alone; elsewhere in the window it is answered by a challenge ACK, at most
     /// one a second, and so is a SYN once the own one is acknowledged (RFC 5961, sections 3.2, 4.2 and 7). TIME-WAIT

@@ -11,6 +11,9 @@ use Rattle.sock_core.specs.Reno.{RenoNumbers}
 use Rattle.sock_core.specs.Seq.{is_before, later_of}
 use Rattle.sock_core.specs.declared.congestion.AnyController.{AnyController}
 use Rattle.sock_core.specs.declared.congestion.AnyController.TheVariants as controller
+use Rattle.sock_tcp.specs.Rfc.Idle.{restarted_by, was_idle}
+use Rattle.sock_tcp.specs.declared.rules.Rules.{Rules}
+use Rattle.sock_tcp.specs.declared.rules.Rules.TheVariants as rules
 use Rattle.sock_tcp.specs.Advance.{controller_taken}
 use Rattle.sock_tcp.specs.Queue.{Queue, capacity}
 use Rattle.sock_tcp.specs.Settings.{of_kind}
@@ -274,6 +277,19 @@ pub pre_transmitted_open : (c : AnyController) (now : Instant) → IsOpen c → 
 unfolding congestion.pre_transmitted congestion.reno_pre_transmit
 pre_transmitted_open (controller.None x) now h = tt
 pre_transmitted_open (controller.Reno r) now h = h
+
+pub restarted_open : (r : Rules) (at : Option Instant) (now : Instant) (c : AnyController) → IsOpen c → IsOpen (restarted_by r at now c)
+unfolding congestion.restarted congestion.reno_restarted
+restarted_open rules.Smoltcp at now c h = h
+restarted_open rules.Rfc at now c h = by (was_idle at now)
+  where
+    restarts : (c : AnyController) → IsOpen c → IsOpen (congestion.restarted c)
+    restarts (controller.None x) h = tt
+    restarts (controller.Reno r) h = record { cwnd = omega (arith, h.cwnd, h.mss); mss = h.mss; ssthresh = h.ssthresh }
+
+    by : (b : Bool) → IsOpen (if b then congestion.restarted c else c)
+    by true = restarts c h
+    by false = h
 
 pub post_transmitted_open : (c : AnyController) (now : Instant) (n : ℕ) → IsOpen c → IsOpen (congestion.post_transmitted c now n)
 unfolding congestion.post_transmitted congestion.reno_post_transmit

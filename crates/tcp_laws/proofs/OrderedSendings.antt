@@ -14,6 +14,7 @@ use Rattle.sock_core.specs.Estimator.{Estimator, sent}
 use Rattle.sock_core.specs.Seq.{later_of}
 use Rattle.sock_tcp.proofs.Holes.{number_at, start_within}
 use Rattle.sock_tcp.proofs.Lending.{lent_at_most}
+use Rattle.sock_tcp.specs.Rfc.Idle.{idle_by, restarted_by}
 use Rattle.sock_tcp.specs.Content.{Sending, content, data_control, filled, emission_kind, hole_of, number_of, offset_of, of_kind, plain_segment, sent_as, with_data}
 use Rattle.sock_tcp.specs.Due.{flight, is_closed, is_closing}
 use Rattle.sock_tcp.specs.Rfc.Scoreboard.{hole_number, hole_start}
@@ -28,7 +29,7 @@ use Rattle.sock_tcp.specs.declared.state.State.TheVariants as state
 use Rattle.sock_tcp.specs.declared.timer.Timer.{Timer}
 use Rattle.sock_tcp.specs.declared.timer.Timer.TheVariants as timer
 use Rattle.sock_tcp.specs.declared.tuple.Tuple.{Tuple}
-use Rattle.tcp_laws.proofs.Ordered.{HasMoment, IsOpening, IsOrdered, IsPeeredIn, Row, is_close, idle_has_moment, later_small, later_within, post_transmitted_open}
+use Rattle.tcp_laws.proofs.Ordered.{HasMoment, IsOpening, IsOrdered, IsPeeredIn, Row, is_close, idle_has_moment, later_small, later_within, post_transmitted_open, restarted_open}
 
 -- ---- timers
 
@@ -275,9 +276,9 @@ module _ (u : View) (now : Instant) (h : IsOrdered u) where
       row : (z : Bool) → (segment_len s == 0) ≡ z → Row u.state (if z then moved.timer else retransmit_unless_set moved.timer now moved.rtte) u.keep_alive (seq_sub (later_of u.remote_last_seq end) u.local_seq_no) (length u.tx_buffer.bytes)
       row z e = plain_row u.state moved.timer now moved.rtte u.keep_alive _ _ _ (segment_len s) (length u.tx_buffer.bytes) any_ordered.row ends up z e
 
-      go : (z : Bool) → (segment_len s == 0) ≡ z → IsOrdered (if z then moved else record moved { rtte = sent moved.rtte now end; timer = retransmit_unless_set moved.timer now moved.rtte; congestion_controller = post_transmitted moved.congestion_controller now (segment_len s) })
+      go : (z : Bool) → (segment_len s == 0) ≡ z → IsOrdered (if z then moved else record moved { rtte = sent moved.rtte now end; timer = retransmit_unless_set moved.timer now moved.rtte; congestion_controller = post_transmitted (restarted_by moved.rules moved.idle_at now moved.congestion_controller) now (segment_len s); idle_at = idle_by moved.rules moved.idle_at now moved.rtte })
       go true e = record { una_small = h.una_small; nxt_small = later_small u.remote_last_seq end h.nxt_small (omega arith); room = h.room; congestion = h.congestion; peered = peer_stays u.state u.tuple h.peered; row = row true e }
-      go false e = record { una_small = h.una_small; nxt_small = later_small u.remote_last_seq end h.nxt_small (omega arith); room = h.room; congestion = post_transmitted_open _ _ _ h.congestion; peered = peer_stays u.state u.tuple h.peered; row = row false e }
+      go false e = record { una_small = h.una_small; nxt_small = later_small u.remote_last_seq end h.nxt_small (omega arith); room = h.room; congestion = post_transmitted_open _ _ _ (restarted_open u.rules u.idle_at now u.congestion_controller h.congestion); peered = peer_stays u.state u.tuple h.peered; row = row false e }
 
   sent_ordered : (k : Kind) (s : Segment) → EndsAs u.state u s → IsOrdered (after_sending u now (emitted_as k (of_kind k u s)))
   unfolding after_sending after_probe after_any

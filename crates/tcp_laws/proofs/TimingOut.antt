@@ -7,6 +7,7 @@ use Rattle.net_base.specs.declared.time.Instant.{Instant}
 use Rattle.sock_core.specs.Congestion.{post_transmitted}
 use Rattle.sock_core.specs.Estimator.{sent}
 use Rattle.sock_core.specs.Facts.{Facts}
+use Rattle.sock_tcp.specs.Rfc.Idle.{idle_by, restarted_by}
 use Rattle.sock_tcp.specs.Begin.{last_ts_set, last_ts_set_at, readied, after_timers, is_paused, begun, begun_to, unless_paused, ended, before_emit, before_emit_to, peer_of}
 use Rattle.sock_tcp.specs.Content.{Sending, content}
 use Rattle.sock_tcp.specs.Dispatch.{Dispatches, EmitTcp, EmitsTo}
@@ -33,7 +34,7 @@ timed_state : (v : View) (now : Instant) (s : Emitted) → (sending_timed v now 
 unfolding sending_timed
 timed_state v now s = go (s.len == 0)
   where
-    go : (b : Bool) → (if b then v else record v { rtte = sent v.rtte now s.end; timer = retransmit_unless_set v.timer now v.rtte; congestion_controller = post_transmitted v.congestion_controller now s.len }).state ≡ v.state
+    go : (b : Bool) → (if b then v else record v { rtte = sent v.rtte now s.end; timer = retransmit_unless_set v.timer now v.rtte; congestion_controller = post_transmitted (restarted_by v.rules v.idle_at now v.congestion_controller) now s.len; idle_at = idle_by v.rules v.idle_at now v.rtte }).state ≡ v.state
     go true = refl
     go false = refl
 

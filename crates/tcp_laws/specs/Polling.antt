@@ -1,5 +1,5 @@
 -- What is promised of `poll_at` and of the payload of a dispatch.
-use Rattle.std.specs.Prelude.{◌≡◌, ℕ, ◌+◌, ◌≤◌, ◌<◌, ◌^◌, ◌⊎◌, ◌≤ℤ◌, length, Option, Some, None, true}
+use Rattle.std.specs.Prelude.{◌≡◌, ℕ, ◌+◌, ◌≤◌, ◌<◌, ◌^◌, ◌⊎◌, ◌≤ℤ◌, length, Option, Some, None, true, max}
 use Rattle.std.specs.Prelude.{false, List}
 use Rattle.net_base.specs.Ring.{Ring}
 use Rattle.net_base.specs.declared.time.Duration.{Duration}
@@ -8,6 +8,7 @@ use Rattle.sock_core.specs.Facts.{Facts}
 use Rattle.sock_core.specs.Received.{receiving}
 use Rattle.sock_core.specs.declared.context.PollAt.TheVariants as poll
 use Rattle.sock_core.specs.declared.context.PollAt.{PollAt}
+use Rattle.sock_tcp.specs.declared.rules.Rules.TheVariants as rules
 use Rattle.sock_tcp.specs.Begin.{before_emit, peer_of}
 use Rattle.sock_tcp.specs.Content.{Sending, asked, offset_of, content}
 use Rattle.sock_tcp.specs.Due.{flight, ack_due, congestion_left}
@@ -44,6 +45,17 @@ PayloadKeepsToWindows = (v : View) (t : Tuple) (f : Facts) (stamp : Option ℕ) 
     → v.pending_fast_retransmit ≡ false
     → 0 < length s.segment.payload
     → (flight v + length s.segment.payload ≤ v.remote_win_len) × (length s.segment.payload ≤ congestion_left v)
+
+-- by the RFCs' rules also that of a fast retransmission ends at or before SND.UNA plus the peer's window, or is one byte
+-- at SND.UNA (RFC 9293, section 3.8.6)
+abbrev pub RetransmissionKeepsToWindow : Type 0
+RetransmissionKeepsToWindow = (v : View) (t : Tuple) (f : Facts) (stamp : Option ℕ) (bytes : List ℕ) (s : Sending)
+    → v.rules ≡ rules.Rfc
+    → IsLent v.tx_buffer (offset_of v) (asked v t f) bytes
+    → content v t f stamp bytes ≡ Some s
+    → s.kind ≡ kind.Plain
+    → 0 < length s.segment.payload
+    → offset_of v + length s.segment.payload ≤ max 1 v.remote_win_len
 
 -- ---- any list of calls
 

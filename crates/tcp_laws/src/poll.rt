@@ -11,7 +11,7 @@ ghost use Rattle.tcp_laws.specs.Clocks.{KeepAliveIsBounded, WakeUpIsBounded};
 ghost use Rattle.tcp_laws.specs.Repeating.{AcksRepeatOnlySo};
 ghost use Rattle.tcp_laws.specs.Speaking.{DueDataGoesOut, RetransmissionBegins};
 ghost use Rattle.tcp_laws.specs.Waking.{IsClosed, IsTimedOut, LastAckHearsNothing, ThirdDuplicateWakes, WindowWakes};
-ghost use Rattle.tcp_laws.specs.Polling.{KeepAliveWakes, NoWorkNoBytes, PayloadKeepsToWindows, PollHidesNothing};
+ghost use Rattle.tcp_laws.specs.Polling.{KeepAliveWakes, NoWorkNoBytes, PayloadKeepsToWindows, PollHidesNothing, RetransmissionKeepsToWindow};
 ghost use Rattle.tcp_laws.specs.Polling.{SleepsOnlySo, TimeoutWakes};
 
 use control_wire::TcpRepr;
@@ -46,6 +46,11 @@ pub fn dispatch_early<
 /// ends at or before SND.UNA plus the peer's window, and is at most the congestion window less what is in flight.
 pub fn payload_keeps_to_windows()
     ensures { PayloadKeepsToWindows }
+{}
+
+/// By the RFCs' rules what goes out again keeps to the peer's window, too, unless it is one byte at SND.UNA.
+pub fn retransmission_keeps_to_window()
+    ensures { RetransmissionKeepsToWindow }
 {}
 
 /// How a socket with work to do may wait for a segment alone, after any list of calls on a new socket over any two
