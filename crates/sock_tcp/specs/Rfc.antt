@@ -3,3 +3,4 @@ pub mod Refused
 pub mod Scoreboard
 pub mod Recovery
 pub mod TailLoss
+pub mod Pipe

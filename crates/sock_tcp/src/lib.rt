@@ -29,6 +29,7 @@ pub mod generator;
 pub mod measures;
 pub mod negotiated;
 mod open;
+mod pipe;
 pub mod poll;
 mod process;
 mod queues;

@@ -216,7 +216,10 @@ impl Before {
         ensures { result ≡ tells_loss self.now after.now }
     {
         let third = self.is_uncounted(after) && self.duplicates == 2;
-        self.is_called(after) || (third || (self.is_early(after) || self.is_probe_told(after)))
+        self.is_called(after)
+            || (third
+                || (self.is_early(after)
+                    || (self.is_probe_told(after) || self.is_told_lost(after))))
     }
 
     // Of new bytes, but not of all that was sent before a fast retransmission.

@@ -34,7 +34,7 @@ use Rattle.sock_tcp.specs.declared.verdict.Verdict.TheVariants as verdicts
 use Rattle.sock_tcp.proofs.Acking.{acked_fits, none_acked, between, fin_place_le, one_place, passes, two_guards}
 use Rattle.tcp_laws.proofs.Kept.{KeptByAnswers, bytes_kept, challenged_kept, outside_kept}
 use Rattle.tcp_laws.proofs.Ordered.{HasMoment, IsOpen, IsOrdered, IsPeeredIn, Row, is_close, acked_open, bytes_acked_open, close_stays, dup_acked_open, idle_has_moment, later_small, opened_open, partially_acked_open, left_in_flight, less_in_flight, set_has_moment, taken_open, window_open}
-use Rattle.sock_core.specs.Congestion.{bytes_acked, dup_acked, opened, partially_acked, with_remote_window}
+use Rattle.sock_core.specs.Congestion.{bytes_acked, dup_acked, opened, partially_acked}
 use Rattle.sock_tcp.specs.Due.{flight as flight_of}
 use Rattle.sock_tcp.specs.Rfc.Recovery.{before_it, before_of, controller_after, has_timer, is_news, is_opened, is_partial, is_timed_out, is_uncounted, lets_out, opens_well, recovered, told_of_bytes, waited_for}
 use Rattle.sock_tcp.specs.Rfc.Refused.{is_plain_control, refused}

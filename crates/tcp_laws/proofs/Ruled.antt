@@ -1,5 +1,5 @@
 -- Any call but the setting of the rules keeps them.
-use Rattle.std.proofs.Common.{◌≡◌, ℕ, Bool, true, false, refl, sym, ap, subst, ◌∙◌, length, Option, Some}
+use Rattle.std.proofs.Common.{◌≡◌, ℕ, Bool, true, false, refl, ap, ◌∙◌, Option}
 use Rattle.ip_wire.specs.declared.repr.IpRepr.{IpRepr}
 use Rattle.net_base.specs.declared.time.Instant.{Instant}
 use Rattle.control_wire.specs.Segment.{Segment}
@@ -19,7 +19,6 @@ use Rattle.sock_tcp.specs.View.{View, fresh, moment_of}
 use Rattle.sock_tcp.specs.declared.acked.Acked.{Acked}
 use Rattle.sock_tcp.specs.declared.rules.Rules.{Rules}
 use Rattle.sock_tcp.specs.declared.rules.Rules.TheVariants as rules
-use Rattle.sock_tcp.specs.declared.state.State.TheVariants as state
 use Rattle.tcp_laws.specs.SocketRun.{SendsTo}
 use Rattle.tcp_laws.proofs.Kept.{KeptByBeginnings, KeptByRows, KeptBySegments, KeptBySending, KeptByUses, before_kept, heard_kept, process_kept, sends_kept}
 use Rattle.tcp_laws.proofs.OrderedCalls.{same_flag}
