@@ -117,8 +117,8 @@ impl AnyController {
         AnyController::Reno(Reno::new())
     }
 
-    /// How many bytes may be in the network in a fast recovery that counts what is there (RFC 6675, section 5). Else the
-    /// window.
+    /// How many bytes may be in the network in a fast recovery that counts what is there (RFC 6675, section 5). Else
+    /// the window.
     pub fn recovery_window(&self) -> usize
         ensures { result ≡ recovery_window self.now }
     {

@@ -1,4 +1,5 @@
--- How much is in the network while a fast retransmission goes on and the peer tells by SACK (RFC 6675, sections 2 and 4).
+-- How much is in the network while a fast retransmission goes on and the peer tells by SACK (RFC 6675, sections 2 and
+-- 4).
 use Rattle.std.specs.Prelude.{ℕ, ◌+◌, ◌-◌, nat_le, max, min, Bool, false, not, if◌then◌else◌}
 use Rattle.control_wire.specs.Seq.{seq_sub}
 use Rattle.control_wire.specs.declared.seq_number.TcpSeqNumber.{TcpSeqNumber}
@@ -37,8 +38,8 @@ abbrev pub resent_to : Recovery → Scoreboard → TcpSeqNumber → ℕ
 resent_to (recovery.Fast point high_rxt resent_at) k una = min (again_from high_rxt una) (highest_told k)
 resent_to r k una = 0
 
--- with so much sent behind SND.UNA: what lies behind the highest byte that was told, and the holes that were sent again;
--- the other holes are lost
+-- with so much sent behind SND.UNA: what lies behind the highest byte that was told, and the holes that were sent
+-- again; the other holes are lost
 unfoldable pub pipe : Recovery → Scoreboard → TcpSeqNumber → ℕ → ℕ
 pipe r k una sent =
     min sent (sent - highest_told k + (resent_to r k una - told_before k (resent_to r k una)))
