@@ -148,7 +148,8 @@ pub fn outcomes_add_up<G: TsvalSource>()
 {}
 
 /// Each event of a pair is one call on each of its sockets, or none, in the words of the law on any list of calls of
-/// one socket (`Step`), by the rules of the socket. So each socket of a pair is what some list of calls makes of a new one.
+/// one socket (`Step`), by the rules of the socket. So each socket of a pair is what some list of calls makes of a new
+/// one.
 pub fn events_are_calls<G: TsvalSource>()
     ensures step { (e : Event) (p : PairView G) (o : Outcome) (q : PairView G) → IsPair p → IsSized e p
         → EventStep G.tells e p o q → (s : Side) → IsCalled (host_of s p).control_block (host_of s q).control_block }

@@ -1,10 +1,9 @@
 -- By smoltcp's rules a fast retransmission sends the segment at SND.UNA again.
-use Rattle.std.proofs.Common.{◌≡◌, ℕ, length, ap}
+use Rattle.std.proofs.Common.{◌≡◌, length, ap}
 use Rattle.std.specs.Prelude.{if◌then◌else◌}
-use Rattle.control_wire.specs.declared.seq_number.TcpSeqNumber.{TcpSeqNumber}
 use Rattle.sock_tcp.specs.Content.{hole_by, number_of, offset_of}
 use Rattle.sock_tcp.specs.Due.{flight}
-use Rattle.sock_tcp.specs.Rfc.Scoreboard.{hole_number, hole_size, hole_start}
+use Rattle.sock_tcp.specs.Rfc.Scoreboard.{hole_number, hole_start}
 use Rattle.sock_tcp.specs.View.{View}
 use Rattle.sock_tcp.specs.declared.rules.Rules.TheVariants as rules
 

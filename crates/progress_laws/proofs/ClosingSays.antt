@@ -20,14 +20,14 @@ use Rattle.sock_tcp.specs.Window.{next_ack}
 use Rattle.sock_tcp.specs.declared.emission.Kind.TheVariants as kind
 use Rattle.sock_tcp.specs.declared.timer.Timer.TheVariants as timer
 use Rattle.sock_tcp.specs.declared.tuple.Tuple.{Tuple}
-use Rattle.tcp_laws.proofs.Sleeping.{window_sends}
+use Rattle.tcp_laws.proofs.Sleeping.{congestion_leaves, window_sends}
 use Rattle.progress_laws.specs.AfterClose.{IsCloser}
 use Rattle.progress_laws.specs.InStep.{ForAnswer, told}
 use Rattle.progress_laws.specs.Speech.{DispatchesOk, GoesOn}
 use Rattle.progress_laws.proofs.Begins.{and_no, carries_runs, dispatch_reached, lent_for, not_zero, segment_for, sends_as, stamp_for}
 use Rattle.progress_laws.proofs.Hears.{IsData}
 use Rattle.progress_laws.proofs.Lends.{lent_some, mss_short, mss_some}
-use Rattle.progress_laws.proofs.Sends.{left, open_window, plain_sent, plain_timer, plain_told}
+use Rattle.progress_laws.proofs.Sends.{left, plain_sent, plain_timer, plain_told}
 use Rattle.progress_laws.proofs.Speaks.{Begins, FromFront, Front, IsNoProbe, asked_so, begins, from_front, lent_few, wakes}
 use Rattle.progress_laws.proofs.Spoken.{IsSaid, data_said}
 use Rattle.progress_laws.proofs.States.{closing_carries, closing_open}
@@ -103,7 +103,7 @@ module _ (d : Option Duration) (t : Tuple) (v : View) (f : Facts) (now : Instant
   same = ap (λ (q : Queue). length q.bytes) fr.same.tx
 
   some : 0 < length bytes
-  some = lent_some u.tx_buffer (offset_of u) (asked u t fa) bytes refl (omega (arith, asked_is, win_u, ft.no_flight, mss_some u t fa mtu.0 ft.mss, open_window u.congestion_controller fr.ordered.congestion)) (omega (arith, ft.start, queue, same))
+  some = lent_some u.tx_buffer (offset_of u) (asked u t fa) bytes refl (omega (arith, asked_is, win_u, ft.no_flight, mss_some u t fa mtu.0 ft.mss, congestion_leaves u fr.ordered.congestion ft.no_flight)) (omega (arith, ft.start, queue, same))
 
   abbrev b : Segment
   b = segment_for u t (stamp_for u) bytes
@@ -137,7 +137,7 @@ module _ (d : Option Duration) (t : Tuple) (v : View) (f : Facts) (now : Instant
   pub says_on : SaysOn d t fa v
   unfolding plain_segment
   says_on =
-      let l = plain_sent u t now b not_closed in
+      let l = plain_sent u t now b not_closed (fr.same.same_rules ∙ s.smoltcp) in
       record {
         out = sent_as u t kind.Plain b;
         after = after;

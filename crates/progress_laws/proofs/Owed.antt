@@ -244,17 +244,17 @@ module _ (s : Tuple) (w : View) (room n : ℕ) (y : View) (f : Facts) (now : Ins
         wide = ap (λ (q : Received). length q.held) al.same.rx ∙ ap (λ (l : List (Option ℕ)). length l) o.nothing_held ∙ length-replicate room None
 
     pub kept_then : Kept y after
-    kept_then = let l = plain_sent u s now b opens in record { state = l.same.state ∙ al.same.state; keep_alive = l.same.keep_alive ∙ al.same.keep_alive; window = l.same.window ∙ al.same.window; scale = l.same.scale ∙ al.same.scale; tx = l.same.tx ∙ al.same.tx; rx = l.same.rx ∙ al.same.rx }
+    kept_then = let l = plain_sent u s now b opens (al.same.same_rules ∙ o.smoltcp) in record { state = l.same.state ∙ al.same.state; keep_alive = l.same.keep_alive ∙ al.same.keep_alive; window = l.same.window ∙ al.same.window; scale = l.same.scale ∙ al.same.scale; tx = l.same.tx ∙ al.same.tx; rx = l.same.rx ∙ al.same.rx }
 
     pub field_is : out_of.segment.window_len ≡ min (room / 2 ^ w.remote_win_shift) 65535
     field_is = segment_window u s (stamp_for u) bytes sends nothing_marked ∙ field
 
     pub next_is : next_ack after ≡ next_ack y
-    next_is = let l = plain_sent u s now b opens in (λ i. seq_add (l.same.rcv i) (length ((l.same.rx i).bytes))) ∙ next
+    next_is = let l = plain_sent u s now b opens (al.same.same_rules ∙ o.smoltcp) in (λ i. seq_add (l.same.rcv i) (length ((l.same.rx i).bytes))) ∙ next
 
     pub tells : Tells w after s out_of.segment
     tells =
-        let l = plain_sent u s now b opens in
+        let l = plain_sent u s now b opens (al.same.same_rules ∙ o.smoltcp) in
         let rcv : next_ack after ≡ next_ack u = (λ i. seq_add (l.same.rcv i) (length ((l.same.rx i).bytes))) in
         let shift : after.remote_win_shift ≡ w.remote_win_shift = l.same.shift ∙ al.same.shift ∙ o.shift in
         let ack : after.remote_last_ack ≡ Some (next_ack after) = (plain_told u s now b opens).ack ∙ segment_ack u s (stamp_for u) bytes sends nothing_marked ∙ ap Some (sym rcv) in

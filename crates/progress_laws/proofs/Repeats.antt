@@ -215,7 +215,7 @@ module _ (st : State) (t : Tuple) (f : Facts) (x : View) (c : SendsSyn st t f x)
   long stamp = syn_length st u t fa (plain_segment u t stamp)
 
   kept : (stamp : Option ℕ) → SentOf u (sent stamp)
-  kept stamp = plain_sent u t now (segment stamp) open_then
+  kept stamp = plain_sent u t now (segment stamp) open_then (begun_so.same.same_rules ∙ c.smoltcp)
 
   timer_then : (stamp : Option ℕ) → (sent stamp).timer ≡ retransmit_unless_set (keep_alive_renewed u.timer now u.keep_alive) now u.rtte
   timer_then stamp = plain_timer u t now (segment stamp) open_then false (ap (λ n. n == 0) (long stamp))

@@ -1,18 +1,21 @@
 -- What a socket in ESTABLISHED, CLOSE-WAIT or FIN-WAIT-2 sends from SND.UNA on, at the moment of a keep-alive, and what is left of it then.
-use Rattle.std.proofs.Common.{◌≡◌, ℕ, ◌+◌, ◌<◌, Bool, true, false, not, ◌&&◌, refl, ap, List, length, Option, Some, None, arith}
+use Rattle.std.proofs.Common.{◌∙◌, ◌||◌, ◌≡◌, ℕ, ◌+◌, ◌<◌, Bool, true, false, not, ◌&&◌, refl, ap, List, length, Option, Some, None, is_some, arith}
 use Rattle.std.specs.Prelude.{if◌then◌else◌, ◌==◌}
 use Rattle.net_base.specs.declared.time.Instant.{Instant}
 use Rattle.control_wire.specs.Segment.{Segment, control_len, is_empty_segment, is_plain, segment_len}
 use Rattle.control_wire.specs.Seq.{seq_add}
 use Rattle.control_wire.specs.declared.tcp.TcpControl.{TcpControl}
 use Rattle.control_wire.specs.declared.tcp.TcpControl.TheVariants as control
-use Rattle.sock_core.specs.Congestion.{post_transmitted, congestion_window}
+use Rattle.sock_core.specs.Congestion.{post_transmitted, recovery_window}
 use Rattle.sock_core.specs.Estimator.{sent}
 use Rattle.sock_core.specs.Seq.{later_of}
 use Rattle.sock_tcp.specs.Rfc.Idle.{idle_by, restarted_by}
-use Rattle.sock_tcp.specs.Content.{carries_data, data_control, emission_kind, is_probing, offset_of, plain_segment, sent_as}
-use Rattle.sock_tcp.specs.Due.{is_closed, is_closing, window_field}
-use Rattle.sock_tcp.specs.Sent.{after_any, after_probe, after_sending, emitted_as, left_by, sending_timed, snd_nxt_moved}
+use Rattle.sock_tcp.specs.Content.{carries_data, data_control, emission_kind, is_probing, offset_of, plain_segment, sent_as, next_hole}
+use Rattle.sock_tcp.specs.Due.{is_closed, is_closing, window_field, flight}
+use Rattle.sock_tcp.specs.Sent.{after_any, after_probe, after_sending, emitted_as, left_by, sending_timed, snd_nxt_moved, goes_on}
+use Rattle.sock_tcp.specs.Rfc.Pipe.{counts, has_room}
+use Rattle.sock_tcp.specs.Rfc.Scoreboard.{is_blank}
+use Rattle.sock_tcp.specs.declared.rules.Rules.TheVariants as rules
 use Rattle.sock_tcp.specs.Timers.{is_keep_alive_over, keep_alive_renewed, probe_doubled, retransmit_unless_set}
 use Rattle.sock_tcp.specs.View.{View}
 use Rattle.sock_tcp.specs.Window.{next_ack}
@@ -21,9 +24,6 @@ use Rattle.sock_tcp.specs.declared.emission.Kind.{Kind}
 use Rattle.sock_tcp.specs.declared.emission.Kind.TheVariants as kind
 use Rattle.sock_tcp.specs.declared.timer.AckDelayTimer.TheVariants as ack_delay
 use Rattle.sock_tcp.specs.declared.tuple.Tuple.{Tuple}
-use Rattle.sock_core.specs.declared.congestion.AnyController.{AnyController}
-use Rattle.sock_core.specs.declared.congestion.AnyController.TheVariants as controller
-use Rattle.tcp_laws.proofs.Ordered.{IsOpen}
 use Rattle.progress_laws.proofs.Begins.{Same, and_no, not_zero, segment_for}
 use Rattle.progress_laws.proofs.Hears.{IsData}
 use Rattle.progress_laws.proofs.States.{flat_on, is_flat}
@@ -52,10 +52,6 @@ pub record HasTold (v x : View) : Type 0 where
   pub last_ack : x.remote_last_ack ≡ Some (next_ack v)
   pub last_win : x.remote_last_win ≡ window_field v
 
-pub open_window : (c : AnyController) → IsOpen c → 0 < congestion_window c
-open_window (controller.None x) h = omega arith
-open_window (controller.Reno r) h = h.cwnd
-
 module _ (u : View) (p : Tuple) (now : Instant) (s : Segment) (not_closed : is_closed u.state ≡ false) where
   abbrev pub left : Kind → View
   left k = left_by (Some (sent_as u p k s)) u now true
@@ -67,18 +63,29 @@ module _ (u : View) (p : Tuple) (now : Instant) (s : Segment) (not_closed : is_c
   x = snd_nxt_moved (after_any u now) e
 
   abbrev timed_if : Bool → View
-  timed_if z = if z then x else record x { rtte = sent x.rtte now e.end; timer = retransmit_unless_set x.timer now x.rtte; congestion_controller = post_transmitted (restarted_by x.rules x.idle_at now x.congestion_controller) now e.len; idle_at = idle_by x.rules x.idle_at now x.rtte }
+  timed_if z = if z then x else record x { rtte = sent x.rtte now e.end; timer = retransmit_unless_set x.timer now x.rtte; congestion_controller = post_transmitted (restarted_by x.rules x.idle_at now x.congestion_controller) now e.len; idle_at = idle_by x.rules x.idle_at now x.rtte; pending_fast_retransmit = x.pending_fast_retransmit || goes_on x }
 
-  pub plain_sent : SentOf u (left kind.Plain)
+  -- by smoltcp's rules no hole goes out behind it
+  or_none : (b : Bool) → (b || false) ≡ b
+  or_none true = refl
+  or_none false = refl
+
+  pub plain_sent : u.rules ≡ rules.Smoltcp → SentOf u (left kind.Plain)
   unfolding after_sending sending_timed snd_nxt_moved after_any
-  plain_sent = go (segment_len s == 0)
+  plain_sent smoltcp = go (segment_len s == 0)
     where
+      unmarked : goes_on x ≡ false
+      unmarked = ap (λ r. counts r x.recovery (is_blank x.sacked) && (is_some (next_hole x.recovery x.sacked x.local_seq_no) && has_room x.recovery x.sacked x.local_seq_no (flight x) (recovery_window x.congestion_controller) x.remote_mss)) smoltcp
+
+      pending : (x.pending_fast_retransmit || goes_on x) ≡ x.pending_fast_retransmit
+      pending = ap (λ b. x.pending_fast_retransmit || b) unmarked ∙ or_none x.pending_fast_retransmit
+
       peer : (if is_closed u.state then None else u.tuple) ≡ u.tuple
       peer = ap (λ b. if b then None else u.tuple) not_closed
 
       go : (z : Bool) → SentOf u (timed_if z)
       go true = record { same = record { state = refl; peer = peer; timeout = refl; same_rules = refl; keep_alive = refl; una = refl; tx = refl; rx = refl; rcv = refl; window = refl; scale = refl; shift = refl; paused = refl }; marked = refl }
-      go false = record { same = record { state = refl; peer = peer; timeout = refl; same_rules = refl; keep_alive = refl; una = refl; tx = refl; rx = refl; rcv = refl; window = refl; scale = refl; shift = refl; paused = refl }; marked = refl }
+      go false = record { same = record { state = refl; peer = peer; timeout = refl; same_rules = refl; keep_alive = refl; una = refl; tx = refl; rx = refl; rcv = refl; window = refl; scale = refl; shift = refl; paused = refl }; marked = pending }
 
   pub plain_told : TellsAs u s (left kind.Plain)
   unfolding after_sending sending_timed snd_nxt_moved after_any

@@ -29,7 +29,7 @@ use Rattle.sock_tcp.specs.declared.tuple.Tuple.{Tuple}
 use Rattle.tcp_laws.specs.Polling.{IsReached}
 use Rattle.tcp_laws.proofs.Ordered.{HasMoment, IsOrdered, no_distance}
 use Rattle.tcp_laws.proofs.OrderedCalls.{reached_ordered, readied_ordered, timers_ordered}
-use Rattle.tcp_laws.proofs.Sleeping.{window_sends}
+use Rattle.tcp_laws.proofs.Sleeping.{congestion_leaves, window_sends}
 use Rattle.tcp_laws.proofs.Probing.{reached_probing}
 use Rattle.progress_laws.specs.InStep.{ForAnswer, ForKeepAlive, ForNothing, ForProbe, IsSender, Rests, told}
 use Rattle.progress_laws.specs.Speech.{DispatchesOk, GoesOn}
@@ -39,7 +39,7 @@ use Rattle.progress_laws.proofs.Hears.{IsData, IsOpenTimer, idle_is, idle_moment
 use Rattle.progress_laws.proofs.Lends.{lent_some, mss_short, mss_some}
 use Rattle.progress_laws.proofs.Says.{keep_alive_due, no_probe}
 use Rattle.progress_laws.proofs.States.{flat_open, is_flat, row_moment, sends_data, sends_flat}
-use Rattle.progress_laws.proofs.Sends.{HasTold, SentOf, Untold, kept_nxt, kept_sent, kept_timer, kept_untold, left, open_window, plain_sent, plain_timer, plain_told, segment_ack, segment_bit, segment_length, segment_number, segment_window, with_bytes, without_bytes}
+use Rattle.progress_laws.proofs.Sends.{HasTold, SentOf, Untold, kept_nxt, kept_sent, kept_timer, kept_untold, left, plain_sent, plain_timer, plain_told, segment_ack, segment_bit, segment_length, segment_number, segment_window, with_bytes, without_bytes}
 
 -- ---- what is left of the sender
 
@@ -232,7 +232,7 @@ module _ (d : Option Duration) (t : Tuple) (v : View) (f : Facts) (now : Instant
   speaks_bytes win queue =
       let win_u : 0 < u.remote_win_len = subst (λ n. 0 < n) (sym fr.same.window) win in
       let queue_u : 0 < length u.tx_buffer.bytes = subst (λ (q : Queue). 0 < length q.bytes) (sym fr.same.tx) queue in
-      let asks : 0 < asked u t fa = omega (arith, asked_is, win_u, ft.no_flight, mss_some u t fa mtu.0 ft.mss, open_window u.congestion_controller fr.ordered.congestion) in
+      let asks : 0 < asked u t fa = omega (arith, asked_is, win_u, ft.no_flight, mss_some u t fa mtu.0 ft.mss, congestion_leaves u fr.ordered.congestion ft.no_flight) in
       let some : 0 < length bytes = lent_some u.tx_buffer (offset_of u) (asked u t fa) bytes refl asks (omega (arith, ft.start, queue_u)) in
       let plain : emission_kind u now b ≡ kind.Plain = with_bytes u t (stamp_for u) bytes sends ft.nothing_marked now ft.no_probing some in
       let h = goes_out kind.Plain plain (data_is_due (window_sends u t fa fr.ordered win_u ft.no_flight (inl queue_u))) in
@@ -241,7 +241,7 @@ module _ (d : Option Duration) (t : Tuple) (v : View) (f : Facts) (now : Instant
       record {
         out = sent_as u t kind.Plain b;
         after = left u t now b opens kind.Plain;
-        speaks = record { dispatch = h; bit = bit; ack = ack; waits = waits kind.Plain h (plain_sent u t now b opens) (timed (omega (arith, long, some))) };
+        speaks = record { dispatch = h; bit = bit; ack = ack; waits = waits kind.Plain h (plain_sent u t now b opens (fr.same.same_rules ∙ s.smoltcp)) (timed (omega (arith, long, some))) };
         number = number;
         some = some;
         within = inl (omega (arith, lent_few u t fa, asked_is, fr.same.window));
@@ -262,7 +262,7 @@ module _ (d : Option Duration) (t : Tuple) (v : View) (f : Facts) (now : Instant
   speaks_plain : 0 < v.remote_win_len → 0 < length v.tx_buffer.bytes → SpeaksPlain fa v
   unfolding speaks_bytes
   speaks_plain win queue =
-      let l = plain_sent u t now b opens in
+      let l = plain_sent u t now b opens (fr.same.same_rules ∙ s.smoltcp) in
       let some : 0 < length bytes = (speaks_bytes win queue).some in
       let long : segment_len b ≡ length bytes = segment_length u t (stamp_for u) bytes sends ft.nothing_marked in
       record {
@@ -340,7 +340,7 @@ module _ (d : Option Duration) (t : Tuple) (v : View) (f : Facts) (now : Instant
           }
       speaks due false over =
           let h = goes_out kind.Plain (without_bytes u t (stamp_for u) bytes sends ft.nothing_marked now ft.no_probing none false over) due in
-          let l = plain_sent u t now b opens in
+          let l = plain_sent u t now b opens (fr.same.same_rules ∙ s.smoltcp) in
           let tm : (left u t now b opens kind.Plain).timer ≡ idle_from now u.keep_alive = plain_timer u t now b opens true (rw long refl) ∙ renewed in
           record {
             out = Some (sent_as u t kind.Plain b);

@@ -37,7 +37,8 @@ use Rattle.progress_laws.proofs.Begins.{Alike, Same, and_no, beginning, begun_id
 use Rattle.progress_laws.proofs.Edges.{is_not_before, later_stays}
 use Rattle.progress_laws.proofs.Lends.{lent_some, marked_some, mss_short, mss_some, probe_byte}
 use Rattle.progress_laws.proofs.Says.{AtFront, front_number, keep_alive_due, no_probe, probe_due}
-use Rattle.progress_laws.proofs.Sends.{HasTold, Untold, kept_nxt, kept_sent, kept_timer, kept_untold, left, open_window, plain_sent, plain_timer, plain_told, probe_nxt, probe_sent, probe_timer, probe_untold}
+use Rattle.tcp_laws.proofs.Sleeping.{congestion_leaves}
+use Rattle.progress_laws.proofs.Sends.{HasTold, Untold, kept_nxt, kept_sent, kept_timer, kept_untold, left, plain_sent, plain_timer, plain_told, probe_nxt, probe_sent, probe_timer, probe_untold}
 
 carries_open : (st : State) → carries_data st ≡ true → is_closed st ≡ false
 carries_open state.Established e = refl
@@ -157,7 +158,7 @@ module _ (d : Duration) (t : Tuple) (v : View) (f : Facts) (now : Instant) (mtu 
       window_field_of hs n = min (length hs / 2 ^ n) 65535
 
   left_plain : Left v (left b t now g opens kind.Plain)
-  left_plain = record { same = same_then st.same (plain_sent b t now g opens).same; told = inr tells }
+  left_plain = record { same = same_then st.same (plain_sent b t now g opens (st.same.same_rules ∙ s.smoltcp)).same; told = inr tells }
 
   -- with a byte or the FIN, as a plain segment
   says_plain : is_due b t fa ≡ true → is_probing b now ≡ false → is_empty_segment g ≡ false → 0 < segment_len g → Call fa v now
@@ -202,7 +203,7 @@ module _ (d : Duration) (t : Tuple) (v : View) (f : Facts) (now : Instant) (mtu 
         asked_is = rw (no_probing, carries, m) refl
 
         bytes_go : 0 < length b.tx_buffer.bytes → 0 < segment_len g
-        bytes_go queue = let h = lent_some b.tx_buffer (offset_of b) (asked b t fa) bytes refl (omega (arith, asked_is, win, none, mss_some b t fa mtu.0 st.mss, open_window b.congestion_controller ordered.congestion)) (omega (arith, start, queue)) in omega (arith, h)
+        bytes_go queue = let h = lent_some b.tx_buffer (offset_of b) (asked b t fa) bytes refl (omega (arith, asked_is, win, none, mss_some b t fa mtu.0 st.mss, congestion_leaves b ordered.congestion none)) (omega (arith, start, queue)) in omega (arith, h)
 
         no_bytes : length b.tx_buffer.bytes ≡ 0 → length bytes ≡ 0
         no_bytes z = let h = lent_at_most b.tx_buffer (offset_of b) (asked b t fa) bytes refl in omega (arith, h, z)
@@ -246,7 +247,7 @@ module _ (d : Duration) (t : Tuple) (v : View) (f : Facts) (now : Instant) (mtu 
             here = number ∙ sym st.same.una
 
             stays : (left b t now g opens kind.Plain).remote_last_seq ≡ (left b t now g opens kind.Plain).local_seq_no
-            stays = (plain_told b t now g opens).nxt ∙ (λ i. later_of (nxt i) (seq_add (here i) (none_len i))) ∙ later_stays b.local_seq_no (seq_add b.local_seq_no 0) (is_not_before b.local_seq_no (seq_add b.local_seq_no 0) (omega (arith, ordered.una_small))) ∙ sym (plain_sent b t now g opens).same.una
+            stays = (plain_told b t now g opens).nxt ∙ (λ i. later_of (nxt i) (seq_add (here i) (none_len i))) ∙ later_stays b.local_seq_no (seq_add b.local_seq_no 0) (is_not_before b.local_seq_no (seq_add b.local_seq_no 0) (omega (arith, ordered.una_small))) ∙ sym (plain_sent b t now g opens (st.same.same_rules ∙ s.smoltcp)).same.una
 
     -- the byte of a probe
     says_probe : (at : Instant) (delay : Duration) → b.timer ≡ timer.ZeroWindowProbe at delay → is_over at now ≡ true → b.remote_win_len ≡ 0 → 0 < length b.tx_buffer.bytes → is_due b t fa ≡ true → Call fa v now

@@ -147,6 +147,15 @@ abbrev pub congestion_window : AnyController → ℕ
 congestion_window (controller.None n) = 2 ^ 64 - 1
 congestion_window (controller.Reno r) = r.cwnd
 
+-- how many bytes may be in the network in a fast recovery that counts what is there (RFC 6675, section 5: the window is
+-- the threshold)
+abbrev pub reno_recovery_window : RenoNumbers → ℕ
+reno_recovery_window r = if r.in_recovery then bounded r r.ssthresh else r.cwnd
+
+abbrev pub recovery_window : AnyController → ℕ
+recovery_window (controller.None n) = 2 ^ 64 - 1
+recovery_window (controller.Reno r) = reno_recovery_window r
+
 -- What the calls of a controller leave. Each has all that the controller is told
 
 unfoldable pub acked : AnyController → Instant → ℕ → ℕ → Estimator → AnyController

@@ -3,7 +3,7 @@ ghost use Rattle.std.specs.Prelude.{◌≡◌, ℕ, ◌-◌, ◌^◌, ◌<◌, �
 ghost use Rattle.sock_core.specs.Reno.{RenoNumbers};
 ghost use Rattle.sock_core.specs.Congestion.{fresh_reno, reno_acked};
 ghost use Rattle.sock_core.specs.Congestion.{bytes_acked, congestion_window, acked, dup_acked, lost, opened, restarted, timed_out};
-ghost use Rattle.sock_core.specs.Congestion.{partially_acked, pre_transmitted, post_transmitted};
+ghost use Rattle.sock_core.specs.Congestion.{partially_acked, pre_transmitted, post_transmitted, recovery_window};
 ghost use Rattle.sock_core.specs.Estimator.{Estimator};
 ghost use Rattle.net_base.specs.declared.time.Instant.{Instant};
 ghost use Rattle.sock_core.specs.Congestion.{with_mss, with_remote_window, Call, AcksNothing, KeepsThreshold};
@@ -122,6 +122,17 @@ impl AnyController {
         ensures { result ≡ AnyController.Reno fresh_reno }
     {
         AnyController::Reno(Reno::new())
+    }
+
+    /// How many bytes may be in the network in a fast recovery that counts what is there (RFC 6675, section 5). Else
+    /// the window.
+    pub fn recovery_window(&self) -> usize
+        ensures { result ≡ recovery_window self.now }
+    {
+        match self {
+            AnyController::None(none) => none.window(),
+            AnyController::Reno(reno) => reno.recovery_window(),
+        }
     }
 }
 

@@ -4,7 +4,7 @@ ghost use Rattle.sock_core.specs.Congestion.{bounded, capped, deflated, fresh_re
 ghost use Rattle.sock_core.specs.Congestion.{initial_window, most_growth, reno_acked, reno_counted, reno_grows};
 ghost use Rattle.sock_core.specs.Congestion.{reno_on_ack, reno_on_bytes_acked, reno_on_dup_ack, reno_on_loss};
 ghost use Rattle.sock_core.specs.Congestion.{reno_on_partial_ack, reno_on_rto, reno_opened, reno_partially_acked, reno_restarted};
-ghost use Rattle.sock_core.specs.Congestion.{reno_post_transmit};
+ghost use Rattle.sock_core.specs.Congestion.{reno_post_transmit, reno_recovery_window};
 ghost use Rattle.sock_core.specs.Congestion.{reno_pre_transmit, reno_with_mss, reno_with_remote_window};
 
 use crate::congestion::Controller;
@@ -67,6 +67,18 @@ impl Reno {
         ensures { result ≡ self.now.ssthresh }
     {
         self.ssthresh
+    }
+
+    /// How many bytes may be in the network in a fast recovery that counts what is there: the threshold (RFC 6675,
+    /// section 5). Else the window.
+    pub fn recovery_window(&self) -> usize
+        ensures { result ≡ reno_recovery_window self.now }
+    {
+        if self.in_recovery {
+            self.bounded(self.ssthresh)
+        } else {
+            self.cwnd
+        }
     }
 
     // At most the peer's window, and at least a segment.

@@ -111,8 +111,7 @@ abbrev pub timers_by : Bool → View → Instant → View
 timers_by true v now = tail_probed v now
 timers_by false v now = after_timer v.timer v now
 
--- the user timeout is over: CLOSED, and the timer is left alone. Else what the timer asks
--- for
+-- the user timeout is over: CLOSED, and the timer is left alone. Else a probe, or what the timer asks for
 unfoldable pub after_timers : View → Instant → View
 after_timers v now =
     if is_reached (timeout_poll v.timeout v.remote_last_ts) now then record v { state = state.Closed }

@@ -12,7 +12,6 @@ use Rattle.control_wire.specs.declared.tcp.TcpControl.{TcpControl}
 use Rattle.control_wire.specs.declared.tcp.TcpControl.TheVariants as control
 use Rattle.control_wire.specs.declared.tcp.TcpTimestampRepr.{TcpTimestampRepr}
 use Rattle.sock_core.specs.Facts.{Facts}
-use Rattle.sock_core.specs.Seq.{is_before}
 use Rattle.sock_tcp.specs.Due.{is_closing, own_mss, effective_mss, flight, congestion_left}
 use Rattle.sock_tcp.specs.Rfc.Scoreboard.{hole_behind, hole_number, hole_size, hole_start}
 use Rattle.sock_tcp.specs.Timers.{is_keep_alive_over, is_probe_over}
@@ -30,6 +29,7 @@ use Rattle.sock_tcp.specs.declared.state.State.{State}
 use Rattle.sock_tcp.specs.declared.state.State.TheVariants as state
 use Rattle.sock_tcp.specs.declared.tuple.Tuple.{Tuple}
 pub use Rattle.sock_tcp.specs.Due.{window_field}
+pub use Rattle.sock_tcp.specs.Rfc.Pipe.{again_from}
 
 -- ---- the payload
 
@@ -47,12 +47,8 @@ abbrev pub is_probing : View → Instant → Bool
 is_probing v now =
     carries_data v.state && not v.pending_fast_retransmit && (window_left v == 0) && is_probe_over v.timer now
 
--- from which byte behind SND.UNA on nothing was sent again in this recovery
-abbrev pub again_from : TcpSeqNumber → TcpSeqNumber → ℕ
-again_from high_rxt una = if is_before una high_rxt then seq_sub high_rxt una else 0
-
--- the next hole to be sent again (RFC 6675, section 4, NextSeg), or the segment that is sent again as a probe (RFC 8985,
--- section 7.3)
+-- the next hole to be sent again (RFC 6675, section 4, NextSeg), or the segment that is sent again as a probe (RFC
+-- 8985, section 7.3)
 abbrev pub next_hole : Recovery → Scoreboard → TcpSeqNumber → Option Hole
 next_hole (recovery.Fast point high_rxt resent_at) k una = hole_behind k (again_from high_rxt una)
 next_hole (recovery.Probe start end) k una = Some (record { start = seq_sub start una; end = seq_sub end una })

@@ -5,12 +5,14 @@ use Rattle.ip_wire.specs.declared.address.IpAddress.{IpAddress}
 use Rattle.ip_wire.specs.declared.address.IpAddress.TheVariants as address
 use Rattle.control_wire.specs.Seq.{seq_add, seq_sub, seq_eq}
 use Rattle.control_wire.specs.declared.seq_number.TcpSeqNumber.{TcpSeqNumber}
-use Rattle.sock_core.specs.Congestion.{congestion_window}
+use Rattle.sock_core.specs.Congestion.{congestion_window, recovery_window}
 use Rattle.sock_core.specs.Facts.{Facts}
 use Rattle.sock_core.specs.Seq.{is_before}
 use Rattle.sock_core.specs.declared.context.PollAt.{PollAt}
 use Rattle.sock_core.specs.declared.context.PollAt.TheVariants as poll
 use Rattle.sock_tcp.specs.Polls.{is_reached, delay_poll}
+use Rattle.sock_tcp.specs.Rfc.Pipe.{counts, pipe}
+use Rattle.sock_tcp.specs.Rfc.Scoreboard.{is_blank}
 use Rattle.sock_tcp.specs.Timers.{is_keep_alive_over, is_probe_over}
 use Rattle.sock_tcp.specs.View.{View, moment_of}
 use Rattle.sock_tcp.specs.Window.{next_ack}
@@ -86,9 +88,18 @@ limited_by _ r duplicates mss = 0
 abbrev pub limited : View → ℕ
 limited v = limited_by v.rules v.recovery v.local_rx_dup_acks v.remote_mss
 
--- what the congestion window leaves
+-- what is in the network, and how much there may be
+abbrev pub is_counted : View → Bool
+is_counted v = counts v.rules v.recovery (is_blank v.sacked)
+
+abbrev pub in_network : View → ℕ
+in_network v = pipe v.recovery v.sacked v.local_seq_no (flight v)
+
+-- what the congestion window leaves; in a recovery that counts what is in the network, beside that
 abbrev pub congestion_left : View → ℕ
-congestion_left v = congestion_window v.congestion_controller - (flight v - limited v)
+congestion_left v =
+    if is_counted v then recovery_window v.congestion_controller - in_network v
+    else congestion_window v.congestion_controller - (flight v - limited v)
 
 -- what of the transmit queue both windows let go out behind SND.NXT
 abbrev pub sendable : View → ℕ

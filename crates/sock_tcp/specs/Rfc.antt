@@ -6,3 +6,4 @@ pub mod Recovery
 pub mod Numbers
 pub mod Windows
 pub mod TailLoss
+pub mod Pipe

@@ -1,15 +1,16 @@
 -- What an emit that answered Ok changes.
-use Rattle.std.specs.Prelude.{Option, Some, None, Bool, true, false, not, ◌==◌, ◌&&◌, if◌then◌else◌}
+use Rattle.std.specs.Prelude.{Option, Some, None, is_some, Bool, true, false, not, ◌==◌, ◌&&◌, ◌||◌, if◌then◌else◌}
 use Rattle.net_base.specs.declared.time.Instant.{Instant}
 use Rattle.control_wire.specs.Seq.{seq_add}
 use Rattle.control_wire.specs.Segment.{Segment, segment_len}
 use Rattle.control_wire.specs.declared.seq_number.TcpSeqNumber.{TcpSeqNumber}
-use Rattle.sock_core.specs.Congestion.{post_transmitted}
+use Rattle.sock_core.specs.Congestion.{post_transmitted, recovery_window}
 use Rattle.sock_core.specs.Estimator.{sent}
 use Rattle.sock_core.specs.Seq.{is_before, later_of}
-use Rattle.sock_tcp.specs.Content.{carries_data, Sending}
-use Rattle.sock_tcp.specs.Due.{is_closed}
+use Rattle.sock_tcp.specs.Content.{carries_data, Sending, next_hole}
+use Rattle.sock_tcp.specs.Due.{is_closed, flight, is_counted}
 use Rattle.sock_tcp.specs.Rfc.Idle.{idle_by, restarted_by}
+use Rattle.sock_tcp.specs.Rfc.Pipe.{has_room}
 use Rattle.sock_tcp.specs.Timers.{keep_alive_renewed, probe_doubled, retransmit_unless_set}
 use Rattle.sock_tcp.specs.View.{View}
 use Rattle.sock_tcp.specs.declared.emission.Kind.{Kind}
@@ -47,7 +48,8 @@ after_probe v now = record v { timer = probe_doubled v.timer now }
 -- what begins before SND.NXT is sent again: HighRxt of a recovery moves behind it (RFC 6675, section 2)
 abbrev pub resent_by : Recovery → TcpSeqNumber → Emitted → Recovery
 resent_by (recovery.Fast point high_rxt resent_at) nxt s =
-    recovery.Fast point (if is_before s.seq_number nxt then later_of high_rxt s.end else high_rxt) resent_at
+    recovery.Fast point
+    (if is_before s.seq_number nxt && not (s.len == 0) then later_of high_rxt s.end else high_rxt) resent_at
 resent_by r nxt s = r
 
 -- SND.NXT moves behind the segment, its acknowledgement and window are the last sent, and the RST of a closed socket
@@ -62,6 +64,13 @@ snd_nxt_moved v s =
       tuple = if is_closed v.state then None else v.tuple;
     }
 
+-- in a recovery that counts what is in the network, the next hole goes out at once while there is room (RFC 6675,
+-- section 5)
+abbrev pub goes_on : View → Bool
+goes_on v =
+    is_counted v && (is_some (next_hole v.recovery v.sacked v.local_seq_no)
+    && has_room v.recovery v.sacked v.local_seq_no (flight v) (recovery_window v.congestion_controller) v.remote_mss)
+
 -- what takes sequence numbers is timed, and waited for
 unfoldable pub sending_timed : View → Instant → Emitted → View
 sending_timed v now s =
@@ -72,6 +81,7 @@ sending_timed v now s =
       congestion_controller =
           post_transmitted (restarted_by v.rules v.idle_at now v.congestion_controller) now s.len;
       idle_at = idle_by v.rules v.idle_at now v.rtte;
+      pending_fast_retransmit = v.pending_fast_retransmit || goes_on v;
     }
 
 -- by kind; an acknowledgement that a probe or a keep-alive carries does not count as sent

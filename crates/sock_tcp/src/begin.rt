@@ -6,6 +6,8 @@ ghost use Rattle.sock_tcp.specs.Due.{flight, is_due};
 ghost use Rattle.sock_tcp.specs.Begin.{last_ts_set, readied, retransmission_begun, fast_retransmission_marked};
 ghost use Rattle.sock_core.specs.Congestion.{congestion_window};
 ghost use Rattle.sock_tcp.specs.Begin.{after_timers, flight_lost, probing_begun};
+ghost use Rattle.sock_tcp.specs.Rfc.Recovery.{marked_by};
+ghost use Rattle.sock_tcp.specs.Timers.{IsTimer};
 ghost use Rattle.sock_tcp.specs.Begin.{is_paused, begun, nothing_due, before_emit_to, before_emit};
 
 use crate::control_block::ControlBlock;
@@ -78,6 +80,18 @@ impl<'a> ControlBlock<'a> {
         match self.rules {
             Rules::Smoltcp => self.flight(),
             Rules::Rfc => self.flight().min(self.congestion_controller.window()),
+        }
+    }
+
+    // The timer once a fast retransmission is due.
+    fn timer_marked(&self, now: Instant) -> Timer
+        requires { IsMoment now.micros }
+        ensures value { result ≡ marked_by self.now.rules now self.now.keep_alive self.now.rtte }
+        ensures lawful { IsTimer result }
+    {
+        match self.rules {
+            Rules::Smoltcp => Timer::idle(now, self.keep_alive),
+            Rules::Rfc => Timer::retransmit(now, &self.rtte),
         }
     }
 

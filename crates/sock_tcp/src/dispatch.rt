@@ -71,6 +71,9 @@ impl<'a> ControlBlock<'a> {
         if emitted.len == 0 {
             return;
         }
+        if let Recovery::Fast { .. } = self.recovery {
+            self.pending_fast_retransmit = self.pending_fast_retransmit || self.goes_on();
+        }
         self.timer = self.timer.retransmit_unless_set(now, &self.rtte);
         self.end_idle(now);
         self.rtte.on_send(now, emitted.end);

@@ -73,6 +73,10 @@ impl<'a> ControlBlock<'a> {
         let window = self.congestion_controller.window();
         match self.rules {
             Rules::Smoltcp => window.saturating_sub(self.flight()),
+            Rules::Rfc if self.is_counted() => {
+                let most = self.congestion_controller.recovery_window();
+                most.saturating_sub(self.in_network())
+            }
             Rules::Rfc => window.saturating_sub(self.flight().saturating_sub(self.limited())),
         }
     }

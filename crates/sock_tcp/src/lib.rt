@@ -32,6 +32,7 @@ pub mod negotiated;
 mod numbers;
 mod open;
 mod peer_window;
+mod pipe;
 pub mod poll;
 mod process;
 mod queues;

@@ -11,7 +11,7 @@ ghost use Rattle.sock_tcp.specs.Rfc.Recovery.{is_fast, is_grown, is_news, is_ope
 ghost use Rattle.sock_tcp.specs.Rfc.Recovery.{is_counted, is_early, may_resend, recovered};
 ghost use Rattle.sock_tcp.specs.Rfc.Recovery.{recovery_after, repeats_by, resends, running, timed_out_by, timer_after};
 ghost use Rattle.sock_tcp.specs.Rfc.Recovery.{before_it, is_timed_out, is_uncounted, told_of_bytes};
-ghost use Rattle.sock_tcp.specs.Rfc.Recovery.{marked_by, segments_out, tells_loss, waited_for};
+ghost use Rattle.sock_tcp.specs.Rfc.Recovery.{segments_out, tells_loss, waited_for};
 ghost use Rattle.sock_tcp.specs.Timers.{IsTimer};
 
 use crate::control_block::ControlBlock;
@@ -209,7 +209,10 @@ impl Before {
         ensures { result ≡ tells_loss self.now after.now }
     {
         let third = self.is_uncounted(after) && self.duplicates == 2;
-        self.is_called(after) || (third || (self.is_early(after) || self.is_probe_told(after)))
+        self.is_called(after)
+            || (third
+                || (self.is_early(after)
+                    || (self.is_probe_told(after) || self.is_told_lost(after))))
     }
 
     // Of new bytes, but not of all that was sent before a fast retransmission.
@@ -391,18 +394,6 @@ impl<'a> ControlBlock<'a> {
         ensures { result ≡ may_resend self.now }
     {
         self.state.carries_data() && !self.tx_buffer.is_empty()
-    }
-
-    // The timer once a fast retransmission is due.
-    pub(crate) fn timer_marked(&self, now: Instant) -> Timer
-        requires { IsMoment now.micros }
-        ensures value { result ≡ marked_by self.now.rules now self.now.keep_alive self.now.rtte }
-        ensures lawful { IsTimer result }
-    {
-        match self.rules {
-            Rules::Smoltcp => Timer::idle(now, self.keep_alive),
-            Rules::Rfc => Timer::retransmit(now, &self.rtte),
-        }
     }
 
     // The timer once that of a retransmission is over: a window is probed for where there is none, and bytes wait.

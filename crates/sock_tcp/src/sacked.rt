@@ -15,7 +15,7 @@ use control_wire::{TcpRepr, TcpSeqNumber};
 use sock_core::seq::{before, later};
 
 // Where a number stands from SND.UNA on, 0 where it is none behind it.
-fn offset_from(number: TcpSeqNumber, una: TcpSeqNumber) -> usize
+pub(crate) fn offset_from(number: TcpSeqNumber, una: TcpSeqNumber) -> usize
     ensures value { result ≡ again_from number una }
     ensures small { result < 2 ^ 32 }
 {
@@ -114,7 +114,7 @@ impl Recovery {
                 point,
                 high_rxt,
                 resent_at,
-            } if before(emitted.seq_number, next) => Recovery::Fast {
+            } if before(emitted.seq_number, next) && emitted.len != 0 => Recovery::Fast {
                 point,
                 high_rxt: later(high_rxt, emitted.end),
                 resent_at,
@@ -175,9 +175,8 @@ impl Before {
             return false;
         }
         let sacked = self.sacked_after(after);
-        self.again(after)
-            .next_hole(&sacked, after.local_seq_no)
-            .is_some()
+        let hole = self.again(after).next_hole(&sacked, after.local_seq_no);
+        hole.is_some() && self.has_room(after)
     }
 
     // A partial acknowledgement shows a hole that was not sent again.

@@ -2,8 +2,8 @@
 ghost use Rattle.std.specs.Prelude.{◌≡◌, ◌≤◌};
 ghost use Rattle.sock_core.specs.Bounds.{IsMoment};
 ghost use Rattle.sock_tcp.specs.Rfc.Recovery.{is_probe_told, is_told_to_end, waits_tail};
-ghost use Rattle.sock_tcp.specs.Rfc.TailLoss.{is_alone, is_calm, last_len, margin_of, may_probe, may_probe_by, probe_of};
-ghost use Rattle.sock_tcp.specs.Rfc.TailLoss.{tail_from, tail_probed, tail_wait, tail_waits};
+ghost use Rattle.sock_tcp.specs.Rfc.TailLoss.{is_alone, is_calm, last_len, margin_of, may_probe, may_probe_by};
+ghost use Rattle.sock_tcp.specs.Rfc.TailLoss.{probe_of, tail_from, tail_probed, tail_wait, tail_waits};
 ghost use Rattle.sock_tcp.specs.Timers.{IsTimer};
 
 use crate::control_block::ControlBlock;

@@ -1,5 +1,5 @@
 -- What each step of a call keeps is kept by any list of calls.
-use Rattle.std.proofs.Common.{◌≡◌, ℕ, zero, suc, ◌≤◌, ◌<◌, ◌^◌, Bool, true, false, true≢false, ◌&&◌, refl, sym, ap, subst, ◌∙◌, List, length, ◌+◌, Option, Some, None, Result, Ok, Err, arith}
+use Rattle.std.proofs.Common.{◌||◌, ◌≡◌, ℕ, zero, suc, ◌≤◌, ◌<◌, ◌^◌, Bool, true, false, true≢false, ◌&&◌, refl, sym, ap, subst, ◌∙◌, List, length, ◌+◌, Option, Some, None, Result, Ok, Err, arith}
 use Rattle.std.specs.Prelude.{if◌then◌else◌, ◌==◌, pos}
 use Rattle.std.specs.Option.{ForSome}
 use Rattle.std.proofs.lemmas.Bool.{and_parts, eqb-true}
@@ -26,7 +26,7 @@ use Rattle.sock_tcp.specs.Process.{processed_by}
 use Rattle.sock_tcp.specs.Queue.{queue_of}
 use Rattle.sock_tcp.specs.Queues.{ReadsWithIf, SendsWithIf, fitting, may_recv, may_send, queued, read_off, readable}
 use Rattle.sock_tcp.specs.Rfc.TailLoss.{is_retransmission_over, may_probe, may_probe_by, probes_tail, tail_probed}
-use Rattle.sock_tcp.specs.Sent.{after_any, after_kind, after_probe, after_sending, emitted_as, left_by, sending_timed, snd_nxt_moved}
+use Rattle.sock_tcp.specs.Sent.{goes_on, after_any, after_kind, after_probe, after_sending, emitted_as, left_by, sending_timed, snd_nxt_moved}
 use Rattle.sock_tcp.specs.Timers.{is_close_over, is_over, retransmit_unless_set}
 use Rattle.sock_tcp.specs.Rfc.Idle.{idle_by, restarted_by}
 use Rattle.sock_tcp.specs.View.{View, fresh, moment_of}
@@ -150,7 +150,7 @@ module _ (P : View → Type 0) (f : Facts) (k : KeptByBeginnings P (moment_of f)
 pub record KeptBySending (P : View → Type 0) (now : Instant) : Type 0 where
   pub renews : (u : View) → P u → P (after_any u now)
   pub moves : (u : View) (e : Emitted) → P u → P (snd_nxt_moved u e)
-  pub times : (u : View) (e : Emitted) → P u → P (record u { rtte = sent u.rtte now e.end; timer = retransmit_unless_set u.timer now u.rtte; congestion_controller = post_transmitted (restarted_by u.rules u.idle_at now u.congestion_controller) now e.len; idle_at = idle_by u.rules u.idle_at now u.rtte })
+  pub times : (u : View) (e : Emitted) → P u → P (record u { rtte = sent u.rtte now e.end; timer = retransmit_unless_set u.timer now u.rtte; congestion_controller = post_transmitted (restarted_by u.rules u.idle_at now u.congestion_controller) now e.len; idle_at = idle_by u.rules u.idle_at now u.rtte; pending_fast_retransmit = u.pending_fast_retransmit || goes_on u })
   pub probes : (u : View) → P u → P (after_probe u now)
 
 module _ (P : View → Type 0) (now : Instant) (k : KeptBySending P now) where
@@ -158,7 +158,7 @@ module _ (P : View → Type 0) (now : Instant) (k : KeptBySending P now) where
   unfolding sending_timed
   timed_kept u e h = go (e.len == 0)
     where
-      go : (b : Bool) → P (if b then u else record u { rtte = sent u.rtte now e.end; timer = retransmit_unless_set u.timer now u.rtte; congestion_controller = post_transmitted (restarted_by u.rules u.idle_at now u.congestion_controller) now e.len; idle_at = idle_by u.rules u.idle_at now u.rtte })
+      go : (b : Bool) → P (if b then u else record u { rtte = sent u.rtte now e.end; timer = retransmit_unless_set u.timer now u.rtte; congestion_controller = post_transmitted (restarted_by u.rules u.idle_at now u.congestion_controller) now e.len; idle_at = idle_by u.rules u.idle_at now u.rtte; pending_fast_retransmit = u.pending_fast_retransmit || goes_on u })
       go true = h
       go false = k.times u e h
 

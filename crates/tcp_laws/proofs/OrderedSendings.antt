@@ -1,5 +1,5 @@
 -- What a dispatch sends keeps the order of SND.UNA, SND.NXT, the transmit queue and the timer.
-use Rattle.std.proofs.Common.{◌≡◌, ℕ, ◌+◌, ◌-◌, ◌<◌, ◌≤◌, ◌%◌, ◌^◌, max, min, ◌⊎◌, inl, inr, Bool, true, false, true≢false, refl, sym, ap, subst, ◌∙◌, List, length, Option, Some, None, arith}
+use Rattle.std.proofs.Common.{◌||◌, ◌≡◌, ℕ, ◌+◌, ◌-◌, ◌<◌, ◌≤◌, ◌%◌, ◌^◌, max, min, ◌⊎◌, inl, inr, Bool, true, false, true≢false, refl, sym, ap, subst, ◌∙◌, List, length, Option, Some, None, arith}
 use Rattle.std.specs.Prelude.{if◌then◌else◌, ◌==◌, option_map}
 use Rattle.std.proofs.lemmas.Bool.{eqb-true}
 use Rattle.net_base.specs.declared.time.Duration.{Duration}
@@ -18,7 +18,7 @@ use Rattle.sock_tcp.specs.Rfc.Idle.{idle_by, restarted_by}
 use Rattle.sock_tcp.specs.Content.{Sending, content, data_control, filled, emission_kind, hole_of, number_of, offset_of, of_kind, plain_segment, sent_as, with_data}
 use Rattle.sock_tcp.specs.Due.{flight, is_closed, is_closing}
 use Rattle.sock_tcp.specs.Rfc.Scoreboard.{hole_number, hole_start}
-use Rattle.sock_tcp.specs.Sent.{emitted_as, after_any, after_probe, snd_nxt_moved, sending_timed, after_sending, left_by}
+use Rattle.sock_tcp.specs.Sent.{goes_on, emitted_as, after_any, after_probe, snd_nxt_moved, sending_timed, after_sending, left_by}
 use Rattle.tcp_laws.specs.SocketRun.{SendsTo}
 use Rattle.sock_tcp.specs.Timers.{keep_alive_renewed, probe_doubled, retransmit_unless_set}
 use Rattle.sock_tcp.specs.View.{View, moment_of}
@@ -276,7 +276,7 @@ module _ (u : View) (now : Instant) (h : IsOrdered u) where
       row : (z : Bool) → (segment_len s == 0) ≡ z → Row u.state (if z then moved.timer else retransmit_unless_set moved.timer now moved.rtte) u.keep_alive (seq_sub (later_of u.remote_last_seq end) u.local_seq_no) (length u.tx_buffer.bytes)
       row z e = plain_row u.state moved.timer now moved.rtte u.keep_alive _ _ _ (segment_len s) (length u.tx_buffer.bytes) any_ordered.row ends up z e
 
-      go : (z : Bool) → (segment_len s == 0) ≡ z → IsOrdered (if z then moved else record moved { rtte = sent moved.rtte now end; timer = retransmit_unless_set moved.timer now moved.rtte; congestion_controller = post_transmitted (restarted_by moved.rules moved.idle_at now moved.congestion_controller) now (segment_len s); idle_at = idle_by moved.rules moved.idle_at now moved.rtte })
+      go : (z : Bool) → (segment_len s == 0) ≡ z → IsOrdered (if z then moved else record moved { rtte = sent moved.rtte now end; timer = retransmit_unless_set moved.timer now moved.rtte; congestion_controller = post_transmitted (restarted_by moved.rules moved.idle_at now moved.congestion_controller) now (segment_len s); idle_at = idle_by moved.rules moved.idle_at now moved.rtte; pending_fast_retransmit = moved.pending_fast_retransmit || goes_on moved })
       go true e = record { una_small = h.una_small; nxt_small = later_small u.remote_last_seq end h.nxt_small (omega arith); room = h.room; congestion = h.congestion; peered = peer_stays u.state u.tuple h.peered; row = row true e }
       go false e = record { una_small = h.una_small; nxt_small = later_small u.remote_last_seq end h.nxt_small (omega arith); room = h.room; congestion = post_transmitted_open _ _ _ (restarted_open u.rules u.idle_at now u.congestion_controller h.congestion); peered = peer_stays u.state u.tuple h.peered; row = row false e }
 

@@ -12,7 +12,6 @@ use Rattle.control_wire.specs.Segment.{Segment, control_len, is_empty_segment, i
 use Rattle.control_wire.specs.declared.seq_number.TcpSeqNumber.{TcpSeqNumber}
 use Rattle.control_wire.specs.declared.tcp.TcpControl.{TcpControl}
 use Rattle.control_wire.specs.declared.tcp.TcpControl.TheVariants as control
-use Rattle.sock_core.specs.Congestion.{congestion_window}
 use Rattle.sock_core.specs.Facts.{Facts, IsLawful}
 use Rattle.sock_core.specs.Received.{room_of}
 use Rattle.sock_core.specs.Seq.{is_before, later_of}
@@ -21,7 +20,7 @@ use Rattle.sock_core.specs.declared.context.PollAt.TheVariants as poll
 use Rattle.sock_tcp.proofs.Windows.{far, left_is_told}
 use Rattle.sock_tcp.specs.Begin.{Begun, readied, after_timers, peer_of}
 use Rattle.sock_tcp.specs.Content.{Sending, asked, carries_data, content, emission_kind, filled, is_probing, of_kind, offset_of, plain_segment, sent_as, window_left}
-use Rattle.sock_tcp.specs.Due.{ack_due, ack_poll, data_due, edge_sent, effective_mss, field_left, flight, is_ack_after, is_closed, is_closing, is_doubled, is_held_back, is_opening, limited, limited_by, sendable, tells_window, window_doubled, window_field}
+use Rattle.sock_tcp.specs.Due.{ack_due, ack_poll, data_due, edge_sent, effective_mss, field_left, flight, is_ack_after, is_closed, is_closing, is_doubled, is_held_back, is_opening, congestion_left, sendable, tells_window, window_doubled, window_field}
 use Rattle.sock_tcp.specs.Poll.{is_due_now, poll_moment, poll_moment_to}
 use Rattle.sock_tcp.specs.Polls.{delay_poll, earlier, is_reached, timer_poll, timeout_poll}
 use Rattle.sock_tcp.specs.Queue.{IsLent, Queue}
@@ -33,8 +32,6 @@ use Rattle.sock_tcp.specs.declared.emission.Kind.{Kind}
 use Rattle.sock_tcp.specs.declared.emission.Kind.TheVariants as kind
 use Rattle.sock_tcp.specs.declared.recovery.Recovery.{Recovery}
 use Rattle.sock_tcp.specs.declared.recovery.Recovery.TheVariants as recovery
-use Rattle.sock_tcp.specs.declared.rules.Rules.{Rules}
-use Rattle.sock_tcp.specs.declared.rules.Rules.TheVariants as rules
 use Rattle.sock_tcp.specs.declared.state.State.{State}
 use Rattle.sock_tcp.specs.declared.state.State.TheVariants as state
 use Rattle.sock_tcp.specs.declared.timer.Timer.{Timer}
@@ -117,7 +114,7 @@ record LeftAs (u w : View) (now : Instant) : Type 0 where
   tx : w.tx_buffer ≡ u.tx_buffer
   window : w.remote_win_len ≡ u.remote_win_len
   congestion : w.congestion_controller ≡ u.congestion_controller
-  limited_same : limited w ≡ limited u
+  left : congestion_left w ≡ congestion_left u
   una : w.local_seq_no ≡ u.local_seq_no
   nxt : w.remote_last_seq ≡ u.remote_last_seq
   marked : w.pending_fast_retransmit ≡ (u.pending_fast_retransmit && not (carries_data u.state))
@@ -128,7 +125,7 @@ record LeftAs (u w : View) (now : Instant) : Type 0 where
 
 module _ (u w : View) (now : Instant) (l : LeftAs u w now) where
   sendable_same : sendable w ≡ sendable u
-  sendable_same = λ i. min (min (l.window i) (length (l.tx i).bytes) - seq_sub (l.nxt i) (l.una i)) (congestion_window (l.congestion i) - (seq_sub (l.nxt i) (l.una i) - l.limited_same i))
+  sendable_same = λ i. min (min (l.window i) (length (l.tx i).bytes) - seq_sub (l.nxt i) (l.una i)) (l.left i)
 
   no_data_due : (t : Tuple) (f : Facts) → NothingDue u → data_due w t f ≡ true → ⊥
   unfolding data_due
@@ -265,16 +262,19 @@ module _ (u : View) (now : Instant) (b : Segment) (a : AckOf u b) (o : IsOrdered
       by (inl e) = let k : seq_add b.seq_number (segment_len b) ≡ nxt = ap (λ x. seq_add x (segment_len b)) e ∙ itself nxt o.nxt_small in rw k (at_nxt (is_before nxt nxt))
       by (inr e) = let k : seq_add b.seq_number (segment_len b) ≡ u.local_seq_no = ap (λ x. seq_add x (segment_len b)) e ∙ itself u.local_seq_no o.una_small in rw k (at_una (is_before nxt u.local_seq_no) refl)
 
-  limited_stays : (r : Rules) (c : Recovery) → limited_by r (resent_by c u.remote_last_seq (emitted_as kind.Plain b)) u.local_rx_dup_acks u.remote_mss ≡ limited_by r c u.local_rx_dup_acks u.remote_mss
-  limited_stays rules.Smoltcp c = refl
-  limited_stays rules.Rfc recovery.Open = refl
-  limited_stays rules.Rfc (recovery.Fast point high_rxt resent_at) = refl
-  limited_stays rules.Rfc (recovery.Probe start end) = refl
-  limited_stays rules.Rfc (recovery.Timeout point) = refl
+  no_move : (x : Bool) (k h : TcpSeqNumber) → (if x && not (segment_len b == 0) then k else h) ≡ h
+  no_move true k h = rw a.tells.empty refl
+  no_move false k h = refl
+
+  recovery_stays : (c : Recovery) → resent_by c u.remote_last_seq (emitted_as kind.Plain b) ≡ c
+  recovery_stays recovery.Open = refl
+  recovery_stays (recovery.Fast point high_rxt resent_at) = ap (λ k. recovery.Fast point k resent_at) (no_move (is_before b.seq_number u.remote_last_seq) _ high_rxt)
+  recovery_stays (recovery.Probe start end) = refl
+  recovery_stays (recovery.Timeout point) = refl
 
   left_as : LeftAs u plain_left now
   unfolding snd_nxt_moved after_any
-  left_as = record { state = refl; tx = refl; window = refl; congestion = refl; limited_same = limited_stays u.rules u.recovery; una = refl; nxt = nxt_stays; marked = refl; timer = refl; keep_alive = refl; timeout = refl; last = refl }
+  left_as = record { state = refl; tx = refl; window = refl; congestion = refl; left = λ i. congestion_left (record u { recovery = recovery_stays u.recovery i; remote_last_seq = nxt_stays i }); una = refl; nxt = nxt_stays; marked = refl; timer = refl; keep_alive = refl; timeout = refl; last = refl }
 
   no_ack_due : ack_due plain_left ≡ true → ⊥
   unfolding ack_due snd_nxt_moved after_any
@@ -333,7 +333,7 @@ module _ (u : View) (f : Facts) (o : IsOrdered u) (q : IsProbing u) (settled : S
   -- a keep-alive
   kept_as : LeftAs u (after_any u (moment_of f)) (moment_of f)
   unfolding after_any
-  kept_as = record { state = refl; tx = refl; window = refl; congestion = refl; limited_same = refl; una = refl; nxt = refl; marked = refl; timer = refl; keep_alive = refl; timeout = refl; last = refl }
+  kept_as = record { state = refl; tx = refl; window = refl; congestion = refl; left = refl; una = refl; nxt = refl; marked = refl; timer = refl; keep_alive = refl; timeout = refl; last = refl }
 
   kept_again : (b : Segment) → AckOf u b → is_reached (poll_moment (after_any u (moment_of f)) f) (moment_of f) ≡ true → WantsAnother (after_any u (moment_of f)) kind.KeepAlive (moment_of f)
   unfolding poll_moment

@@ -1,18 +1,19 @@
 -- How a socket with work to do waits for a segment, and what keeps it from it.
-use Rattle.std.proofs.Common.{◌≡◌, ℕ, zero, suc, ◌<◌, ◌^◌, ◌⊎◌, inl, inr, Bool, true, false, true≢false, not, ◌&&◌, ◌||◌, refl, sym, ap, subst, ◌∙◌, length, Option, Some, None, is_none, is_some, arith}
+use Rattle.std.proofs.Common.{◌-◌, ◌≡◌, ℕ, zero, suc, ◌<◌, ◌^◌, ◌⊎◌, inl, inr, Bool, true, false, true≢false, not, ◌&&◌, ◌||◌, refl, sym, ap, subst, ◌∙◌, length, Option, Some, None, is_none, is_some, arith}
 use Rattle.std.specs.Prelude.{if◌then◌else◌, ◌==◌, nat_lt}
 use Rattle.std.proofs.lemmas.Bool.{eq-eqb, eqb-true, or_parts}
 use Rattle.std.proofs.lemmas.Option.{none-some}
 use Rattle.net_base.specs.declared.time.Duration.{Duration}
 use Rattle.net_base.specs.declared.time.Instant.{Instant}
 use Rattle.control_wire.specs.Seq.{seq_add}
-use Rattle.sock_core.specs.Congestion.{congestion_window}
+use Rattle.sock_core.specs.Congestion.{bounded, recovery_window, congestion_window}
 use Rattle.sock_core.specs.Facts.{Facts}
 use Rattle.sock_core.specs.declared.congestion.AnyController.{AnyController}
 use Rattle.sock_core.specs.declared.congestion.AnyController.TheVariants as controller
 use Rattle.sock_core.specs.declared.context.PollAt.{PollAt}
 use Rattle.sock_core.specs.declared.context.PollAt.TheVariants as poll
-use Rattle.sock_tcp.specs.Due.{ack_due, ack_poll, data_due, effective_mss, flight, is_closed, is_closing, is_held_back, is_opening, sendable, window_doubled}
+use Rattle.sock_tcp.specs.Due.{congestion_left, in_network, is_counted, limited, ack_due, ack_poll, data_due, effective_mss, flight, is_closed, is_closing, is_held_back, is_opening, sendable, window_doubled}
+use Rattle.sock_tcp.specs.Rfc.Pipe.{pipe}
 use Rattle.sock_tcp.specs.Poll.{is_due_now, poll_moment, poll_moment_to}
 use Rattle.sock_tcp.specs.Polls.{delay_poll, earlier, timer_poll, timeout_poll}
 use Rattle.sock_tcp.specs.View.{View}
@@ -135,12 +136,29 @@ open_window : (c : AnyController) → IsOpen c → 0 < congestion_window c
 open_window (controller.None x) h = omega arith
 open_window (controller.Reno r) h = h.cwnd
 
+open_recovery : (c : AnyController) → IsOpen c → 0 < recovery_window c
+open_recovery (controller.None x) h = omega arith
+open_recovery (controller.Reno r) h = by r.in_recovery
+  where
+    by : (b : Bool) → 0 < (if b then bounded r r.ssthresh else r.cwnd)
+    by true = omega (arith, h.mss)
+    by false = h.cwnd
+
+-- with nothing in flight the congestion window leaves something
+pub congestion_leaves : (v : View) → IsOpen v.congestion_controller → flight v ≡ 0 → 0 < congestion_left v
+unfolding pipe
+congestion_leaves v h z = by (is_counted v)
+  where
+    by : (b : Bool) → 0 < (if b then recovery_window v.congestion_controller - in_network v else congestion_window v.congestion_controller - (flight v - limited v))
+    by true = omega (arith, z, open_recovery v.congestion_controller h)
+    by false = omega (arith, z, open_window v.congestion_controller h)
+
 -- what waits is due where the peer has a window and nothing is in flight
 pub window_sends : (v : View) (t : Tuple) (f : Facts) → IsOrdered v → 0 < v.remote_win_len → flight v ≡ 0 → HasToSend v → data_due v t f ≡ true
 window_sends v t f h win z send = go (data_due v t f) refl
   where
     empty : data_due v t f ≡ false → length v.tx_buffer.bytes ≡ 0
-    empty e = omega (arith, z, win, data_goes v t f e z, open_window v.congestion_controller h.congestion)
+    empty e = omega (arith, z, win, data_goes v t f e z, congestion_leaves v h.congestion z)
 
     nothing : HasToSend v → data_due v t f ≡ false → ⊥
     nothing (inl some) e = omega (arith, some, empty e)
@@ -159,7 +177,7 @@ module _ (v : View) (t : Tuple) (f : Facts) (h : IsOrdered v) (w : Quiet v t f) 
   n = length v.tx_buffer.bytes
 
   no_window : flight v ≡ 0 → 0 < n → v.remote_win_len ≡ 0
-  no_window z some = omega (arith, z, some, data_goes v t f w.no_data z, open_window v.congestion_controller h.congestion)
+  no_window z some = omega (arith, z, some, data_goes v t f w.no_data z, congestion_leaves v h.congestion z)
 
   data_waits : 0 < n → WaitsForPeer (flight v) v.remote_win_len
   data_waits some = go (zero_or_not (flight v))

@@ -14,7 +14,7 @@ use Rattle.sock_tcp.specs.Dispatch.{Dispatches, EmitTcp, EmitsTo}
 use Rattle.sock_tcp.specs.Due.{ack_poll, data_due, is_closed, is_due, window_doubled}
 use Rattle.sock_tcp.specs.Opening.{renewed}
 use Rattle.sock_tcp.specs.Polls.{is_reached, timeout_poll}
-use Rattle.sock_tcp.specs.Sent.{after_any, after_kind, after_probe, after_sending, emitted_as, left_by, sending_timed, snd_nxt_moved}
+use Rattle.sock_tcp.specs.Sent.{goes_on, after_any, after_kind, after_probe, after_sending, emitted_as, left_by, sending_timed, snd_nxt_moved}
 use Rattle.sock_tcp.specs.Timers.{is_keep_alive_over, is_probe_over, retransmit_unless_set}
 use Rattle.sock_tcp.specs.View.{View, fresh, moment_of}
 use Rattle.sock_tcp.specs.declared.emission.Emitted.{Emitted}
@@ -34,7 +34,7 @@ timed_state : (v : View) (now : Instant) (s : Emitted) → (sending_timed v now 
 unfolding sending_timed
 timed_state v now s = go (s.len == 0)
   where
-    go : (b : Bool) → (if b then v else record v { rtte = sent v.rtte now s.end; timer = retransmit_unless_set v.timer now v.rtte; congestion_controller = post_transmitted (restarted_by v.rules v.idle_at now v.congestion_controller) now s.len; idle_at = idle_by v.rules v.idle_at now v.rtte }).state ≡ v.state
+    go : (b : Bool) → (if b then v else record v { rtte = sent v.rtte now s.end; timer = retransmit_unless_set v.timer now v.rtte; congestion_controller = post_transmitted (restarted_by v.rules v.idle_at now v.congestion_controller) now s.len; idle_at = idle_by v.rules v.idle_at now v.rtte; pending_fast_retransmit = v.pending_fast_retransmit || goes_on v }).state ≡ v.state
     go true = refl
     go false = refl
 

@@ -1,8 +1,8 @@
 -- What the RFCs' rules do of loss, once a segment was heard as by either rules: recovery by SACK (RFC 6675) and by
 -- partial acknowledgements (RFC 6582), duplicates (RFC 5681, section 3.2; RFC 5827), and the retransmission timer (RFC
 -- 6298, section 5).
-use Rattle.std.specs.Prelude.{ℕ, nat_lt, nat_le, ◌+◌, ◌*◌, length, max, min, Option, Some, None, is_some, Bool, true}
-use Rattle.std.specs.Prelude.{false, not}
+use Rattle.std.specs.Prelude.{ℕ, nat_lt, nat_le, ◌+◌, ◌*◌, ◌^◌, length, max, min, Option, Some, None, is_some, Bool}
+use Rattle.std.specs.Prelude.{true, false, not}
 use Rattle.std.specs.Prelude.{◌==◌, ◌&&◌, ◌||◌, if◌then◌else◌}
 use Rattle.std.specs.Int.{div_ceil}
 use Rattle.net_base.specs.declared.time.Duration.{Duration}
@@ -12,7 +12,8 @@ use Rattle.control_wire.specs.Seq.{seq_eq, seq_sub}
 use Rattle.control_wire.specs.declared.seq_number.TcpSeqNumber.{TcpSeqNumber}
 use Rattle.control_wire.specs.declared.tcp.TcpControl.{TcpControl}
 use Rattle.control_wire.specs.declared.tcp.TcpControl.TheVariants as control
-use Rattle.sock_core.specs.Congestion.{bytes_acked, dup_acked, opened, partially_acked, with_remote_window}
+use Rattle.sock_core.specs.Congestion.{bytes_acked, dup_acked, opened, partially_acked, recovery_window}
+use Rattle.sock_core.specs.Congestion.{with_remote_window}
 use Rattle.sock_core.specs.Estimator.{Estimator, begun_anew, is_backed_off}
 use Rattle.sock_core.specs.Seq.{is_before, later_of}
 use Rattle.sock_core.specs.declared.congestion.AnyController.{AnyController}
@@ -20,6 +21,7 @@ use Rattle.sock_tcp.specs.Content.{again_from, carries_data, next_hole}
 use Rattle.sock_tcp.specs.Due.{flight, is_opening}
 use Rattle.sock_tcp.specs.Inside.{Outcome}
 use Rattle.sock_tcp.specs.Rfc.Scoreboard.{all_told, any_news, highest_told, is_blank, moved, nothing_told}
+use Rattle.sock_tcp.specs.Rfc.Pipe.{has_room, told_before}
 use Rattle.sock_tcp.specs.Rfc.TailLoss.{is_alone, may_probe, tail_waits}
 use Rattle.sock_tcp.specs.Steps.{is_duplicate}
 use Rattle.sock_tcp.specs.Timers.{idle_from, probe_from, retransmit_from}
@@ -144,9 +146,15 @@ is_told_to_end _ k una = false
 abbrev pub is_probe_told : Before → View → Bool
 is_probe_told b w = only_tells b w && is_told_to_end b.recovery (sacked_after b w) w.local_seq_no
 
--- the third duplicate, or an earlier one that suffices
+-- more than two segments behind a hole at SND.UNA (RFC 6675, section 4, IsLost)
+abbrev pub is_told_lost : Before → View → Bool
+is_told_lost b w = only_tells b w && nat_lt (2 * w.remote_mss) (told_before (sacked_after b w) (2 ^ 32))
+
+-- the third duplicate, or what suffices before it
 abbrev pub tells_loss : Before → View → Bool
-tells_loss b w = is_called b w || ((is_uncounted b w && (b.duplicates == 2)) || (is_early b w || is_probe_told b w))
+tells_loss b w =
+    is_called b w || ((is_uncounted b w && (b.duplicates == 2))
+    || (is_early b w || (is_probe_told b w || is_told_lost b w)))
 
 abbrev pub duplicates_after : Before → View → ℕ
 duplicates_after b w = if is_uncounted b w then min (b.duplicates + 1) 255 else w.local_rx_dup_acks
@@ -197,8 +205,8 @@ is_lost_in _ k una mss = false
 abbrev pub is_lost_again : Before → View → Bool
 is_lost_again b w = only_tells b w && is_lost_in b.recovery (sacked_after b w) w.local_seq_no w.remote_mss
 
--- where SND.UNA has moved, no probe is out any longer, and what is told next is measured from now on; where a segment was lost again, holes go out
--- again from SND.UNA on
+-- where SND.UNA has moved, no probe is out any longer, and what is told next is measured from now on; where a segment
+-- was lost again, holes go out again from SND.UNA on
 abbrev pub again_by : Bool → Bool → Recovery → TcpSeqNumber → TcpSeqNumber → Recovery
 again_by true lost (recovery.Fast point high_rxt resent_at) una nxt =
     recovery.Fast point high_rxt (highest_of (recovery.Fast point high_rxt resent_at) nxt)
@@ -210,10 +218,17 @@ again_by _ _ r una nxt = r
 abbrev pub again : Before → View → Recovery
 again b w = again_by (is_news b w) (is_lost_again b w) b.recovery w.local_seq_no w.remote_last_seq
 
--- what is told anew, and acknowledges nothing, lets out the next hole, unless one is still to go out
+-- the network has room for a hole
+abbrev pub has_room_after : Before → View → Bool
+has_room_after b w =
+    has_room (again b w) (sacked_after b w) w.local_seq_no (flight w) (recovery_window b.controller) w.remote_mss
+
+-- what is told anew, and acknowledges nothing, lets out the next hole, where there is room, unless one is still to go
+-- out
 abbrev pub lets_out : Before → View → Bool
 lets_out b w =
-    only_tells b w && (not (is_fast b.timer) && has_hole (again b w) (sacked_after b w) w.local_seq_no)
+    only_tells b w && (not (is_fast b.timer)
+    && (has_hole (again b w) (sacked_after b w) w.local_seq_no && has_room_after b w))
 
 -- a hole goes out again, or the segment at SND.UNA: a recovery begins, or goes on
 abbrev pub resends : Before → View → Bool

@@ -1,5 +1,5 @@
--- Tail-loss probes, by the RFCs' rules (RFC 8985, section 7): where the acknowledgements stop, one segment goes out before
--- the retransmission timer is over, so that a loss at the end of a flight is told by SACK.
+-- Tail-loss probes, by the RFCs' rules (RFC 8985, section 7): where the acknowledgements stop, one segment goes out
+-- before the retransmission timer is over, so that a loss at the end of a flight is told by SACK.
 use Rattle.std.specs.Prelude.{ℕ, ◌+◌, ◌-◌, ◌*◌, nat_lt, nat_le, length, max, min, is_some, Bool, true, false, not}
 use Rattle.std.specs.Prelude.{◌==◌, ◌&&◌, ◌||◌, if◌then◌else◌}
 use Rattle.control_wire.specs.Seq.{seq_add}

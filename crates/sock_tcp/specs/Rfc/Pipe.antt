@@ -1,0 +1,49 @@
+-- How much is in the network while a fast retransmission goes on and the peer tells by SACK (RFC 6675, sections 2 and
+-- 4).
+use Rattle.std.specs.Prelude.{ℕ, ◌+◌, ◌-◌, nat_le, max, min, Bool, false, not, if◌then◌else◌}
+use Rattle.control_wire.specs.Seq.{seq_sub}
+use Rattle.control_wire.specs.declared.seq_number.TcpSeqNumber.{TcpSeqNumber}
+use Rattle.sock_core.specs.Seq.{is_before}
+use Rattle.sock_tcp.specs.Rfc.Scoreboard.{highest_told}
+use Rattle.sock_tcp.specs.declared.recovery.Recovery.{Recovery}
+use Rattle.sock_tcp.specs.declared.recovery.Recovery.TheVariants as recovery
+use Rattle.sock_tcp.specs.declared.rules.Rules.{Rules}
+use Rattle.sock_tcp.specs.declared.rules.Rules.TheVariants as rules
+use Rattle.sock_tcp.specs.declared.scoreboard.SackBlock.{SackBlock}
+use Rattle.sock_tcp.specs.declared.scoreboard.Scoreboard.{Scoreboard}
+
+-- from which byte behind SND.UNA on nothing was sent again in this recovery
+abbrev pub again_from : TcpSeqNumber → TcpSeqNumber → ℕ
+again_from high_rxt una = if is_before una high_rxt then seq_sub high_rxt una else 0
+
+-- ---- what was told
+
+-- how many bytes of a block lie before a place
+abbrev pub before_place : ℕ → SackBlock → ℕ
+before_place p b = min b.end p - min b.start p
+
+unfoldable pub told_before : Scoreboard → ℕ → ℕ
+told_before k p =
+    min p (before_place p k.newest + before_place p k.second + before_place p k.third + before_place p k.oldest)
+
+-- ---- what is in the network
+
+-- it is counted in a recovery, while something is told
+abbrev pub counts : Rules → Recovery → Bool → Bool
+counts rules.Rfc (recovery.Fast point high_rxt resent_at) blank = not blank
+counts _ r blank = false
+
+-- how far holes were sent again, at most up to the highest byte that was told
+abbrev pub resent_to : Recovery → Scoreboard → TcpSeqNumber → ℕ
+resent_to (recovery.Fast point high_rxt resent_at) k una = min (again_from high_rxt una) (highest_told k)
+resent_to r k una = 0
+
+-- with so much sent behind SND.UNA: what lies behind the highest byte that was told, and the holes that were sent
+-- again; the other holes are lost
+unfoldable pub pipe : Recovery → Scoreboard → TcpSeqNumber → ℕ → ℕ
+pipe r k una sent =
+    min sent (sent - highest_told k + (resent_to r k una - told_before k (resent_to r k una)))
+
+-- a segment fits in what the window leaves
+abbrev pub has_room : Recovery → Scoreboard → TcpSeqNumber → ℕ → ℕ → ℕ → Bool
+has_room r k una sent window mss = nat_le (max mss 1) (window - pipe r k una sent)
