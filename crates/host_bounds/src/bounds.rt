@@ -1,5 +1,5 @@
 //! Lower bounds of the moments at which places want to be asked.
-ghost use Rattle.std.specs.Prelude.{ℕ, ◌≡◌, ◌≤◌, ◌<◌, ◌<ℤ◌, ◌≤ℤ◌, IfOk, length, slice_set};
+ghost use Rattle.std.specs.Prelude.{ℕ, ◌≡◌, ◌≤◌, ◌<◌, ◌<ℤ◌, ◌≤ℤ◌, IfOk, length, slice_set, true};
 ghost use Rattle.std.specs.List.{All};
 ghost use Rattle.host_bounds.specs.Bounding.{FindsReached, IsBelowAll, IsLayered, at_once, bound_at};
 
@@ -77,6 +77,23 @@ impl Bounds {
         lower_all(&mut self.places);
         lower_all(&mut self.blocks);
         lower_all(&mut self.groups);
+    }
+
+    /// The bound of a place; the least where it is not there.
+    pub fn get(&self, place: usize) -> i64
+        ensures { result ≡ bound_at self.now place }
+    {
+        match self.places.get(place) {
+            Some(bound) => *bound,
+            None => i64::MIN,
+        }
+    }
+
+    /// Whether no place wants to be asked by now, as the highest bounds tell; they may not tell it.
+    pub fn are_after(&self, now: i64) -> bool
+        ensures { result ≡ true → (k : ℕ) → k < length self.now → now <ℤ bound_at self.now k }
+    {
+        now < self.least()
     }
 
     // The next place that may want to be asked by now: this one, or one before which none does.

@@ -22,6 +22,7 @@ use Rattle.ip_wire.specs.declared.checksum.ChecksumCapabilities.{ChecksumCapabil
 use Rattle.segment_wire.specs.Packet.{TcpPacket, tcp_packet}
 use Rattle.sock_core.specs.Emission.{Emits}
 use Rattle.sock_core.specs.Facts.{Facts}
+use Rattle.sock_tcp.specs.Rfc.Numbers.{outgoing}
 use Rattle.sock_tcp.specs.Begin.{before_emit, peer_of}
 use Rattle.sock_tcp.specs.Content.{content}
 use Rattle.sock_tcp.specs.Dispatch.{Dispatches, EmitTcp, EmitsTo, packet_in}
@@ -87,7 +88,7 @@ module _ {F K C E : Type 0} (g : EmitTcp F C E) (f : F) (h : EmitTcp K C E) (k :
             stamped = x.emits.stamped;
             bytes = x.emits.bytes;
             lent = x.emits.lent;
-            emits = emits (option_map packet_in (content v t facts x.stamp x.emits.bytes)) x.emits.emits;
+            emits = emits (option_map packet_in (outgoing v (content v t facts x.stamp x.emits.bytes))) x.emits.emits;
             view = x.emits.view;
             fits = x.emits.fits;
           };
@@ -121,7 +122,7 @@ module _ {W : Type 0} (c c' : Interface W Outbox) (r : Result (Unit {0}) AllocEr
   module _ (facts : Facts) {G : Type 0} (tells : G → ℕ → Type 0) (clock : Option G) where
     given : (o : Option Tuple) (v w : View) → EmitsTo puts_tcp tt facts tells clock o v c r w c' → Leaves
     given None v w x = quiet x.answer x.context
-    given (Some t) v w x = emitted (option_map packet_in (content v t facts x.stamp x.emits.bytes)) x.emits.emits
+    given (Some t) v w x = emitted (option_map packet_in (outgoing v (content v t facts x.stamp x.emits.bytes))) x.emits.emits
 
     pub leaves : (v w : View) → Dispatches puts_tcp tt facts tells clock v c r w c' → Leaves
     unfolding Dispatches

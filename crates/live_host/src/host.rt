@@ -44,8 +44,11 @@ pub struct Host<S> {
     udp: SocketHandle,
     // of each service the slot that was the last to listen for it
     listeners: [Option<usize>; 4],
-    // from where on the next socket is looked for that can listen
+    // the places from here on are kept for peers that answer a SYN cookie
+    kept_from: usize,
+    // from where on the next socket is looked for that can listen, before those that are kept, and among them
     next: usize,
+    next_kept: usize,
     outbox: Outbox,
     patterns: Patterns,
     arrived: u64,
@@ -62,6 +65,7 @@ impl<'a> Host<SocketSet<'a, Clock>> {
         sockets: SocketSet<'a, Clock>,
         slots: Vec<Slot>,
         udp: SocketHandle,
+        kept_from: usize,
         outbox: Outbox,
     ) -> LiveHost<'a> {
         Host {
@@ -71,7 +75,9 @@ impl<'a> Host<SocketSet<'a, Clock>> {
             slots,
             udp,
             listeners: [None; 4],
+            kept_from,
             next: 0,
+            next_kept: kept_from,
             outbox,
             patterns: Patterns::new(),
             arrived: 0,
@@ -204,23 +210,35 @@ impl Host<SocketSet<'_, Clock>> {
         }
     }
 
-    // Of the next few places the first that is closed, else the first in TIME-WAIT.
+    // A place that is kept only where no other may listen.
     fn spare(&mut self) -> Option<usize> {
-        let mut resting = None;
-        for _ in 0..LOOKS.min(self.slots.len()) {
-            let place = self.next;
-            self.next = if place.saturating_add(1) < self.slots.len() {
-                place.saturating_add(1)
+        let (open, next) = self.spare_between(0, self.kept_from, self.next);
+        self.next = next;
+        if open.is_some() {
+            return open;
+        }
+        let (kept, next) = self.spare_between(self.kept_from, self.slots.len(), self.next_kept);
+        self.next_kept = next;
+        kept
+    }
+
+    // Of the next few of these places the first that is closed, else the first in TIME-WAIT; and where to go on.
+    fn spare_between(&self, start: usize, end: usize, next: usize) -> (Option<usize>, usize) {
+        let (mut place, mut resting) = (next, None);
+        for _ in 0..LOOKS.min(end.saturating_sub(start)) {
+            let here = place;
+            place = if here.saturating_add(1) < end {
+                here.saturating_add(1)
             } else {
-                0
+                start
             };
-            match self.state(place) {
-                Some(State::Closed) => return Some(place),
-                Some(State::TimeWait) if resting.is_none() => resting = Some(place),
+            match self.state(here) {
+                Some(State::Closed) => return (Some(here), place),
+                Some(State::TimeWait) if resting.is_none() => resting = Some(here),
                 _ => {}
             }
         }
-        resting
+        (resting, place)
     }
 }
 

@@ -6,7 +6,7 @@ use crate::fault::Fault;
 use crate::host::{Counts, Host, LiveHost};
 use crate::outbox::Outbox;
 use crate::slot::Slot;
-use net_host::{GuardSettings, Interface, IpCidr, Secret, SocketHandle, SocketSet};
+use net_host::{GuardSettings, Interface, IpCidr, Secret, SocketHandle, SocketSet, SynCookies};
 use pcap::stream::{Format, HEADER, LONGEST, PcapError, RECORD, Record, stream_header};
 use smoltcp_socket::storage::{PacketBuffer, RingBuffer};
 use smoltcp_socket::tcp::Rules;
@@ -19,13 +19,18 @@ use std::io::{ErrorKind, Read, Write};
 /// At most so many TCP sockets.
 pub const MOST_SOCKETS: usize = 10_000;
 
-// The size of each buffer of a TCP socket, in bytes, and that of many sockets.
+// The size of each buffer of a TCP socket, in bytes, and that of many sockets, and of a few by the RFCs' rules, whose
+// windows a link with a long round trip can fill.
 const BUFFER: usize = 65536;
+
+const LARGE_BUFFER: usize = 524_288;
 
 const SMALL_BUFFER: usize = 8192;
 
-// More sockets than these have small buffers.
+// More sockets than these have small buffers, and no more than those have large ones.
 const FEW: usize = 512;
+
+const VERY_FEW: usize = 64;
 
 // How many datagrams wait each way, and how many bytes they have together.
 const PLACES: usize = 8;
@@ -65,7 +70,7 @@ pub fn run<R: Read, W: Write>(
     input: &mut R,
     output: &mut W,
 ) -> Result<Counts, Fault> {
-    let size = buffer_size(setup.sockets);
+    let size = buffer_size(setup.sockets, setup.rules);
     let Ok(mut bytes) = vec![in alloc; 0u8; setup.sockets.min(MOST_SOCKETS) * 2 * size] else {
         return Err(Fault::Memory);
     };
@@ -86,10 +91,13 @@ pub fn run<R: Read, W: Write>(
     exchange(host, input, output)
 }
 
-fn buffer_size(sockets: usize) -> usize
-    ensures most { result ≤ 65536 }
+fn buffer_size(sockets: usize, rules: Rules) -> usize
+    ensures most { result ≤ 524288 }
     ensures some { 0 < result }
 {
+    if sockets <= VERY_FEW && rules == Rules::Rfc {
+        return LARGE_BUFFER;
+    }
     if sockets <= FEW { BUFFER } else { SMALL_BUFFER }
 }
 
@@ -121,8 +129,10 @@ fn host<'a>(
         handshake: Some(HANDSHAKE),
         ..GuardSettings::new()
     });
+    let kept_from = kept_from(setup.sockets);
+    interface.set_syn_cookies(Some(SynCookies::new(cookie_key(setup.seed), kept_from)));
     let outbox = Outbox::new(alloc)?;
-    Ok(Host::new(alloc, interface, sockets, slots, udp, outbox))
+    Ok(Host::new(alloc, interface, sockets, slots, udp, kept_from, outbox))
 }
 
 fn add_tcp<'a>(
@@ -132,7 +142,7 @@ fn add_tcp<'a>(
     rules: Rules,
 ) -> Result<SocketHandle, AllocError> {
     // a socket wants to know that
-    if rx.len() > BUFFER || tx.len() > BUFFER {
+    if rx.len() > LARGE_BUFFER || tx.len() > LARGE_BUFFER {
         return Err(AllocError);
     }
     let mut socket = tcp::Socket::closed(RingBuffer::new(rx), RingBuffer::new(tx), None);
@@ -162,13 +172,28 @@ fn addresses(alloc: Global, addr: Ipv4Address) -> Result<Vec<IpCidr>, AllocError
     Ok(addresses)
 }
 
-// The seed's octets, and zeros.
-fn secret(seed: u64) -> Secret {
+// The seed's octets, what the key is for, and zeros.
+fn key(seed: u64, purpose: u8) -> [u8; 32] {
     let [a, b, c, d, e, f, g, h] = seed.to_le_bytes();
-    Secret::new([
-        a, b, c, d, e, f, g, h, 0, 0, 0, 0, 0, 0, 0, 0, 0, 0, 0, 0, 0, 0, 0, 0, 0, 0, 0, 0, 0, 0,
-        0, 0,
-    ])
+    [
+        a, b, c, d, e, f, g, h, purpose, 0, 0, 0, 0, 0, 0, 0, 0, 0, 0, 0, 0, 0, 0, 0, 0, 0, 0, 0,
+        0, 0, 0, 0,
+    ]
+}
+
+fn secret(seed: u64) -> Secret {
+    Secret::new(key(seed, 0))
+}
+
+fn cookie_key(seed: u64) -> [u8; 32] {
+    key(seed, 1)
+}
+
+// The last quarter of the TCP sockets is kept for peers that answer a SYN cookie.
+fn kept_from(sockets: usize) -> usize
+    ensures { result ≤ sockets }
+{
+    sockets - sockets / 4
 }
 
 // Each record is answered before the next is read.

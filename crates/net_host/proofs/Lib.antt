@@ -22,3 +22,5 @@ pub mod Each
 pub mod Firsts
 pub mod KeptKeys
 pub mod KeptSleep
+pub mod CookieAnswers
+pub mod Believed

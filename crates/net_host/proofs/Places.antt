@@ -11,7 +11,7 @@ use Rattle.net_host.specs.declared.key.Key.TheVariants as key
 use Rattle.net_host.specs.declared.key.Keys.{Keys}
 use Rattle.net_host.specs.declared.key.Lent.{Lent}
 use Rattle.net_host.specs.Entries.{Keeps, entry_at, has, is_entry}
-use Rattle.net_host.specs.Indexing.{IsIndexed, KeepsOthers, are_filed, is_filed, is_under, lent_of, no_keys, same_key}
+use Rattle.net_host.specs.Indexing.{IsIndexed, IsLentAt, KeepsOthers, are_filed, is_filed, is_under, lent_of, no_keys, same_key}
 use Rattle.net_host.specs.Walks.{Both, ChangesAt, ChangesEach}
 use Rattle.net_host.proofs.Each.{elsewhere}
 
@@ -155,17 +155,18 @@ module _ {X : Type 0} (keys_of : X → Keys) where
 
   -- ---- the place that is lent changes
 
-  pub lent_writes : (complete : Bool) (lent : Option Lent) (ss : List X) (es : List Entry) (i : ℕ) (w : X) → lent ≡ lent_of keys_of i (slice_get ss i) → IsIndexed keys_of complete lent ss es → IsIndexed keys_of complete lent (slice_set ss i w) es
-  lent_writes complete lent ss es i w is h = go (slice_get ss i) refl is
-    where
-      go : (o : Option X) → slice_get ss i ≡ o → lent ≡ lent_of keys_of i o → IsIndexed keys_of complete lent (slice_set ss i w) es
-      go None e l = subst (λ us. IsIndexed keys_of complete lent us es) (sym (set_none ss i w e)) h
-      go (Some s) e l = subst (λ o. IsIndexed keys_of complete o (slice_set ss i w) es) (sym l) (lent_changes complete (record { place = i; keys = keys_of s }) ss es w (subst (λ o. IsIndexed keys_of complete o ss es) l h))
+  pub lent_there : (i : ℕ) (o : Option X) → IsLentAt i o (lent_of keys_of i o)
+  lent_there i None = refl
+  lent_there i (Some s) = refl
 
-  pub lent_changed : (R : X → X → Type 0) (complete : Bool) (lent : Option Lent) (ss ts : List X) (es : List Entry) (i : ℕ) → lent ≡ lent_of keys_of i (slice_get ss i) → IsIndexed keys_of complete lent ss es → ChangesAt R ss i ts → IsIndexed keys_of complete lent ts es
+  pub lent_writes : (complete : Bool) (lent : Option Lent) (ss : List X) (es : List Entry) (i : ℕ) (w : X) → IsLentAt i (slice_get ss i) lent → IsIndexed keys_of complete lent ss es → IsIndexed keys_of complete lent (slice_set ss i w) es
+  lent_writes complete None ss es i w none h = subst (λ us. IsIndexed keys_of complete None us es) (sym (set_none ss i w none)) h
+  lent_writes complete (Some l) ss es i w at h = subst (λ j. IsIndexed keys_of complete (Some l) (slice_set ss j w) es) at (lent_changes complete l ss es w h)
+
+  pub lent_changed : (R : X → X → Type 0) (complete : Bool) (lent : Option Lent) (ss ts : List X) (es : List Entry) (i : ℕ) → IsLentAt i (slice_get ss i) lent → IsIndexed keys_of complete lent ss es → ChangesAt R ss i ts → IsIndexed keys_of complete lent ts es
   lent_changed R complete lent ss ts es i is h c = subst (λ us. IsIndexed keys_of complete lent us es) (sym c.now) (lent_writes complete lent ss es i c.after is h)
 
-  pub lent_changed_if : {Y : Type 0} (r : Option Y) (R : Y → X → X → Type 0) (complete : Bool) (lent : Option Lent) (ss ts : List X) (es : List Entry) (i : ℕ) → lent ≡ lent_of keys_of i (slice_get ss i) → IsIndexed keys_of complete lent ss es → IfSome r (λ y. ChangesAt (R y) ss i ts) → IfNone r (ts ≡ ss) → IsIndexed keys_of complete lent ts es
+  pub lent_changed_if : {Y : Type 0} (r : Option Y) (R : Y → X → X → Type 0) (complete : Bool) (lent : Option Lent) (ss ts : List X) (es : List Entry) (i : ℕ) → IsLentAt i (slice_get ss i) lent → IsIndexed keys_of complete lent ss es → IfSome r (λ y. ChangesAt (R y) ss i ts) → IfNone r (ts ≡ ss) → IsIndexed keys_of complete lent ts es
   lent_changed_if None R complete lent ss ts es i is h c same = subst (λ us. IsIndexed keys_of complete lent us es) (sym same) h
   lent_changed_if (Some y) R complete lent ss ts es i is h c same = lent_changed (R y) complete lent ss ts es i is h c
 

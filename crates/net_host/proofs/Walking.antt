@@ -159,6 +159,15 @@ module _ {G : Type 0} (f : Facts) (t : Terms) (bs : List ℤ) (ys : List (Slot G
   pub over_now : AreAsleep (λ u b s. sleeps u b s) t bs ys → (k : ℕ) → f.now <ℤ bound_at bs k → IfSome (slice_get ys k) (λ s. Astir f t.guards s → ⊥)
   over_now asleep k below = rests_there k below (slice_get ys k) (asleep k)
 
+-- nobody need be asked
+module _ {G : Type 0} (f : Facts) (st : GuardSettings) (turn : ℕ) (ss : List (Slot G)) where
+  pub all_rest : ((k : ℕ) → k < length ss → IfSome (slice_get ss k) (λ s. Astir f st s → ⊥)) → LooksNext f st turn ss None ss
+  all_rest h = record { changed = λ k. each_itself (MayLook st (moment_of f)) (λ x. inl refl) (slice_get ss k); found = λ k. go k (slice_get ss k) refl; due = tt }
+    where
+      go : (k : ℕ) (o : Option (Slot G)) → slice_get ss k ≡ o → IfSome o (λ s. Astir f st s → ⊥)
+      go k None e = tt
+      go k (Some s) e = subst (λ o. IfSome o (λ s. Astir f st s → ⊥)) e (h k (slice_get_within ss k s e))
+
 -- ---- two walks, one behind the other
 
 module _ {G : Type 0} (f : Facts) (st : GuardSettings) (turn start : ℕ) (ss us ts : List (Slot G)) (is : start ≡ min turn (length ss)) where

@@ -32,11 +32,12 @@ is_reserved (address.Ipv6 a) = is_reserved_v6 a.0
 unfoldable pub is_martian : Facts → IpAddress → Bool
 is_martian f a = is_multicast a || (f.broadcast a || (f.has_address a || is_reserved a))
 
--- why the packet is dropped, if it is
-unfoldable pub refusal : Facts → IpRepr → Option Reason
-refusal f ip =
+-- why the packet is dropped, if it is; `joined` says whether its destination is a group that was joined
+unfoldable pub refusal : Facts → Bool → IpRepr → Option Reason
+refusal f joined ip =
     if is_martian f (src_addr_of ip) then Some reason.Source
-    else (if f.has_address (dst_addr_of ip) || f.broadcast (dst_addr_of ip) then None else Some reason.Destination)
+    else (if f.has_address (dst_addr_of ip) || (f.broadcast (dst_addr_of ip) || joined) then None
+    else Some reason.Destination)
 
 -- what the packet is looked at as, by the number of its protocol; `own` says whether it goes to the interface alone
 abbrev pub kind_of : Bool → ℕ → Kind

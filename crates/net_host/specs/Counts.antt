@@ -17,3 +17,14 @@ counted reason.Datagram k = record k { datagram = next k.datagram }
 counted reason.Message k = record k { message = next k.message }
 counted reason.Busy k = record k { busy = next k.busy }
 counted reason.Nobody k = record k { nobody = next k.nobody }
+
+-- ---- cookies
+
+abbrev pub sent : Counters → Counters
+sent k = record k { cookies_sent = next k.cookies_sent }
+
+abbrev pub taken : Counters → Counters
+taken k = record k { cookies_taken = next k.cookies_taken }
+
+abbrev pub wrong : Counters → Counters
+wrong k = record k { cookies_wrong = next k.cookies_wrong }

@@ -22,6 +22,8 @@ pub record MovesTo {W : Type 0} (at : Instant) (i j : Interface W) : Type 0 wher
   pub errors : j.errors ≡ i.errors
   pub counters : j.counters ≡ i.counters
   pub guards : j.guards ≡ i.guards
+  pub cookies : j.cookies ≡ i.cookies
+  pub groups : j.groups ≡ i.groups
 
 module _ {W G : Type 0} (is : IpAddress → IpAddress → Bool) where
   -- it is at the moment, and takes the packet
@@ -43,3 +45,5 @@ module _ {W G : Type 0} (is : IpAddress → IpAddress → Bool) where
     pub errors : j.errors ≡ i.errors
     pub counters : j.counters ≡ i.counters
     pub guards : j.guards ≡ i.guards
+    pub cookies : j.cookies ≡ i.cookies
+    pub groups : j.groups ≡ i.groups

@@ -41,6 +41,11 @@ abbrev pub lent_of : {X : Type 0} → (X → Keys) → ℕ → Option X → Opti
 lent_of keys_of i None = None
 lent_of keys_of i (Some s) = Some (record { place = i; keys = keys_of s })
 
+-- the place i, with the keys under which it is filed, or there is none
+abbrev pub IsLentAt : {X : Type 0} → ℕ → Option X → Option Lent → Type 0
+IsLentAt i o None = o ≡ None
+IsLentAt i o (Some l) = l.place ≡ i
+
 -- a place that was lent is filed as it was before
 abbrev pub is_filed_at : {X : Type 0} → (X → Keys) → Option Lent → List X → List Entry → ℕ → Bool
 is_filed_at keys_of None ss es k = is_filed keys_of es k (slice_get ss k)

@@ -1,5 +1,6 @@
 pub mod Addresses
 pub mod Arrivals
+pub mod Cookies
 pub mod Counts
 pub mod Datagrams
 pub mod Emissions
@@ -14,6 +15,7 @@ pub mod Limits
 pub mod Looking
 pub mod Messages
 pub mod Moments
+pub mod Passing
 pub mod RawCopies
 pub mod Receiving
 pub mod Resting

@@ -7,21 +7,26 @@ use Rattle.ip_wire.specs.declared.address.IpAddress.{IpAddress}
 use Rattle.ip_wire.specs.declared.checksum.ChecksumCapabilities.{ChecksumCapabilities}
 use Rattle.ip_wire.specs.declared.repr.IpRepr.{IpRepr}
 use Rattle.control_wire.specs.Segment.{Segment}
+use Rattle.host_groups.specs.Joining.{has_group}
 use Rattle.segment_wire.specs.Packet.{Carried, carried}
 use Rattle.segment_wire.specs.Tcp.{tcp_parsed}
 use Rattle.sock_core.specs.Facts.{Facts}
 use Rattle.segment_wire.specs.Udp.{Datagram, udp_parsed}
 use Rattle.net_host.specs.Arrivals.{kind_of, refusal}
-use Rattle.net_host.specs.Counts.{counted}
+use Rattle.net_host.specs.Cookies.{AnswersSegment, IsAgain, course_of}
+use Rattle.net_host.specs.Counts.{counted, sent, taken, wrong}
 use Rattle.net_host.specs.Datagrams.{HeardBy, TakesDatagram}
 use Rattle.net_host.specs.Facts.{facts_by}
 use Rattle.net_host.specs.Messages.{AnyMail, Copies, answer_len, echoed, if_short, mail_in, with_answer}
+use Rattle.net_host.specs.Passing.{passed}
 use Rattle.net_host.specs.RawCopies.{CopiesPacket}
-use Rattle.net_host.specs.Segments.{AnswersSegment, IsTaker}
+use Rattle.net_host.specs.Segments.{IsTaker}
 use Rattle.net_host.specs.Unreachable.{TellsOf}
 use Rattle.net_host.specs.Walks.{ChangesEach, Finds}
 use Rattle.net_host.specs.declared.arrival.Kind.{Kind}
 use Rattle.net_host.specs.declared.arrival.Kind.TheVariants as kind
+use Rattle.net_host.specs.declared.cookies.Course.{Course}
+use Rattle.net_host.specs.declared.cookies.Course.TheVariants as course
 use Rattle.net_host.specs.declared.counters.Counters.{Counters}
 use Rattle.net_host.specs.declared.counters.Reason.{Reason}
 use Rattle.net_host.specs.declared.counters.Reason.TheVariants as reason
@@ -38,6 +43,17 @@ abbrev pub counted_for : Taker → Counters → Counters
 counted_for taker.Busy k = counted reason.Busy k
 counted_for taker.Nobody k = counted reason.Nobody k
 counted_for _ k = k
+
+abbrev pub counted_again : Taker → Counters → Counters
+counted_again (taker.Listener i) k = taken k
+counted_again (taker.Reused i) k = taken k
+counted_again _ k = counted reason.Busy k
+
+abbrev pub counted_on : Course → Taker → Taker → Counters → Counters
+counted_on course.Plain t again k = counted_for t k
+counted_on course.Doubted t again k = wrong (counted_for t k)
+counted_on (course.Answered i number) t again k = sent k
+counted_on (course.Believed class number) t again k = counted_again again k
 
 abbrev pub counted_if : Option ℕ → Counters → Counters
 counted_if None k = counted reason.Nobody k
@@ -62,16 +78,24 @@ module _ {W G : Type 0} (is : IpAddress → IpAddress → Bool) (word_at : W →
     pub sockets : ts ≡ ss
     pub reply : out' ≡ out
 
-  -- the segment goes to its taker, or is refused
+  abbrev pub course_in : Interface W → Taker → IpRepr → Segment → Course
+  course_in i t ip s = course_of i.cookies t (facts_of i.inner).now ip s
+
+  -- the segment goes to its taker, or is refused, or what cookies want is done
   pub record TakesSegment (ip : IpRepr) (s : Segment) (i : Interface W) (ss : List (Slot G)) (out : List ℕ) (n : ℕ)
       (j : Interface W) (ts : List (Slot G)) (out' : List ℕ) : Type 0 where
     pub taker : Taker
     pub takes : IsTaker ss ip s taker
-    pub answers : AnswersSegment facts_of words_of tells taker ss i.inner i.resets ip s out n ts j.inner j.resets out'
-    pub counters : j.counters ≡ counted_for taker i.counters
+    pub again : Taker
+    pub believes : IsAgain (course_in i taker ip s) ss ip s again
+    pub answers : AnswersSegment facts_of words_of tells (course_in i taker ip s) taker again ss i.inner i.resets ip s
+        out n ts j.inner j.resets out'
+    pub counters : j.counters ≡ counted_on (course_in i taker ip s) taker again i.counters
     pub turn : j.turn ≡ i.turn
     pub errors : j.errors ≡ i.errors
     pub guards : j.guards ≡ i.guards
+    pub cookies : j.cookies ≡ i.cookies
+    pub groups : j.groups ≡ i.groups
 
   -- no segment has a payload of more than 65535 octets
   abbrev pub IfShort : Bool → IpRepr → Segment → Interface W → List (Slot G) → List ℕ → ℕ → Interface W → List (Slot G)
@@ -165,12 +189,19 @@ module _ {W G : Type 0} (is : IpAddress → IpAddress → Bool) (word_at : W →
   ByAddresses (Some why) ip octets i ss out n j ts out' = Drops why i ss out n j ts out'
   ByAddresses None ip octets i ss out n j ts out' = TakesCarried ip octets i ss out n j ts out'
 
+  -- behind its extension headers
+  abbrev pub ByPassed : Option Carried → Interface W → List (Slot G) → List ℕ → ℕ → Interface W → List (Slot G)
+      → List ℕ → Type 0
+  ByPassed None i ss out n j ts out' = Drops reason.Malformed i ss out n j ts out'
+  ByPassed (Some c) i ss out n j ts out' =
+      ByAddresses (refusal (facts_of i.inner) (has_group is i.groups (dst_addr_of c.ip)) c.ip) c.ip c.octets i ss out n
+      j ts out'
+
   -- with a header and what stands behind it, if it has them
   abbrev pub ByHeader : Option Carried → Interface W → List (Slot G) → List ℕ → ℕ → Interface W → List (Slot G)
       → List ℕ → Type 0
   ByHeader None i ss out n j ts out' = Drops reason.Malformed i ss out n j ts out'
-  ByHeader (Some c) i ss out n j ts out' =
-      ByAddresses (refusal (facts_of i.inner) c.ip) c.ip c.octets i ss out n j ts out'
+  ByHeader (Some c) i ss out n j ts out' = ByPassed (passed c.ip c.octets) i ss out n j ts out'
 
   abbrev pub TakesPacket : List ℕ → Interface W → List (Slot G) → List ℕ → ℕ → Interface W → List (Slot G) → List ℕ
       → Type 0

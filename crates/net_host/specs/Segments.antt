@@ -16,7 +16,6 @@ use Rattle.smoltcp_socket.specs.declared.socket.Socket.TheVariants as socket
 use Rattle.net_host.specs.Limits.{allows, spent}
 use Rattle.net_host.specs.Resting.{FindsOldest, IsOldest, Reopens, Serves, anew, is_opening}
 use Rattle.net_host.specs.Walks.{ChangesAt, IsFirst, Nowhere}
-use Rattle.net_host.specs.Wire.{reply_len, with_reply}
 use Rattle.net_host.specs.declared.limit.Limit.{Limit}
 use Rattle.net_host.specs.declared.segments.Taker.{Taker}
 use Rattle.net_host.specs.declared.segments.Taker.TheVariants as taker
@@ -119,11 +118,3 @@ module _ {C G : Type 0} (facts : C → Facts) (word_at : C → ℕ → ℕ) (tel
   TakenBy taker.Busy ss cx l ip s r ts cx' l' = (ts ≡ ss) × (cx' ≡ cx) × (r ≡ None) × (l' ≡ l)
   TakenBy taker.Nobody ss cx l ip s r ts cx' l' =
       (ts ≡ ss) × (cx' ≡ cx) × Refuses l (moment_of (facts cx)) ip s r l'
-
-  -- and what it answers stands as a packet at the beginning of the buffer
-  pub record AnswersSegment (t : Taker) (ss : List (Slot G)) (cx : C) (l : Limit) (ip : IpRepr) (s : Segment)
-      (out : List ℕ) (n : ℕ) (ts : List (Slot G)) (cx' : C) (l' : Limit) (out' : List ℕ) : Type 0 where
-    pub reply : Option (IpRepr × TcpRepr)
-    pub taken : TakenBy t ss cx l ip s reply ts cx' l'
-    pub len : n ≡ reply_len (option_map reply_of reply)
-    pub octets : out' ≡ with_reply (facts cx).checksums (option_map reply_of reply) out

@@ -11,15 +11,15 @@ use smoltcp_socket::wire::{IpAddress, IpRepr, Ipv4Address, Ipv6Address};
 
 /// Why the packet is dropped, if it is: its source is one that no single other host has, so that an answer would go to
 /// many, to nobody, or come back (RFC 1122, section 3.2.1.3); or its destination is neither
-/// an address of the interface nor a broadcast.
+/// an address of the interface nor a broadcast, nor a group that was joined.
 #[tactic(auto, unfolding(crate::specs::Arrivals::refusal))]
-pub(crate) fn refusal<C: Context>(cx: &C, ip: &IpRepr) -> Option<Reason>
-    ensures { result ≡ refusal (C.facts cx.now) ip.now }
+pub(crate) fn refusal<C: Context>(cx: &C, joined: bool, ip: &IpRepr) -> Option<Reason>
+    ensures { result ≡ refusal (C.facts cx.now) joined ip.now }
 {
     if is_martian(cx, &ip.src_addr()) {
         return Some(Reason::Source);
     }
-    if !cx.has_ip_addr(ip.dst_addr()) && !cx.is_broadcast(&ip.dst_addr()) {
+    if !cx.has_ip_addr(ip.dst_addr()) && !cx.is_broadcast(&ip.dst_addr()) && !joined {
         return Some(Reason::Destination);
     }
     None
@@ -71,7 +71,7 @@ pub enum Kind {
     Icmp,
     /// Another protocol.
     Other,
-    /// A broadcast that carries no UDP datagram.
+    /// A broadcast or a packet to a group that carries no UDP datagram.
     Foreign,
 }
 

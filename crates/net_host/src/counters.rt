@@ -1,6 +1,6 @@
 //! What came of the packets that arrived.
 ghost use Rattle.std.specs.Prelude.{◌≡◌};
-ghost use Rattle.net_host.specs.Counts.{counted, next};
+ghost use Rattle.net_host.specs.Counts.{counted, next, sent, taken, wrong};
 
 /// Why a packet is dropped.
 #[derive(Debug, Clone, Copy, PartialEq, Eq)]
@@ -37,9 +37,36 @@ pub struct Counters {
     pub message: u64,
     pub busy: u64,
     pub nobody: u64,
+    /// SYNs that were answered without a socket; no packet of these three kinds counts as dropped for that.
+    pub cookies_sent: u64,
+    /// Acknowledgements of such answers that took a socket.
+    pub cookies_taken: u64,
+    /// Acknowledgements that no socket takes, of no such answer, where they are sent.
+    pub cookies_wrong: u64,
 }
 
 impl Counters {
+    /// One SYN more was answered without a socket.
+    pub(crate) fn count_sent(&mut self)
+        ensures { self.new ≡ sent self.old }
+    {
+        self.cookies_sent = next(self.cookies_sent);
+    }
+
+    /// One acknowledgement more of such an answer took a socket.
+    pub(crate) fn count_taken(&mut self)
+        ensures { self.new ≡ taken self.old }
+    {
+        self.cookies_taken = next(self.cookies_taken);
+    }
+
+    /// One acknowledgement more was of no such answer.
+    pub(crate) fn count_wrong(&mut self)
+        ensures { self.new ≡ wrong self.old }
+    {
+        self.cookies_wrong = next(self.cookies_wrong);
+    }
+
     /// One packet more was dropped for this reason.
     pub fn count(&mut self, reason: Reason)
         ensures { self.new ≡ counted reason self.old }

@@ -1,7 +1,7 @@
 //! Places that are filed in an index under their keys.
 ghost use Rattle.std.specs.Prelude.{ℤ, Bool, ◌≡◌, ◌&&◌, ◌<◌, IfSome, IsSome, length, get_or, slice_get, true, None};
 ghost use Rattle.std.specs.List.{All};
-ghost use Rattle.net_host.specs.Indexing.{IsIndexed, KeepsOthers, are_filed, is_filed, lent_of, no_keys};
+ghost use Rattle.net_host.specs.Indexing.{IsIndexed, IsLentAt, KeepsOthers, are_filed, is_filed, lent_of, no_keys};
 ghost use Rattle.host_bounds.specs.Bounding.{at_once, bound_at};
 ghost use Rattle.net_host.specs.Sleeping.{AreAsleep};
 ghost use Rattle.net_host.specs.declared.key.Keys.{Keys};
@@ -80,7 +80,29 @@ impl<T: Keyed> Filed<T> {
     /// This place may change: it will be filed as it is then, and is to be asked at once.
     pub(crate) fn lend(&mut self, place: usize)
         ensures slots { self.new.slots ≡ self.old.slots }
-        ensures lent { self.new.lent ≡ lent_of T.keys_of place (slice_get self.old.slots.items place) }
+        ensures lent { IsLentAt place (slice_get self.new.slots.items place) self.new.lent }
+        ensures marked { bound_at self.new.bounds place ≡ at_once }
+        ensures terms { self.new.terms ≡ self.old.terms }
+    {
+        if !self.is_lent(place) {
+            self.lend_anew(place);
+        }
+    }
+
+    // Whether the place is lent already, and was not asked since.
+    fn is_lent(&self, place: usize) -> bool
+        ensures lent { result ≡ true → IsLentAt place (slice_get self.now.slots.items place) self.now.lent }
+        ensures marked { result ≡ true → bound_at self.now.bounds place ≡ at_once }
+    {
+        match &self.lent {
+            Some(lent) => lent.place == place && self.bounds.get(place) == i64::MIN,
+            None => false,
+        }
+    }
+
+    fn lend_anew(&mut self, place: usize)
+        ensures slots { self.new.slots ≡ self.old.slots }
+        ensures lent { IsLentAt place (slice_get self.new.slots.items place) self.new.lent }
         ensures marked { bound_at self.new.bounds place ≡ at_once }
         ensures terms { self.new.terms ≡ self.old.terms }
     {

@@ -1,7 +1,9 @@
 //! An interface: what arrives goes to the sockets that it is for, and what they have to say goes out.
-ghost use Rattle.std.specs.Prelude.{◌≡◌, ◌↔◌, ◌<◌, ◌≤◌, IsTrue, IfOk, Ok, is_err, length, max, min, pos, false};
+ghost use Rattle.std.specs.Prelude.{◌≡◌, ◌↔◌, ◌<◌, ◌≤◌, IsTrue, IfOk, Ok, None, is_err, length, max, min, pos};
+ghost use Rattle.std.specs.Prelude.{false};
 ghost use Rattle.sock_tcp.specs.Polls.{is_reached};
 ghost use Rattle.sock_tcp.specs.View.{moment_of};
+ghost use Rattle.host_groups.specs.Joining.{has_group, join_answer, joined, leave_answer, left, no_groups};
 ghost use Rattle.net_host.specs.Facts.{facts_by};
 ghost use Rattle.net_host.specs.Guards.{usual};
 ghost use Rattle.net_host.specs.HostCalls.{EmitsAt, MovesTo, ReceivesAt};
@@ -24,6 +26,8 @@ use crate::speak::speak;
 use crate::terms::Terms;
 use crate::wire::TooShort;
 use host_context::Words;
+use host_cookies::SynCookies;
+use host_groups::{Groups, MulticastError};
 use smoltcp_socket::PollAt;
 use smoltcp_socket::time::Instant;
 use smoltcp_socket::wire::{ChecksumCapabilities, IpAddress};
@@ -42,18 +46,25 @@ pub struct Interface<W> {
     pub(crate) errors: Limit,
     pub(crate) counters: Counters,
     pub(crate) guards: GuardSettings,
+    // where SYNs may be answered without a socket
+    pub(crate) cookies: Option<SynCookies>,
+    pub(crate) groups: Groups,
 }
 
 impl<W: Words> Interface<W> {
     /// Takes an IP packet that arrives at this moment, and answers how long the packet is that answers it, at the
     /// beginning of `reply`; 0 where none does.
     ///
-    /// The first row that fits: a packet that is malformed, or has a source that no single other host has, or another
-    /// destination than an address of the interface or a broadcast, is dropped and counted. Of any other each raw
-    /// socket that accepts it takes a copy. Then a broadcast that carries no UDP datagram is dropped, and another
+    /// The first row that fits: a packet that is malformed or a fragment, or has a source that no single other host has,
+    /// or another destination than an address of the interface, a broadcast or a group that was joined, is dropped and
+    /// counted. Hop-by-hop, destination and routing headers of IPv6 are passed over, four at most (RFC 8200, section 4);
+    /// of a routing header with segments left the packet is dropped. Of any other packet each raw socket that accepts
+    /// it takes a copy. Then what goes to a broadcast or a group and carries no UDP datagram is dropped, and another
     /// protocol than TCP, UDP and ICMP, of which the sender is told over IPv4 (RFC 1122, section 3.2.2.1). A segment
     /// goes to the first connection that accepts it, in the order of handles, else to the first socket that listens and
-    /// accepts it. One for no socket is answered by an RST (RFC 9293, section 3.10.7.1), unless it is one, at most
+    /// accepts it. With SYN cookies (RFC 4987, section 3.6) a SYN for which only a socket that is kept listens is
+    /// answered, and no socket takes it; the acknowledgement of that answer, within 64 seconds, takes a socket, which
+    /// hears the SYN as it was told again, and then the acknowledgement. One for no socket is answered by an RST (RFC 9293, section 3.10.7.1), unless it is one, at most
     /// `ANSWERS_A_SECOND` times a second. A datagram goes to the first UDP socket that accepts it; of one that none
     /// does the sender is told by an ICMP error (RFC 1122, section 4.1.3.1; RFC 4443, section 3.1). Errors go out for
     /// packets to an own address that no raw socket takes, at most `ANSWERS_A_SECOND` times a second, and fit the MTU.
@@ -179,6 +190,8 @@ impl<W> Interface<W> {
         ensures checksums { result.inner.environment.checksums ≡ all_checksums Both }
         ensures words { result.inner.words ≡ words }
         ensures guards { result.guards ≡ usual }
+        ensures cookies { result.cookies ≡ None }
+        ensures groups { result.groups ≡ no_groups }
     {
         Interface {
             inner: InterfaceInner {
@@ -190,6 +203,8 @@ impl<W> Interface<W> {
             errors: Limit::new(),
             counters: Counters::default(),
             guards: GuardSettings::new(),
+            cookies: None,
+            groups: Groups::none(),
         }
     }
 
@@ -213,9 +228,21 @@ impl<W> Interface<W> {
         ensures guards { self.new.guards ≡ guards }
         ensures same { (self.new.inner ≡ self.old.inner) × (self.new.turn ≡ self.old.turn)
             × (self.new.resets ≡ self.old.resets) × (self.new.errors ≡ self.old.errors)
-            × (self.new.counters ≡ self.old.counters) }
+            × (self.new.counters ≡ self.old.counters) × (self.new.cookies ≡ self.old.cookies)
+            × (self.new.groups ≡ self.old.groups) }
     {
         self.guards = guards;
+    }
+
+    /// Sets whether SYNs may be answered without a socket, and how: from the next packet on. A new interface does not.
+    pub fn set_syn_cookies(&mut self, cookies: Option<SynCookies>)
+        ensures cookies { self.new.cookies ≡ cookies }
+        ensures same { (self.new.inner ≡ self.old.inner) × (self.new.turn ≡ self.old.turn)
+            × (self.new.resets ≡ self.old.resets) × (self.new.errors ≡ self.old.errors)
+            × (self.new.counters ≡ self.old.counters) × (self.new.guards ≡ self.old.guards)
+            × (self.new.groups ≡ self.old.groups) }
+    {
+        self.cookies = cookies;
     }
 
     /// Sets the largest IP packet, in bytes: 68 to 65535, and the nearest of these for any other. Over IPv6 less than
@@ -227,7 +254,8 @@ impl<W> Interface<W> {
             × (self.new.inner.environment.checksums ≡ self.old.inner.environment.checksums)
             × (self.new.inner.words ≡ self.old.inner.words) × (self.new.turn ≡ self.old.turn)
             × (self.new.resets ≡ self.old.resets) × (self.new.errors ≡ self.old.errors)
-            × (self.new.counters ≡ self.old.counters) × (self.new.guards ≡ self.old.guards) }
+            × (self.new.counters ≡ self.old.counters) × (self.new.guards ≡ self.old.guards)
+            × (self.new.cookies ≡ self.old.cookies) × (self.new.groups ≡ self.old.groups) }
     {
         self.inner.environment.set_mtu(mtu);
     }
@@ -240,8 +268,43 @@ impl<W> Interface<W> {
             × (self.new.inner.environment.mtu ≡ self.old.inner.environment.mtu)
             × (self.new.inner.words ≡ self.old.inner.words) × (self.new.turn ≡ self.old.turn)
             × (self.new.resets ≡ self.old.resets) × (self.new.errors ≡ self.old.errors)
-            × (self.new.counters ≡ self.old.counters) × (self.new.guards ≡ self.old.guards) }
+            × (self.new.counters ≡ self.old.counters) × (self.new.guards ≡ self.old.guards)
+            × (self.new.cookies ≡ self.old.cookies) × (self.new.groups ≡ self.old.groups) }
     {
         self.inner.environment.checksums = checksums;
+    }
+}
+
+// Groups.
+impl<W> Interface<W> {
+    /// Joins a group: packets to it are taken then, for UDP and raw sockets. Nobody is told of it by IGMP or MLD.
+    ///
+    /// `Unaddressable` where the address is none of a group, `GroupTableFull` where four others were joined.
+    pub fn join_multicast_group(&mut self, group: IpAddress) -> Result<(), MulticastError>
+        ensures answer { result ≡ join_answer ⟦<IpAddress as PartialEq>⟧.eq self.old.groups group }
+        ensures value { self.new ≡ record self.old {
+          groups = joined ⟦<IpAddress as PartialEq>⟧.eq self.old.groups
+              group;
+        } }
+    {
+        self.groups.join(group)
+    }
+
+    /// Leaves a group, if it was joined. `Unaddressable` where the address is none of a group.
+    pub fn leave_multicast_group(&mut self, group: IpAddress) -> Result<(), MulticastError>
+        ensures answer { result ≡ leave_answer group }
+        ensures value { self.new ≡ record self.old {
+          groups = left ⟦<IpAddress as PartialEq>⟧.eq self.old.groups
+              group;
+        } }
+    {
+        self.groups.leave(&group)
+    }
+
+    /// Whether a group was joined.
+    pub fn has_multicast_group(&self, group: IpAddress) -> bool
+        ensures { result ≡ has_group ⟦<IpAddress as PartialEq>⟧.eq self.now.groups group }
+    {
+        self.groups.has(&group)
     }
 }

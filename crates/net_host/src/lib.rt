@@ -3,6 +3,7 @@
 
 pub mod arrival;
 pub mod cidr;
+pub mod cookies;
 pub mod copies;
 pub mod counters;
 pub mod datagrams;
@@ -12,6 +13,7 @@ pub mod filed;
 pub mod filing;
 pub mod find;
 pub mod guard;
+pub mod hearing;
 pub mod index;
 pub mod inner;
 pub mod interface;
@@ -21,6 +23,7 @@ pub mod limit;
 pub mod looking;
 pub mod lookup;
 pub mod messages;
+pub mod passing;
 pub mod polling;
 pub mod raw_copies;
 pub mod receive;
@@ -41,6 +44,8 @@ pub mod wire;
 
 pub use cidr::IpCidr;
 pub use guard::GuardSettings;
+pub use host_cookies::SynCookies;
+pub use host_groups::MulticastError;
 pub use interface::Interface;
 pub use secret::Secret;
 pub use set::SocketSet;

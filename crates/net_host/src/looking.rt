@@ -118,6 +118,9 @@ pub(crate) fn next_due<C: Context, G: TsvalSource>(
         sockets.new.slots.items }
     ensures terms { sockets.new.terms ≡ sockets.old.terms }
 {
+    if sockets.bounds.are_after(cx.now().micros) {
+        return None;
+    }
     let count = sockets.slots.len();
     let start = turn.min(count);
     match due_between(sockets, cx, start, count) {

@@ -3,20 +3,26 @@ ghost use Rattle.std.specs.Prelude.{◌≡◌, ◌≤◌, nat_le, length, option
 ghost use Rattle.segment_wire.specs.Udp.{datagram_of};
 ghost use Rattle.control_wire.specs.Segment.{segment_of};
 ghost use Rattle.net_host.specs.Counts.{counted};
-ghost use Rattle.net_host.specs.Receiving.{ByAddresses, ByKind, IfShort, TakesDatagramOf, TakesOther, TakesPacket};
+ghost use Rattle.ip_wire.specs.IpHeader.{dst_addr_of};
+ghost use Rattle.host_groups.specs.Joining.{has_group};
+ghost use Rattle.net_host.specs.Passing.{passed};
+ghost use Rattle.net_host.specs.Receiving.{ByAddresses, ByKind, ByPassed, IfShort, TakesDatagramOf, TakesOther, TakesPacket};
 ghost use Rattle.net_host.specs.Receiving.{TellsIf};
 ghost use Rattle.net_host.specs.Receiving.{TakesCarried, TakesIcmp, TakesMail, TakesSegment, TakesTcp, TakesUdp};
-ghost use Rattle.net_host.specs.Receiving.{counted_for, counted_if, datagram_in};
+ghost use Rattle.net_host.specs.Receiving.{counted_again, counted_for, counted_if, counted_on, datagram_in};
 ghost use Rattle.net_host.specs.Messages.{mail_of};
 ghost use Rattle.net_host.specs.Arrivals.{refusal};
 ghost use Rattle.net_host.specs.Facts.{facts_by};
 
 use crate::arrival::{Kind, kind_in, refusal};
+use crate::cookies::Course;
 use crate::copies::{copy_mail, copy_packet, hear_datagram_of};
 use crate::counters::{Counters, Reason};
+use crate::hearing::{Heard, hear_segment};
 use crate::interface::Interface;
 use crate::messages::{Mail, echoed, mail_in, put_answer};
-use crate::segments::{Taker, hear_segment};
+use crate::passing::passed;
+use crate::segments::Taker;
 use crate::set::SocketSet;
 use crate::unreachable::{Unmet, tell_sender};
 use host_context::Words;
@@ -44,6 +50,25 @@ impl<W: Words> Interface<W> {
         let caps = self.inner.checksum_caps();
         match carried(packet, &caps) {
             None => self.drop_packet(Reason::Malformed),
+            Some((ip, bytes)) => self.take_whole(sockets, &ip, bytes, out),
+        }
+    }
+
+    // Behind its extension headers.
+    fn take_whole<G: TsvalSource>(
+        &mut self,
+        sockets: &mut SocketSet<'_, G>,
+        ip: &IpRepr,
+        bytes: &[u8],
+        out: &mut [u8],
+    ) -> usize
+        requires { 100 ≤ length out.old }
+        ensures within { result ≤ length out.old }
+        ensures table { ByPassed ⟦<IpAddress as PartialEq>⟧.eq W.word_at G.tells (passed ip.now bytes.now) self.old
+            sockets.old.slots.items out.old result self.new sockets.new.slots.items out.new }
+    {
+        match passed(ip, bytes) {
+            None => self.drop_packet(Reason::Malformed),
             Some((ip, bytes)) => self.take_carried(sockets, &ip, bytes, out),
         }
     }
@@ -56,6 +81,13 @@ impl<W: Words> Interface<W> {
         0
     }
 
+    // Whether its destination is a group that was joined.
+    fn has_joined(&self, ip: &IpRepr) -> bool
+        ensures { result ≡ has_group ⟦<IpAddress as PartialEq>⟧.eq self.now.groups (dst_addr_of ip.now) }
+    {
+        self.groups.has(&ip.dst_addr())
+    }
+
     fn take_carried<G: TsvalSource>(
         &mut self,
         sockets: &mut SocketSet<'_, G>,
@@ -66,10 +98,11 @@ impl<W: Words> Interface<W> {
         requires { 100 ≤ length out.old }
         ensures within { result ≤ length out.old }
         ensures table { ByAddresses ⟦<IpAddress as PartialEq>⟧.eq W.word_at G.tells
-            (refusal (facts_by ⟦<IpAddress as PartialEq>⟧.eq self.old.inner.environment) ip.now) ip.now bytes.now
-            self.old sockets.old.slots.items out.old result self.new sockets.new.slots.items out.new }
+            (refusal (facts_by ⟦<IpAddress as PartialEq>⟧.eq self.old.inner.environment)
+            (has_group ⟦<IpAddress as PartialEq>⟧.eq self.old.groups (dst_addr_of ip.now)) ip.now) ip.now bytes.now self.old sockets.old.slots.items out.old result self.new sockets.new.slots.items out.new }
     {
-        match refusal(&self.inner, ip) {
+        let joined = self.has_joined(ip);
+        match refusal(&self.inner, joined, ip) {
             Some(reason) => self.drop_packet(reason),
             None => self.take_looked_at(sockets, ip, bytes, out),
         }
@@ -293,8 +326,16 @@ impl<W: Words> Interface<W> {
             self.old
             sockets.old.slots.items out.old result self.new sockets.new.slots.items out.new }
     {
-        let (taker, len) = hear_segment(sockets, &mut self.inner, &mut self.resets, ip, repr, out);
-        count_taker(&mut self.counters, taker);
+        let (heard, len) = hear_segment(
+            sockets,
+            &mut self.inner,
+            &mut self.resets,
+            &self.cookies,
+            ip,
+            repr,
+            out,
+        );
+        count_heard(&mut self.counters, &heard);
         len
     }
 }
@@ -306,6 +347,29 @@ fn count_taker(counters: &mut Counters, taker: Taker)
         Taker::Busy => counters.count(Reason::Busy),
         Taker::Nobody => counters.count(Reason::Nobody),
         _ => {}
+    }
+}
+
+fn count_again(counters: &mut Counters, again: Taker)
+    ensures { counters.new ≡ counted_again again counters.old }
+{
+    match again {
+        Taker::Listener(_) | Taker::Reused(_) => counters.count_taken(),
+        _ => counters.count(Reason::Busy),
+    }
+}
+
+fn count_heard(counters: &mut Counters, heard: &Heard)
+    ensures { counters.new ≡ counted_on heard.now.course heard.now.taker heard.now.again counters.old }
+{
+    match heard.course {
+        Course::Plain => count_taker(counters, heard.taker),
+        Course::Doubted => {
+            count_taker(counters, heard.taker);
+            counters.count_wrong();
+        }
+        Course::Answered(..) => counters.count_sent(),
+        Course::Believed(..) => count_again(counters, heard.again),
     }
 }
 

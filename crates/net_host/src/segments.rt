@@ -6,14 +6,13 @@ ghost use Rattle.control_wire.specs.Fits.{FitsPacket};
 ghost use Rattle.control_wire.specs.Segment.{segment_of};
 ghost use Rattle.sock_tcp.specs.Process.{reply_of};
 ghost use Rattle.net_host.specs.Resting.{Rests, anew, is_opening};
-ghost use Rattle.net_host.specs.Segments.{AnswersSegment, Hears, HearsAt, IsTaker, NoneTakes, Refuses, TakenBy};
+ghost use Rattle.net_host.specs.Segments.{Hears, HearsAt, IsTaker, NoneTakes, Refuses, TakenBy};
 ghost use Rattle.net_host.specs.Segments.{TakesSegment, as_is};
 ghost use Rattle.net_host.specs.Walks.{Finds, Nowhere};
 
 use crate::filing::{connection_key, listener_key};
 use crate::find::{Sought, first_in};
 use crate::limit::Limit;
-use crate::replies::put_reply;
 use crate::rest::{any_server, oldest, opens};
 use crate::set::SocketSet;
 use crate::slot::Slot;
@@ -282,7 +281,7 @@ fn hear_anew_there<C: Context, G: TsvalSource>(
 }
 
 /// The socket at this place takes the segment.
-fn hear_at<C: Context, G: TsvalSource>(
+pub(crate) fn hear_at<C: Context, G: TsvalSource>(
     sockets: &mut SocketSet<'_, G>,
     i: usize,
     cx: &mut C,
@@ -305,7 +304,7 @@ fn hear_at<C: Context, G: TsvalSource>(
 }
 
 /// The socket at this place listens again, and takes the SYN.
-fn hear_anew_at<C: Context, G: TsvalSource>(
+pub(crate) fn hear_anew_at<C: Context, G: TsvalSource>(
     sockets: &mut SocketSet<'_, G>,
     i: usize,
     cx: &mut C,
@@ -362,28 +361,4 @@ pub(crate) fn take_segment<C: Context, G: TsvalSource>(
         Taker::Busy => None,
         Taker::Nobody => refuse(limit, cx.now(), ip, repr),
     }
-}
-
-/// A segment arrives: who took it, and the length of the packet that answers it, at the beginning of `out`, or 0.
-pub(crate) fn hear_segment<C: Context, G: TsvalSource>(
-    sockets: &mut SocketSet<'_, G>,
-    cx: &mut C,
-    limit: &mut Limit,
-    ip: &IpRepr,
-    repr: &TcpRepr<'_>,
-    out: &mut [u8],
-) -> (Taker, usize)
-    requires small { length repr.now.payload.now ≤ 65535 }
-    requires room { 100 ≤ length out.old }
-    ensures within { result.1 ≤ length out.old }
-    ensures taker { IsTaker sockets.old.slots.items ip.now (segment_of repr.now) result.0 }
-    ensures heard { AnswersSegment C.facts C.word_at G.tells result.0 sockets.old.slots.items cx.old limit.old ip.now
-        (segment_of repr.now) out.old result.1 sockets.new.slots.items cx.new limit.new out.new }
-{
-    let caps = cx.checksum_caps();
-    sockets.settle();
-    let taker = who_takes(sockets, cx, ip, repr);
-    let reply = take_segment(sockets, cx, limit, taker, ip, repr);
-    let len = put_reply(&reply, out, &caps);
-    (taker, len)
 }

@@ -14,6 +14,7 @@ use Rattle.control_wire.specs.declared.tcp.TcpControl.{TcpControl}
 use Rattle.control_wire.specs.declared.tcp.TcpTimestampRepr.{TcpTimestampRepr}
 use Rattle.sock_core.specs.Facts.{Facts}
 use Rattle.tcp_laws.proofs.Frames.{GoesBack}
+use Rattle.sock_tcp.specs.Rfc.Numbers.{outgoing}
 use Rattle.sock_tcp.specs.Begin.{before_emit, peer_of}
 use Rattle.sock_tcp.specs.Content.{Sending, content, filled, emission_kind, of_kind, plain_segment, sent_as}
 use Rattle.tcp_laws.specs.Laws.{IsPeered}
@@ -156,7 +157,7 @@ module _ (v : View) (t : Tuple) (f : Facts) (stamp : Option ℕ) (bytes : List �
 
 module _ (ends : Side → IpEndpoint) (s : Side) (released taken : ℕ) where
   -- what was recorded of an emit goes where it was sent
-  recorded_goes : (v : View) (t : Tuple) (f : Facts) (stamp : Option ℕ) (bytes : List ℕ) (fail : Bool) (o : Option Sending) (r : Sent) → SameVersion t.local.addr t.remote.addr → t ≡ record { local = ends s; remote = ends (other_side s) } → content v t f stamp bytes ≡ o → Records fail o r → AllGo ends (stored_at s r released taken)
+  recorded_goes : (v : View) (t : Tuple) (f : Facts) (stamp : Option ℕ) (bytes : List ℕ) (fail : Bool) (o : Option Sending) (r : Sent) → SameVersion t.local.addr t.remote.addr → t ≡ record { local = ends s; remote = ends (other_side s) } → content v t f stamp bytes ≡ o → Records fail (outgoing v o) r → AllGo ends (stored_at s r released taken)
   recorded_goes v t f stamp bytes true None r version is e x = subst (λ z. AllGo ends (stored_at s z released taken)) (sym x) tt
   recorded_goes v t f stamp bytes false None r version is e x = subst (λ z. AllGo ends (stored_at s z released taken)) (sym x) tt
   recorded_goes v t f stamp bytes true (Some c) r version is e x = subst (λ z. AllGo ends (stored_at s z released taken)) (sym x) tt

@@ -12,6 +12,7 @@ use Rattle.control_wire.specs.Segment.{Segment, segment_of}
 use Rattle.control_wire.specs.declared.tcp.TcpRepr.{TcpRepr}
 use Rattle.sock_core.specs.Facts.{Facts}
 use Rattle.sock_tcp.proofs.Lending.{lent_at_most}
+use Rattle.sock_tcp.specs.Rfc.Numbers.{numbered, outgoing}
 use Rattle.sock_tcp.specs.Queue.{IsLent}
 use Rattle.sock_tcp.specs.Rfc.Scoreboard.{hole_size}
 use Rattle.sock_tcp.specs.Rfc.TailLoss.{tail_probed}
@@ -22,8 +23,8 @@ use Rattle.tcp_laws.proofs.Kept.{before_kept}
 use Rattle.ip_wire.specs.declared.address.IpAddress.{IpAddress}
 use Rattle.ip_wire.specs.declared.address.IpAddress.TheVariants as address
 use Rattle.sock_tcp.specs.Due.{congestion_left, effective_mss, ip_header_len, mtu_for, timestamp_room}
-use Rattle.sock_tcp.proofs.Holes.{size_at_most}
-use Rattle.sock_tcp.specs.Content.{Sending, asked, hole_of, offset_of, is_probing, content, filled, emission_kind, of_kind, sent_as, carries_data, window_left, plain_segment}
+use Rattle.sock_tcp.proofs.Holes.{again_at_most}
+use Rattle.sock_tcp.specs.Content.{Sending, asked, offset_of, resent_size, is_probing, content, filled, emission_kind, of_kind, sent_as, carries_data, window_left, plain_segment}
 use Rattle.sock_core.specs.Emission.{Emits, EmitsAt}
 use Rattle.sock_tcp.specs.Outgoing.{packet_of}
 use Rattle.sock_tcp.specs.Sent.{left_by}
@@ -78,10 +79,10 @@ asked_len v t f long = go (carries_data v.state) v.pending_fast_retransmit (is_p
     m : effective_mss v t f ≤ f.mtu
     m = mss_len v t f long
 
-    few : hole_size (hole_of v) (length v.tx_buffer.bytes) (effective_mss v t f) ≤ effective_mss v t f
-    few = size_at_most (hole_of v) (length v.tx_buffer.bytes) (effective_mss v t f)
+    few : resent_size v (effective_mss v t f) ≤ effective_mss v t f
+    few = again_at_most v (effective_mss v t f)
 
-    go : (a b p : Bool) → (if a then (if b then hole_size (hole_of v) (length v.tx_buffer.bytes) (effective_mss v t f) else (if p then min 1 (effective_mss v t f) else min (min (window_left v) (effective_mss v t f)) (congestion_left v))) else 0) ≤ f.mtu
+    go : (a b p : Bool) → (if a then (if b then resent_size v (effective_mss v t f) else (if p then min 1 (effective_mss v t f) else min (min (window_left v) (effective_mss v t f)) (congestion_left v))) else 0) ≤ f.mtu
     go true true p = omega (arith, m, few)
     go true false true = omega (arith, m)
     go true false false = omega (arith, m)
@@ -95,7 +96,7 @@ queue_at_most : (v : View) (f : Facts) (n : ℕ) → length v.tx_buffer.bytes �
 unfolding retransmission_begun fast_retransmission_marked tail_probed renewed fresh
 queue_at_most v f n h =
     before_kept (λ w. length w.tx_buffer.bytes ≤ n) f
-    (record { remembers = λ w k. k; tells = λ w k. k; times_out = λ w k. k; forgets = λ w k. k; begins_again = λ w at e k. k; marks = λ w e k. k; probes_tail = λ w at e k. k })
+    (record { remembers = λ w k. k; tells = λ w k. k; times_out = λ w k. k; forgets = λ w k. k; begins_again = λ w at e k. k; marks = λ w e k. k; goes_back = λ w at delay e k. k; probes_tail = λ w at e k. k })
     (λ w k. omega arith) v h
 
 -- ---- the emit's answer
@@ -112,8 +113,9 @@ module _ {F : Type 0} (g : Once F (MutBor Capture × ((IpRepr × TcpRepr) × Uni
     pub len : vec_len c.payload ≡ 0
     pub room : mtu ≤ vec_capacity c.payload
 
-  emitted : (c c' : Capture) (s : Sending) (v new : View) (now : Instant) (r : Result (Unit {0}) EmitFailed) → IsReady c → length s.segment.payload ≤ mtu → EmitsAt g packet_of f c (packet_in s) r c' → new ≡ left_by (Some s) v now (is_ok r) → Records fail (Some s) (sent_of r c') × (new ≡ left_by (Some s) v now (not fail))
-  emitted c c' s v new now r ready small e w = go fail refl r refl
+  -- out goes s, and the socket is left as by made
+  emitted : (c c' : Capture) (made s : Sending) (v new : View) (now : Instant) (r : Result (Unit {0}) EmitFailed) → IsReady c → length s.segment.payload ≤ mtu → EmitsAt g packet_of f c (packet_in s) r c' → new ≡ left_by (Some made) v now (is_ok r) → Records fail (Some s) (sent_of r c') × (new ≡ left_by (Some made) v now (not fail))
+  emitted c c' made s v new now r ready small e w = go fail refl r refl
     where
       said : EmitSays fail e.shown.now e.left.now e.sent r
       said = says e.shown e.left e.sent r e.met
@@ -130,8 +132,8 @@ module _ {F : Type 0} (g : Once F (MutBor Capture × ((IpRepr × TcpRepr) × Uni
           let bytes : c'.payload.items ≡ s.segment.payload = h.payload ∙ ap (λ y. y ++ s.segment.payload) ready.empty in
           subst (Records false (Some s)) (sym is) (k.2, bytes)
 
-      left : (x : Result (Unit {0}) EmitFailed) → r ≡ x → new ≡ left_by (Some s) v now (is_ok x)
-      left x q = w ∙ ap (λ y. left_by (Some s) v now (is_ok y)) q
+      left : (x : Result (Unit {0}) EmitFailed) → r ≡ x → new ≡ left_by (Some made) v now (is_ok x)
+      left x q = w ∙ ap (λ y. left_by (Some made) v now (is_ok y)) q
 
       kept_at : (x : Result (Unit {0}) EmitFailed) → r ≡ x → OnOk x (IsTrue (not fail) × Holds e.shown.now e.left.now e.sent.0 (segment_of e.sent.1))
       kept_at x q = subst (λ y. OnOk y (IsTrue (not fail) × Holds e.shown.now e.left.now e.sent.0 (segment_of e.sent.1))) q said.kept
@@ -147,7 +149,7 @@ module _ {F : Type 0} (g : Once F (MutBor Capture × ((IpRepr × TcpRepr) × Uni
           let j : vec_len e.shown.now.payload ≡ vec_len c.payload = ap (λ (y : Capture). vec_len y.payload) e.shows in
           omega (arith, ready.room, ready.len)
 
-      go : (b : Bool) → fail ≡ b → (x : Result (Unit {0}) EmitFailed) → r ≡ x → Records b (Some s) (sent_of r c') × (new ≡ left_by (Some s) v now (not b))
+      go : (b : Bool) → fail ≡ b → (x : Result (Unit {0}) EmitFailed) → r ≡ x → Records b (Some s) (sent_of r c') × (new ≡ left_by (Some made) v now (not b))
       go true b (Ok u) x =
           let no : IsTrue (not true) = subst (λ t. IsTrue (not t)) b (kept_at (Ok u) x).0 in cc
       go true b (Err d) x = (ap (λ y. sent_of y c') x, left (Err d) x)
@@ -172,9 +174,9 @@ module _ {F : Type 0} (g : Once F (MutBor Capture × ((IpRepr × TcpRepr) × Uni
           d : EmitsDue g f facts t x.stamp w c r new c'
           d = x.emits
 
-          both : (o : Option Sending) → content w t facts x.stamp d.bytes ≡ o → Emits g packet_of f (option_map packet_in o) c r c' → new ≡ left_by o w (moment_of facts) (is_ok r) → Records fail o (sent_of r c') × (new ≡ left_by o w (moment_of facts) (not fail))
+          both : (o : Option Sending) → content w t facts x.stamp d.bytes ≡ o → Emits g packet_of f (option_map packet_in (outgoing w o)) c r c' → new ≡ left_by o w (moment_of facts) (is_ok r) → Records fail (outgoing w o) (sent_of r c') × (new ≡ left_by o w (moment_of facts) (not fail))
           both None z e y = (quiet w e.0 e.1 y, y)
-          both (Some s) z e y = emitted c c' s w new (moment_of facts) r ready (omega (arith, small, queue_at_most v facts (length v.tx_buffer.bytes) (omega arith), payload_at_most w t facts x.stamp d.bytes s one d.lent z)) e y
+          both (Some s) z e y = emitted c c' s (record s { segment = numbered w s.segment }) w new (moment_of facts) r ready (omega (arith, small, queue_at_most v facts (length v.tx_buffer.bytes) (omega arith), payload_at_most w t facts x.stamp d.bytes s one d.lent z)) e y
 
 -- ---- what is stored of a dispatch fits a packet
 
@@ -191,7 +193,7 @@ recorded_fits false (Some s) (sent.Emitted h p) e fits = kept_fits h s.ip s.segm
 
 sent_fits : {G : Type 0} (tells : G → ℕ → Type 0) (source : Option G) (o : Option Tuple) (v w : View) (f : Facts) (fail : Bool) (r : Sent) → SendsFrom tells source o v f fail r w → FitsSent r
 sent_fits tells source None v w f fail r d = subst FitsSent (sym d.0) tt
-sent_fits tells source (Some t) v w f fail r d = recorded_fits fail (content v t f d.stamp d.bytes) r d.records d.fits
+sent_fits tells source (Some t) v w f fail r d = recorded_fits fail (outgoing v (content v t f d.stamp d.bytes)) r d.records d.fits
 
 pub dispatch_fits : {G : Type 0} (tells : G → ℕ → Type 0) (source : Option G) (v w : View) (f : Facts) (fail : Bool) (r : Sent) → SocketDispatches tells source v f fail r w → FitsSent r
 unfolding SocketDispatches

@@ -9,7 +9,7 @@ use Rattle.control_wire.specs.declared.tcp.TcpControl.TheVariants as control
 use Rattle.sock_tcp.specs.Replies.{Answers, IsReplyStamp, echoed}
 use Rattle.pair_core.specs.Aging.{DeliversAt, TakesRoomAt}
 use Rattle.pair_core.specs.Holding.{kept_at}
-use Rattle.pair_core.specs.PairSteps.{is_too_old, processed_by, delivered_to, refusal_of, refusal_reply, reply_index, DeliversTo}
+use Rattle.pair_core.specs.PairSteps.{is_too_old, processed_by, delivered_to, refusal_of, refusal_reply, reply_index, DeliversTo, reply_out}
 use Rattle.pair_core.specs.PairViews.{HostView, StoredView}
 use Rattle.pair_core.specs.declared.moment.Moment.{Moment}
 use Rattle.pair_core.specs.declared.outcome.Outcome.{Outcome}
@@ -37,7 +37,7 @@ pub refused_by : (c : TcpControl) (t : StoredView) → t.segment.control ≡ c �
 refused_by c t e = ap (λ x. refusal_reply x t) e
 
 module _ {G : Type 0} (tells : G → ℕ → Type 0) (ts : List StoredView) (n : ℕ) (t : StoredView) (at : slice_get ts n ≡ Some t) (released taken : ℕ) (s : Side) (m : Moment) (h : HostView G) where
-  pub delivers : (o : Outcome) (h' : HostView G) (ts' : List StoredView) (r : Option (IpRepr × Segment)) → is_too_old t.released_at released t.taken_at taken ≡ false → Accepts h.control_block t.ip t.segment → h' ≡ delivered_to h m t → Answers (IsReplyStamp tells (delivered_to h m t).source (echoed (delivered_to h m t).control_block t.segment.timestamp)) t.ip (processed_by h m t).reply r → o ≡ outcome.Delivered (reply_index (length ts) r) → ts' ≡ ts ++ kept_at s r h'.released h'.taken → DeliversAt tells (slice_get ts n) released taken s m o h ts h' ts'
+  pub delivers : (o : Outcome) (h' : HostView G) (ts' : List StoredView) (r : Option (IpRepr × Segment)) → is_too_old t.released_at released t.taken_at taken ≡ false → Accepts h.control_block t.ip t.segment → h' ≡ delivered_to h m t → Answers (IsReplyStamp tells (delivered_to h m t).source (echoed (delivered_to h m t).control_block t.segment.timestamp)) t.ip (reply_out h m t) r → o ≡ outcome.Delivered (reply_index (length ts) r) → ts' ≡ ts ++ kept_at s r h'.released h'.taken → DeliversAt tells (slice_get ts n) released taken s m o h ts h' ts'
   delivers o h' ts' r young ok is answers says stored =
       subst (λ x. DeliversAt tells x released taken s m o h ts h' ts') (sym at) (subst (λ b. DeliversTo tells b s m t o h ts h' ts') (sym young) (record {
         accepted = true;

@@ -50,6 +50,7 @@ beginnings_keep v now = record {
   forgets = λ w k. in_turn v w _ k (record { listener = λ n. absurd (n refl); peer = λ t p. inl refl });
   begins_again = λ w at e k. record { listener = k.listener; peer = k.peer };
   marks = λ w e k. record { listener = k.listener; peer = k.peer };
+  goes_back = λ w at delay e k. record { listener = k.listener; peer = k.peer };
   probes_tail = λ w at e k. record { listener = k.listener; peer = k.peer };
 }
 

@@ -33,6 +33,7 @@ pub mod ShownRows
 pub mod ShownSteps
 pub mod ShownProcess
 pub mod ShownCalls
+pub mod ShownNumbers
 pub mod ShownSending
 pub mod ShownDispatch
 pub mod ShownNetworks

@@ -9,6 +9,7 @@ use Rattle.ip_wire.specs.declared.repr.IpRepr.{IpRepr}
 use Rattle.net_base.specs.declared.time.Instant.{Instant}
 use Rattle.control_wire.specs.Segment.{Segment}
 use Rattle.sock_core.specs.Facts.{Facts}
+use Rattle.sock_tcp.specs.Rfc.Numbers.{numbered, outgoing}
 use Rattle.sock_tcp.specs.Queue.{capacity}
 use Rattle.sock_tcp.specs.View.{View, moment_of}
 use Rattle.sock_tcp.specs.Queues.{may_send, may_recv, queued}
@@ -52,7 +53,7 @@ use Rattle.pair_core.specs.PairViews.{HostView, StoredView, PairView, host_of, w
 use Rattle.pair_core.specs.PairCalls.{listening, connecting, OpensAs, is_over, sending, Sends, SendsIf, SendsUnder, receiving, Receives, ReceivesIf, closing, Closes, aborting, Aborts, setting, Sets, Calls}
 use Rattle.pair_core.specs.declared.setting.Setting.{Setting}
 use Rattle.pair_core.proofs.PairAmounts.{takes_some, hands_some}
-use Rattle.pair_core.specs.PairSteps.{EventStep, refusal_of, refusal_reply, Delivers, Dispatches, stored_at, DeliversTo, DeliversIf, is_old, exchanged, processed_by, delivered_to}
+use Rattle.pair_core.specs.PairSteps.{EventStep, refusal_of, refusal_reply, Delivers, Dispatches, stored_at, DeliversTo, DeliversIf, is_old, exchanged, processed_by, delivered_to, reply_out}
 use Rattle.pair_core.specs.Captures.{Records, SendsTo, SendsFrom, SocketDispatches}
 use Rattle.pair_core.specs.StreamCalls.{ProcessEffect}
 use Rattle.pair_core.specs.StreamViews.{Dead, HasNoIss, SocketView, StreamSegment}
@@ -98,7 +99,7 @@ reply_stamped e (Some x) a is =
     let same : stream_segment x.1 e.released e.taken ≡ a = cc in
     subst (IsStamped e) same (record { released = omega arith; taken = omega arith })
 
-module _ {G : Type 0} (s : Side) (h o : HostView G) (ks : List StoredView) (limit : Option ℕ) (m : Moment) (t : StoredView) (w : m.word < 2 ^ 32) (small : IsSmall t.segment) (there : Contains ks t) (from_other : t.emitter ≡ other_side s) (sock : IsSocket h.control_block) (young : is_old o t ≡ false) (accepted : Accepts h.control_block t.ip t.segment) (reply : Option (IpRepr × Segment)) (tells : G → ℕ → Type 0) (is_reply : Answers (IsReplyStamp tells (delivered_to h m t).source (echoed (delivered_to h m t).control_block t.segment.timestamp)) t.ip (processed_by h m t).reply reply) where
+module _ {G : Type 0} (s : Side) (h o : HostView G) (ks : List StoredView) (limit : Option ℕ) (m : Moment) (t : StoredView) (w : m.word < 2 ^ 32) (small : IsSmall t.segment) (there : Contains ks t) (from_other : t.emitter ≡ other_side s) (sock : IsSocket h.control_block) (young : is_old o t ≡ false) (accepted : Accepts h.control_block t.ip t.segment) (reply : Option (IpRepr × Segment)) (tells : G → ℕ → Type 0) (is_reply : Answers (IsReplyStamp tells (delivered_to h m t).source (echoed (delivered_to h m t).control_block t.segment.timestamp)) t.ip (reply_out h m t) reply) where
   -- the segments, once the reply is stored
   abbrev with_reply : List StoredView
   with_reply = ks ++ kept_at s reply (delivered_to h m t).released (delivered_to h m t).taken
@@ -111,7 +112,7 @@ module _ {G : Type 0} (s : Side) (h o : HostView G) (ks : List StoredView) (limi
       let come : Arrives n (shown_segment t) = record { sent = sent_has (other_side s) ks t there from_other; may = inr (may_arrive limit o t young) } in
       let does : ProcessEffect b (shown h.control_block) (shown (processed_by h m t).view) (shown_segment t) (shown_reply k.released k.taken reply) =
       subst (λ x. ProcessEffect x (shown h.control_block) (shown (processed_by h m t).view) (shown_segment t) (shown_reply k.released k.taken reply)) e
-      (subst (λ r. ProcessEffect (is_passive h.control_block) (shown h.control_block) (shown (processed_by h m t).view) (shown_segment t) r) (reply_shows (IsReplyStamp tells (delivered_to h m t).source (echoed (delivered_to h m t).control_block t.segment.timestamp)) t.ip (processed_by h m t).reply reply k.released k.taken is_reply)
+      (subst (λ r. ProcessEffect (is_passive h.control_block) (shown h.control_block) (shown (processed_by h m t).view) (shown_segment t) r) (reply_shows (IsReplyStamp tells (delivered_to h m t).source (echoed (delivered_to h m t).control_block t.segment.timestamp)) t.ip (reply_out h m t) reply k.released k.taken is_reply)
       (process_heard h.control_block (record { micros = m.now.micros }) m.word t.ip t.segment t.released_at t.taken_at k.released k.taken w small sock.receive sock.fin (bounded s h b h.control_block o ks limit i) accepted)) in
       subst (Reaches n) (stored_reply s (opened k b (processed_by h m t).view) (endpoint_of o) ks limit reply k.released k.taken)
       (delivery_reaches n (shown_segment t) come (shown (processed_by h m t).view) (shown_reply k.released k.taken reply) does
@@ -186,19 +187,19 @@ module _ {G : Type 0} (s : Side) (h o : HostView G) (ks : List StoredView) (limi
   none_stored v xs e = stays_there _ _ (ap (at_view v) (sym (append-nil ks) ∙ ap (λ zs. ks ++ zs) (sym e)))
 
   -- a segment that may be emitted goes out
-  emits_one : (v : View) (c : Sending) (now : Instant) → MayEmit v c now h.released h.taken → Reaches (at_view v ks) (at_view (left_by (Some c) v now true) (ks ++ record { emitter = s; ip = c.ip; segment = c.segment; released_at = h.released; taken_at = h.taken } ∷ []))
+  emits_one : (v : View) (c : Sending) (now : Instant) → MayEmit v c now h.released h.taken → Reaches (at_view v ks) (at_view (left_by (Some c) v now true) (ks ++ record { emitter = s; ip = c.ip; segment = numbered v c.segment; released_at = h.released; taken_at = h.taken } ∷ []))
   emits_one v c now may =
-      subst (Reaches (at_view v ks)) (stored_is s (opened h b (left_by (Some c) v now true)) (endpoint_of o) ks (record { emitter = s; ip = c.ip; segment = c.segment; released_at = h.released; taken_at = h.taken }) limit refl)
-      (emission_reaches (at_view v ks) (shown (left_by (Some c) v now true)) (stream_segment c.segment h.released h.taken) (record { released = omega arith; taken = omega arith }) may.sends may.leaves)
+      subst (Reaches (at_view v ks)) (stored_is s (opened h b (left_by (Some c) v now true)) (endpoint_of o) ks (record { emitter = s; ip = c.ip; segment = numbered v c.segment; released_at = h.released; taken_at = h.taken }) limit refl)
+      (emission_reaches (at_view v ks) (shown (left_by (Some c) v now true)) (stream_segment (numbered v c.segment) h.released h.taken) (record { released = omega arith; taken = omega arith }) may.sends may.leaves)
 
   sends_to : (tells : G → ℕ → Type 0) (source : Option G) (v w : View) (t : Tuple) (f : Facts) (fail : Bool) (r : Sent) → SendsTo tells source v t f fail r w → IsInvariant (at_view v ks) → Reaches (at_view v ks) (at_view w (ks ++ stored_at s r h.released h.taken))
   sends_to tells source v w t f fail r d i = subst (λ u. Reaches (at_view v ks) (at_view u (ks ++ stored_at s r h.released h.taken))) (sym d.view) (go fail (content v t f d.stamp d.bytes) refl d.records)
     where
-      go : (fail : Bool) (c : Option Sending) → content v t f d.stamp d.bytes ≡ c → Records fail c r → Reaches (at_view v ks) (at_view (left_by c v (moment_of f) (not fail)) (ks ++ stored_at s r h.released h.taken))
+      go : (fail : Bool) (c : Option Sending) → content v t f d.stamp d.bytes ≡ c → Records fail (outgoing v c) r → Reaches (at_view v ks) (at_view (left_by c v (moment_of f) (not fail)) (ks ++ stored_at s r h.released h.taken))
       go true None e x = none_stored v _ (failed_stored s None r h.released h.taken x)
       go true (Some c) e x = none_stored v _ (failed_stored s (Some c) r h.released h.taken x)
       go false None e x = none_stored v _ (ap (λ y. stored_at s y h.released h.taken) x)
-      go false (Some c) e x = subst (λ xs. Reaches (at_view v ks) (at_view (left_by (Some c) v (moment_of f) true) (ks ++ xs))) (sym (records_stored s c r h.released h.taken x)) (emits_one v c (moment_of f) (emission_plans v h.released h.taken (bounded s h b v o ks limit i) t f d.stamp d.bytes d.lent c e))
+      go false (Some c) e x = subst (λ xs. Reaches (at_view v ks) (at_view (left_by (Some c) v (moment_of f) true) (ks ++ xs))) (sym (records_stored s (record c { segment = numbered v c.segment }) r h.released h.taken x)) (emits_one v c (moment_of f) (emission_plans v h.released h.taken (bounded s h b v o ks limit i) t f d.stamp d.bytes d.lent c e))
 
   sends_from : (tells : G → ℕ → Type 0) (source : Option G) (peer : Option Tuple) (v w : View) (f : Facts) (fail : Bool) (r : Sent) → SendsFrom tells source peer v f fail r w → IsInvariant (at_view v ks) → Reaches (at_view v ks) (at_view w (ks ++ stored_at s r h.released h.taken))
   sends_from tells source None v w f fail r d i = subst (λ u. Reaches (at_view v ks) (at_view u (ks ++ stored_at s r h.released h.taken))) (sym d.1) (none_stored v _ (ap (λ y. stored_at s y h.released h.taken) d.0))

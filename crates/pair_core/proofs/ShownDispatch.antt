@@ -10,8 +10,9 @@ use Rattle.sock_core.specs.Places.{later_number}
 use Rattle.sock_core.specs.Received.{cleared}
 use Rattle.sock_core.specs.Seq.{later_of}
 use Rattle.sock_core.specs.Congestion.{post_transmitted}
+use Rattle.pair_core.proofs.ShownNumbers.{numbered_effect}
 use Rattle.sock_tcp.specs.Advance.{dropped}
-use Rattle.sock_tcp.specs.Begin.{last_ts_set, last_ts_set_at, told_ready, readied, retransmission_begun, fast_retransmission_marked, after_timer, after_timers, timers_by, unless_paused, ended, begun, begun_to, nothing_due, by_due, before_emit, before_emit_to, peer_of, time_wait_ended}
+use Rattle.sock_tcp.specs.Begin.{last_ts_set, last_ts_set_at, told_ready, readied, retransmission_begun, fast_retransmission_marked, after_timer, after_timers, unless_paused, ended, begun, begun_to, nothing_due, by_due, before_emit, before_emit_to, peer_of, time_wait_ended, probing_begun, timers_by}
 use Rattle.sock_tcp.specs.Content.{Sending, asked, offset_of, content}
 use Rattle.sock_tcp.specs.Due.{is_due}
 use Rattle.sock_tcp.specs.Opening.{renewed}
@@ -66,7 +67,15 @@ timer_shows (timer.Retransmit t) v now bounds = go (is_over t now)
     go false = Same refl
 timer_shows timer.FastRetransmit v now bounds = Same refl
 timer_shows (timer.Idle at) v now bounds = Same refl
-timer_shows (timer.ZeroWindowProbe t delay) v now bounds = Same refl
+timer_shows (timer.ZeroWindowProbe t delay) v now bounds = go (is_over t now)
+  where
+    by_rules : (r : Rules) → DispatchEffect (shown v) (shown (probing_begun r v))
+    by_rules rules.Smoltcp = Same refl
+    by_rules rules.Rfc = MovesSndNxt v.local_seq_no.0 (back_within v bounds) refl
+
+    go : (b : Bool) → DispatchEffect (shown v) (shown (cond b (probing_begun v.rules v) v))
+    go true = by_rules v.rules
+    go false = Same refl
 timer_shows (timer.Close t) v now bounds = Same refl
 
 timers_show : (v : View) (now : Instant) → (HasIss (phase_of v.state) → HasSendingBounds (shown v)) → DispatchEffect (shown v) (shown (after_timers v now))
@@ -163,6 +172,6 @@ module _ (v : View) (released taken : ℕ) (bounds : IsBounded v) where
   unfolding after_sending
   emission_plans t f stamp bytes lent c e =
       record {
-        sends = content_effect v released taken bounds t f stamp bytes lent c e;
+        sends = numbered_effect v c.segment released taken (content_effect v released taken bounds t f stamp bytes lent c e);
         leaves = leaves_by c.kind v (moment_of f) (emitted_as c.kind c.segment) (moves c (λ iss. content_goes v released taken (bounds.sending iss) iss t f stamp bytes lent c e));
       }

@@ -16,13 +16,17 @@ use Rattle.sock_core.specs.Places.{number_distance, number_is_before}
 use Rattle.sock_core.specs.Received.{Received, room_of}
 use Rattle.sock_core.specs.Seq.{is_not_after, later_of}
 use Rattle.sock_core.specs.Streams.{fin_length}
+use Rattle.pair_core.proofs.ShownNumbers.{renumbered_effect}
+use Rattle.sock_tcp.specs.Rfc.Windows.{windowed}
+use Rattle.sock_tcp.specs.Rfc.Numbers.{reply_numbered}
 use Rattle.sock_tcp.specs.Arrival.{Arrival, arrival}
 use Rattle.sock_tcp.specs.View.{View, FinSays}
 use Rattle.sock_tcp.specs.Verdict.{verdict_at, verdict_of}
 use Rattle.sock_tcp.specs.Window.{next_ack, receive_window, is_inside, cut_of, cut_bytes}
 use Rattle.sock_tcp.specs.Acked.{syn_place, acked_places, acked_at, acked_of, nothing_acked}
-use Rattle.sock_tcp.specs.Advance.{advanced, advance_in, counted_control, dropped, fallen_back, fin_counted, moved_to, opened_state, options_taken, syn_answered, syn_received, waiting}
-use Rattle.sock_tcp.specs.Process.{Outcome, stopped, tuple_of, after_table, after_advance, has_window, challenged, outside, bytes_taken, processed_inside, cut_inside, tested, by_verdict, processed, processed_by, Accepts, AcceptsIn}
+use Rattle.sock_tcp.specs.Advance.{advanced, advance_in, counted_control, dropped, fallen_back, fin_counted, moved_to, opened_state, options_taken, syn_answered, syn_received, waiting, nothing_new_by}
+use Rattle.ip_wire.specs.declared.endpoint.IpListenEndpoint.{IpListenEndpoint}
+use Rattle.sock_tcp.specs.Process.{Outcome, stopped, tuple_of, after_table, after_advance, has_window, challenged, outside, bytes_taken, processed_inside, cut_inside, tested, by_verdict, processed, processed_by, Accepts, AcceptsIn, IsAddressed}
 use Rattle.sock_tcp.specs.Rfc.Recovery.{before_of, recovered}
 use Rattle.sock_tcp.specs.Rfc.Refused.{is_fin as rfc_fin}
 use Rattle.sock_tcp.specs.Steps.{heard}
@@ -51,6 +55,8 @@ use Rattle.pair_core.proofs.ShownWindow.{FinCounts, before_shown, comes, cut_hea
 use Rattle.pair_core.proofs.StreamTables.{passes_heard}
 use Rattle.sock_tcp.specs.Rfc.Refused.{is_plain_control, refused}
 use Rattle.sock_tcp.specs.declared.rules.Rules.{Rules}
+use Rattle.sock_tcp.specs.declared.rules.Rules.TheVariants as rules
+use Rattle.sock_tcp.specs.declared.tuple.Tuple.{Tuple}
 use Rattle.sock_tcp.proofs.Checking.{verdict_as}
 use Rattle.sock_tcp.proofs.Recovering.{recovered_as}
 use Rattle.sock_tcp.proofs.Refusing.{counts_fin, fin_is_plain, heard_alone, refused_as}
@@ -355,14 +361,14 @@ module _ (v : View) (now : Instant) (word : ℕ) (ip : IpRepr) (s : Segment) (at
           closing_rows control.Syn t es unreset e le = stops based refl
           closing_rows control.Rst t es unreset e le = absurd (unreset refl)
 
-          -- LAST-ACK: an acknowledgement of nothing new is challenged
-          last_ack_row : (t : Bool) → v.state ≡ state.LastAck → places ≤ queued → GoesOn (after_advance (if t then next.Challenge else next.Continue) based (arrival now (tuple_of ip s) word s) (acked_when false places all_acked) at_offset come_bytes)
-          last_ack_row true es le = told (challenged based now s) (challenged_there s now based (shown v) refl)
-          last_ack_row false es le = bytes_row based (acked_when false places all_acked) (no_fin _ _ refl refl refl (inl refl)) (sym (unchanged_by _)) le refl refl (subst (λ st. IsSynchronized (phase_of st)) (sym es) tt)
+          -- LAST-ACK: an acknowledgement of nothing new is challenged, or heard
+          last_ack_row : (t : Bool) (r : Rules) → v.state ≡ state.LastAck → places ≤ queued → GoesOn (after_advance (if t then nothing_new_by r else next.Continue) based (arrival now (tuple_of ip s) word s) (acked_when false places all_acked) at_offset come_bytes)
+          last_ack_row true rules.Smoltcp es le = told (challenged based now s) (challenged_there s now based (shown v) refl)
+          last_ack_row _ r es le = bytes_row based (acked_when false places all_acked) (no_fin _ _ refl refl refl (inl refl)) (sym (unchanged_by _)) le refl refl (subst (λ st. IsSynchronized (phase_of st)) (sym es) tt)
 
           last_ack_rows : (c : TcpControl) (t : Bool) → v.state ≡ state.LastAck → (c ≡ control.Rst → ⊥) → (places == queued + 1) ≡ t → (if t then places - 1 else places) ≤ queued → GoesOn (row_of state.LastAck c (acked_when t places all_acked))
           last_ack_rows control.None true es unreset e le = fin_row (dropped based) (acked_when true places all_acked) (no_fin _ _ refl refl refl (inr refl)) (ap phase_of es) (last_place e).0 (last_place e).1 refl refl
-          last_ack_rows control.None false es unreset e le = last_ack_row (places == 0) es le
+          last_ack_rows control.None false es unreset e le = last_ack_row (places == 0) v.rules es le
           last_ack_rows control.Fin t es unreset e le = stops based refl
           last_ack_rows control.Psh t es unreset e le = stops based refl
           last_ack_rows control.Syn t es unreset e le = stops based refl
@@ -566,12 +572,12 @@ module _ (v : View) (now : Instant) (word : ℕ) (ip : IpRepr) (s : Segment) (at
       alone_rows : is_plain_control s.control ≡ true → IsEffect (heard_alone v come) × ((y : Outcome) → Answered s (shown (heard_alone v come).view) y → IsEffect y)
       alone_rows e = bare_rows control.None (λ h. let no : control.None ≡ control.Rst = h in cc) (λ h. let no : control.None ≡ control.Fin = h in cc) e w passed
 
-  windowed : (b : Bool) → in_window ≡ b → has_window v.state ≡ true → verdict_of v s.control s.ack_number ≡ verdicts.Pass → IsEffect (if b then cut_inside the_window the_cut v (arrival now (tuple_of ip s) word s) else refused v.rules v (arrival now (tuple_of ip s) word s))
-  windowed true here w p = inside here w p
-  windowed false here w p = refuses v.rules w p
+  by_window : (b : Bool) → in_window ≡ b → has_window v.state ≡ true → verdict_of v s.control s.ack_number ≡ verdicts.Pass → IsEffect (if b then cut_inside the_window the_cut v (arrival now (tuple_of ip s) word s) else refused v.rules v (arrival now (tuple_of ip s) word s))
+  by_window true here w p = inside here w p
+  by_window false here w p = refuses v.rules w p
 
   is_tested : (b : Bool) → has_window v.state ≡ b → verdict_of v s.control s.ack_number ≡ verdicts.Pass → word < 2 ^ 32 → IsEffect (tested b v (arrival now (tuple_of ip s) word s))
-  is_tested true w p small_word = windowed in_window refl w p
+  is_tested true w p small_word = by_window in_window refl w p
   is_tested false w p small_word = unwindowed w p small_word
 
   -- LISTEN lets no segment with an acknowledgement in
@@ -598,12 +604,39 @@ module _ (v : View) (now : Instant) (word : ℕ) (ip : IpRepr) (s : Segment) (at
         ends = inl refl;
       }
   by_the_verdict verdicts.Challenge e small_word = challenged_in (challenge_says v.state s.control s.ack_number v.local_seq_no queued no_ack e)
-  by_the_verdict verdicts.Pass e small_word = let h = is_tested (has_window v.state) refl e small_word in recovered_as IsEffect v.rules v now s _ h (recovered_effect _ h) h
+  by_the_verdict verdicts.Pass e small_word = let h = is_tested (has_window v.state) refl e small_word in recovered_as IsEffect v.rules v now s _ h (recovered_effect _ h)
 
-  pub hears : word < 2 ^ 32 → IsEffect (processed v now word ip s)
+-- ---- the whole, of a segment with the window that it counts as telling
+
+addressed : (r : Rules) (v : View) (o : Option Tuple) (e : IpListenEndpoint) (ip : IpRepr) (s : Segment) → IsAddressed o e ip s → IsAddressed o e ip (windowed r v s)
+addressed r v None e ip s h = record { addr = h.addr; port = h.port; not_zero = h.not_zero }
+addressed r v (Some t) e ip s h = record { local_addr = h.local_addr; local_port = h.local_port; remote_addr = h.remote_addr; remote_port = h.remote_port }
+
+accepted_too : (st : State) (r : Rules) (v : View) (ip : IpRepr) (s : Segment) → AcceptsIn st v ip s → AcceptsIn st v ip (windowed r v s)
+accepted_too state.Closed r v ip s h = h
+accepted_too state.Listen r v ip s h = (record { no_ack = h.0.no_ack; no_reset = h.0.no_reset }, addressed r v v.tuple v.listen_endpoint ip s h.1)
+accepted_too _ r v ip s h = addressed r v v.tuple v.listen_endpoint ip s h
+
+module _ (v : View) (now : Instant) (word : ℕ) (ip : IpRepr) (s : Segment) (released taken released_then taken_then : ℕ) (word_small : word < 2 ^ 32) (small : IsSmall s) (room : room_of v.rx_buffer ≤ 2 ^ 30) (says : FinSays v.state v.rx_fin_received) (bounds : IsBounded v) (accepted : Accepts v ip s) where
+  abbrev y : Segment
+  y = windowed v.rules v s
+
+  small_too : IsSmall y
+  small_too = record { payload = small.payload; seq = small.seq; ack = small.ack }
+
+  there : Accepts v ip y
+  there = accepted_too v.state v.rules v ip s accepted
+
+  heard_as_is : ProcessEffect (is_passive v) (shown v) (shown (processed v now word ip s).view) (stream_segment s released taken) (option_map (λ (r : Segment). stream_segment r released_then taken_then) (processed v now word ip s).reply)
   unfolding processed_by
-  hears small_word = verdict_as (λ x. IsEffect (by_verdict v.rules x v (arrival now (tuple_of ip s) word s))) v.rules v now s (λ w. silent v refl) challenged_in (by_the_verdict (verdict_of v s.control s.ack_number) refl small_word)
+  heard_as_is =
+      verdict_as (λ x. IsEffect v now word ip y released taken released_then taken_then small_too room says bounds there (by_verdict v.rules x v (arrival now (tuple_of ip s) word y))) v.rules v now s
+      (λ w. silent v now word ip y released taken released_then taken_then small_too room says bounds there v refl)
+      (challenged_in v now word ip y released taken released_then taken_then small_too room says bounds there)
+      (by_the_verdict v now word ip y released taken released_then taken_then small_too room says bounds there (verdict_of v s.control s.ack_number) refl word_small)
 
 pub process_heard : (v : View) (now : Instant) (word : ℕ) (ip : IpRepr) (s : Segment) (released taken released_then taken_then : ℕ) → word < 2 ^ 32 → IsSmall s → room_of v.rx_buffer ≤ 2 ^ 30 → FinSays v.state v.rx_fin_received → IsBounded v → Accepts v ip s
-    → ProcessEffect (is_passive v) (shown v) (shown (processed v now word ip s).view) (stream_segment s released taken) (option_map (λ (r : Segment). stream_segment r released_then taken_then) (processed v now word ip s).reply)
-process_heard v now word ip s released taken released_then taken_then word_small small room says bounds accepted = hears v now word ip s released taken released_then taken_then small room says bounds accepted word_small
+    → ProcessEffect (is_passive v) (shown v) (shown (processed v now word ip s).view) (stream_segment s released taken) (option_map (λ (r : Segment). stream_segment r released_then taken_then) (reply_numbered (processed v now word ip s).view (processed v now word ip s).reply))
+process_heard v now word ip s released taken released_then taken_then word_small small room says bounds accepted =
+    renumbered_effect (is_passive v) (shown v) (processed v now word ip s).view (stream_segment s released taken) released_then taken_then (processed v now word ip s).reply
+    (heard_as_is v now word ip s released taken released_then taken_then word_small small room says bounds accepted)

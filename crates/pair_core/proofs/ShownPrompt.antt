@@ -10,6 +10,7 @@ use Rattle.control_wire.specs.Seq.{seq_sub}
 use Rattle.control_wire.specs.Segment.{Segment}
 use Rattle.control_wire.specs.declared.seq_number.TcpSeqNumber.{TcpSeqNumber}
 use Rattle.control_wire.specs.declared.tcp.TcpControl.{TcpControl}
+use Rattle.sock_tcp.specs.Rfc.Windows.{windowed}
 use Rattle.sock_tcp.specs.Arrival.{arrival}
 use Rattle.sock_tcp.specs.View.{View}
 use Rattle.sock_core.specs.Seq.{is_before, later_of}
@@ -17,7 +18,7 @@ use Rattle.sock_tcp.proofs.Recovering.{recovered_as}
 use Rattle.sock_tcp.specs.declared.verdict.Verdict.TheVariants as verdicts
 use Rattle.sock_tcp.specs.Rfc.Recovery.{before_of, recovered}
 use Rattle.sock_tcp.specs.Rfc.Refused.{refused}
-use Rattle.sock_tcp.specs.Window.{next_ack, receive_window, cut_of}
+use Rattle.sock_tcp.specs.Window.{next_ack, receive_window, cut_of, is_inside}
 use Rattle.sock_tcp.specs.declared.window.Cut.{Cut}
 use Rattle.sock_tcp.specs.Acked.{acked_of}
 use Rattle.sock_tcp.specs.Advance.{Advance, advance_in, advanced, counted_control}
@@ -27,7 +28,7 @@ use Rattle.sock_tcp.specs.declared.acked.Acked.{Acked}
 use Rattle.sock_tcp.specs.declared.advance.Next.{Next}
 use Rattle.sock_tcp.specs.declared.advance.Next.TheVariants as next
 use Rattle.tcp_laws.proofs.Frames.{brought, bytes_keep, heard_keeps, table_keeps}
-use Rattle.pair_core.specs.PairPromises.{IsInOrder, in_window}
+use Rattle.pair_core.specs.PairPromises.{IsInOrder, in_window, table_for}
 
 brings_at_once : (b : Received) (bs : List ℕ) → 0 < length bs → JoinsAtOnce b (brought b 0 bs) bs
 brings_at_once b bs some = go (length bs == 0) refl
@@ -41,7 +42,14 @@ at_the_edge : (start number : TcpSeqNumber) → start.0 < 2 ^ 32 → is_before s
 unfolding later_of
 at_the_edge start number small e = ap (λ t. seq_sub (if t then number else start) start) e ∙ omega (arith, small)
 
-module _ (v : View) (now : Instant) (word : ℕ) (ip : IpRepr) (s : Segment) (i : IsInOrder v now word ip s) (some : 0 < length (in_window v s)) where
+-- the same of a segment whose acknowledgement passes, as it counts
+record Lies (v : View) (now : Instant) (word : ℕ) (ip : IpRepr) (s : Segment) : Type 0 where
+  window : has_window v.state ≡ true
+  inside : is_inside (receive_window v) s.seq_number (length s.payload) ≡ true
+  goes_on : (table_for v now word ip s).next ≡ next.Continue
+  starts : is_before (next_ack v) s.seq_number ≡ false
+
+module _ (v : View) (now : Instant) (word : ℕ) (ip : IpRepr) (s : Segment) (i : Lies v now word ip s) (some : 0 < length (in_window v s)) where
   abbrev the_cut : Cut
   the_cut = cut_of (receive_window v) s.seq_number (length s.payload)
 
@@ -85,8 +93,11 @@ module _ (v : View) (now : Instant) (word : ℕ) (ip : IpRepr) (s : Segment) (i 
   recovered_queues o h = h
 
   passed : Queues (by_verdict v.rules verdicts.Pass v (arrival now (tuple_of ip s) word s))
-  passed = let h = subst Queues (sym is_cut) inside in recovered_as Queues v.rules v now s (tested (has_window v.state) v (arrival now (tuple_of ip s) word s)) h (recovered_queues (tested (has_window v.state) v (arrival now (tuple_of ip s) word s)) h) h
+  passed = let h = subst Queues (sym is_cut) inside in recovered_as Queues v.rules v now s (tested (has_window v.state) v (arrival now (tuple_of ip s) word s)) h (recovered_queues (tested (has_window v.state) v (arrival now (tuple_of ip s) word s)) h)
 
-  pub queued_at_once : JoinsAtOnce v.rx_buffer (processed v now word ip s).view.rx_buffer (in_window v s)
-  unfolding processed_by
-  queued_at_once = subst Queues (sym (ap (λ x. by_verdict v.rules x v (arrival now (tuple_of ip s) word s)) i.passes)) passed
+pub queued_at_once : (v : View) (now : Instant) (word : ℕ) (ip : IpRepr) (s : Segment) → IsInOrder v now word ip s → 0 < length (in_window v s) → JoinsAtOnce v.rx_buffer (processed v now word ip s).view.rx_buffer (in_window v s)
+unfolding processed_by
+queued_at_once v now word ip s i some =
+    let y : Segment = windowed v.rules v s in
+    let lies : Lies v now word ip y = record { window = i.window; inside = i.inside; goes_on = i.goes_on; starts = i.starts } in
+    subst (λ (o : Outcome). JoinsAtOnce v.rx_buffer o.view.rx_buffer (in_window v s)) (sym (ap (λ x. by_verdict v.rules x v (arrival now (tuple_of ip s) word y)) i.passes)) (passed v now word ip y lies some)

@@ -7,6 +7,7 @@ use Rattle.ip_wire.specs.declared.repr.IpRepr.{IpRepr}
 use Rattle.control_wire.specs.Fits.{FitsPacket}
 use Rattle.control_wire.specs.Segment.{Segment}
 use Rattle.sock_core.specs.Facts.{Facts}
+use Rattle.sock_tcp.specs.Rfc.Numbers.{outgoing}
 use Rattle.sock_tcp.specs.Queue.{IsLent}
 use Rattle.sock_tcp.specs.View.{View, moment_of}
 use Rattle.sock_tcp.specs.Begin.{before_emit, peer_of}
@@ -56,9 +57,9 @@ pub record SendsTo {G : Type 0} (tells : G → ℕ → Type 0) (source : Option 
   pub stamped : is_some stamp ≡ v.stamps
   pub bytes : List ℕ
   pub lent : IsLent v.tx_buffer (offset_of v) (asked v t f) bytes
-  pub records : Records fail (content v t f stamp bytes) r
+  pub records : Records fail (outgoing v (content v t f stamp bytes)) r
   pub view : w ≡ left_by (content v t f stamp bytes) v (moment_of f) (not fail)
-  pub fits : ForSome (content v t f stamp bytes) (λ s. FitsPacket s.ip s.segment)
+  pub fits : ForSome (outgoing v (content v t f stamp bytes)) (λ s. FitsPacket s.ip s.segment)
 
 abbrev pub SendsFrom : {G : Type 0} → (G → ℕ → Type 0) → Option G → Option Tuple → View → Facts → Bool → Sent → View
     → Type 0

@@ -7,6 +7,7 @@ use Rattle.sock_core.specs.Streams.{IsPrefix}
 use Rattle.ip_wire.specs.declared.repr.IpRepr.{IpRepr}
 use Rattle.net_base.specs.declared.time.Instant.{Instant}
 use Rattle.control_wire.specs.Segment.{Segment}
+use Rattle.sock_tcp.specs.Rfc.Windows.{windowed}
 use Rattle.sock_tcp.specs.Arrival.{arrival}
 use Rattle.sock_tcp.specs.Acked.{acked_of}
 use Rattle.sock_tcp.specs.Advance.{Advance, advanced, counted_control}
@@ -86,13 +87,13 @@ table_for v now word ip s =
     advanced (record v { local_rx_last_seq = Some s.seq_number }) (counted_control s.control (receive_window v) s.seq_number (length s.payload)) (arrival now (tuple_of ip s) word s) (acked_of v s.control s.ack_number)
 
 -- The segment s is in order for the socket v: the state has a receive window, the acknowledgement passes, the segment
--- lies inside the window, the state table goes on with it, and it starts at RCV.NXT, the next number expected, or
+-- lies inside the window, the state table goes on with it, as it counts, and it starts at RCV.NXT, the next number expected, or
 -- before it
 pub record IsInOrder (v : View) (now : Instant) (word : ℕ) (ip : IpRepr) (s : Segment) : Type 0 where
   pub window : has_window v.state ≡ true
   pub passes : verdict_by v.rules v now s ≡ verdicts.Pass
   pub inside : is_inside (receive_window v) s.seq_number (length s.payload) ≡ true
-  pub goes_on : (table_for v now word ip s).next ≡ next.Continue
+  pub goes_on : (table_for v now word ip (windowed v.rules v s)).next ≡ next.Continue
   pub starts : is_before (next_ack v) s.seq_number ≡ false
 
 -- the bytes of the segment that lie in the window

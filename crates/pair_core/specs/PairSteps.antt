@@ -5,6 +5,7 @@ use Rattle.ip_wire.specs.declared.repr.IpRepr.{IpRepr}
 use Rattle.control_wire.specs.Segment.{Segment}
 use Rattle.control_wire.specs.declared.tcp.TcpControl.{TcpControl}
 use Rattle.control_wire.specs.declared.tcp.TcpControl.TheVariants as control
+use Rattle.sock_tcp.specs.Rfc.Numbers.{reply_numbered}
 use Rattle.sock_tcp.specs.Process.{Accepts, Outcome as Processed, processed, source_kept}
 use Rattle.sock_tcp.specs.View.{View}
 use Rattle.sock_tcp.specs.Replies.{Answers, IsReplyStamp, echoed, rst_segment, with_header}
@@ -84,6 +85,10 @@ processed_at v m t = processed v (record { micros = m.now.micros }) m.word t.ip 
 abbrev pub processed_by : {G : Type 0} → HostView G → Moment → StoredView → Processed
 processed_by h m t = processed_at h.control_block m t
 
+-- the answer, with its number by the socket's rules
+abbrev pub reply_out : {G : Type 0} → HostView G → Moment → StoredView → Option Segment
+reply_out h m t = reply_numbered (processed_by h m t).view (processed_by h m t).reply
+
 -- the counts grow by the bytes that left the transmit queue and joined the receive queue; a SYN without a timestamp
 -- takes the source of timestamps away
 abbrev pub delivered_to : {G : Type 0} → HostView G → Moment → StoredView → HostView G
@@ -107,7 +112,7 @@ pub record IsProcessed {G : Type 0} (tells : G → ℕ → Type 0) (s : Side) (m
     (h : HostView G) (ks : List StoredView) (h' : HostView G) (ks' : List StoredView) : Type 0 where
   pub reply : Option (IpRepr × Segment)
   pub is_reply : Answers (IsReplyStamp tells (delivered_to h m t).source
-      (echoed (delivered_to h m t).control_block t.segment.timestamp)) t.ip (processed_by h m t).reply reply
+      (echoed (delivered_to h m t).control_block t.segment.timestamp)) t.ip (reply_out h m t) reply
   pub answer : o ≡ outcome.Delivered (reply_index (length ks) reply)
   pub host : h' ≡ delivered_to h m t
   pub stored : ks' ≡ ks ++ kept_at s reply (delivered_to h m t).released (delivered_to h m t).taken

@@ -9,6 +9,7 @@ ghost use Rattle.sock_core.specs.Received.{receiving};
 ghost use Rattle.sock_tcp.specs.View.{fresh};
 ghost use Rattle.sock_tcp.specs.Queue.{queue_of};
 ghost use Rattle.sock_tcp.specs.Process.{Accepts, processed, reply_of, source_kept};
+ghost use Rattle.sock_tcp.specs.Rfc.Numbers.{reply_numbered};
 ghost use Rattle.sock_tcp.specs.Replies.{Answers, IsReplyStamp, echoed};
 ghost use Rattle.pair_core.specs.Moments.{facts_of};
 ghost use Rattle.pair_core.specs.Holding.{stored_of};
@@ -376,7 +377,7 @@ impl<'a, G: TsvalSource> Host<'a, G> {
 }
 
 impl<'a, G: TsvalSource> Host<'a, G> {
-    ghost use Rattle.pair_core.specs.PairSteps.{delivered_to, processed_by};
+    ghost use Rattle.pair_core.specs.PairSteps.{delivered_to, processed_by, reply_out};
 
     // A delivery to this side.
     pub(crate) fn deliver(&mut self, moment: &Moment, segment: &Segment) -> Option<Reply>
@@ -388,7 +389,7 @@ impl<'a, G: TsvalSource> Host<'a, G> {
         ensures fits { ForSome (option_map reply_of result) (λ r. FitsPacket r.0 r.1) }
         ensures reply { Answers (IsReplyStamp G.tells self.new.source
             (echoed self.new.control_block (stored_of segment.now).segment.timestamp))
-            (stored_of segment.now).ip (processed_by self.old moment.entry.now (stored_of segment.now)).reply
+            (stored_of segment.now).ip (reply_out self.old moment.entry.now (stored_of segment.now))
             (option_map reply_of result) }
     {
         let unacknowledged = self.socket.send_queue();
@@ -419,7 +420,8 @@ fn process<G: TsvalSource>(
         (IsReplyStamp G.tells socket.new.tsval_generator
         (echoed socket.new.control_block (stored_of segment.now).segment.timestamp))
         (stored_of segment.now).ip
-        (processed_at socket.old.control_block moment.entry.now (stored_of segment.now)).reply
+        (reply_numbered socket.new.control_block
+        (processed_at socket.old.control_block moment.entry.now (stored_of segment.now)).reply)
         (option_map reply_of result) }
 {
     segment.in_range(); // for its contract

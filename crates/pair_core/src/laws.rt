@@ -11,6 +11,7 @@ ghost use Rattle.control_wire.specs.Segment.{Segment};
 ghost use Rattle.sock_core.specs.Facts.{Facts};
 ghost use Rattle.sock_core.specs.Places.{number_at};
 ghost use Rattle.sock_core.specs.Received.{room_of};
+ghost use Rattle.sock_tcp.specs.Rfc.Numbers.{reply_numbered};
 ghost use Rattle.sock_tcp.specs.Queue.{IsLent};
 ghost use Rattle.sock_tcp.specs.View.{View, FinSays, moment_of};
 ghost use Rattle.sock_tcp.specs.Opening.{listened, connected};
@@ -54,7 +55,8 @@ pub fn process_heard()
         → Accepts v ip s
         → ProcessEffect (is_passive v) (shown v) (shown (processed v now word ip s).view)
         (stream_segment s released taken)
-        (option_map (λ r. stream_segment r released_then taken_then) (processed v now word ip s).reply) }
+        (option_map (λ r. stream_segment r released_then taken_then)
+        (reply_numbered (processed v now word ip s).view (processed v now word ip s).reply)) }
 {}
 
 /// What a dispatch does before it emits anything changes nothing that the streams see, moves SND.NXT back to SND.UNA
@@ -65,7 +67,8 @@ pub fn begun_shows()
         → DispatchEffect (shown v) (shown (before_emit v f).view) }
 {}
 
-/// What a dispatch emits, with any timestamp and any bytes that the ring lent, may be emitted; and an emit that
+/// What a dispatch emits, with any timestamp and any bytes that the ring lent, and the number that it has by the
+/// socket's rules, may be emitted; and an emit that
 /// succeeds leaves what may be left.
 pub fn emission_plans()
     ensures { (v : View) (released taken : ℕ) → IsBounded v → (t : Tuple) (f : Facts) (stamp : Option ℕ)

@@ -8,7 +8,7 @@ use Rattle.sock_tcp.specs.View.{View}
 use Rattle.sock_tcp.specs.declared.rules.Rules.TheVariants as rules
 
 pub number_again : (v : View) → v.rules ≡ rules.Smoltcp → number_of v ≡ (if v.pending_fast_retransmit then v.local_seq_no else v.remote_last_seq)
-number_again v e = ap (λ r. if v.pending_fast_retransmit then hole_number (hole_by r v.recovery v.sacked v.local_seq_no) (length v.tx_buffer.bytes) v.local_seq_no else v.remote_last_seq) e
+number_again v e = ap (λ r. if v.pending_fast_retransmit then hole_number (hole_by r v.recovery v.sacked v.local_seq_no v.remote_win_len) (length v.tx_buffer.bytes) v.local_seq_no else v.remote_last_seq) e
 
 pub offset_again : (v : View) → v.rules ≡ rules.Smoltcp → offset_of v ≡ (if v.pending_fast_retransmit then 0 else flight v)
-offset_again v e = ap (λ r. if v.pending_fast_retransmit then hole_start (hole_by r v.recovery v.sacked v.local_seq_no) (length v.tx_buffer.bytes) else flight v) e
+offset_again v e = ap (λ r. if v.pending_fast_retransmit then hole_start (hole_by r v.recovery v.sacked v.local_seq_no v.remote_win_len) (length v.tx_buffer.bytes) else flight v) e

@@ -14,7 +14,8 @@ use Rattle.control_wire.specs.declared.tcp.TcpControl.{TcpControl}
 use Rattle.control_wire.specs.declared.tcp.TcpControl.TheVariants as control
 use Rattle.sock_core.specs.Estimator.{backed_off, retransmitted}
 use Rattle.sock_core.specs.Facts.{Facts}
-use Rattle.sock_tcp.specs.Begin.{Begun, last_ts_set, last_ts_set_at, told_ready, readied, retransmission_begun, fast_retransmission_marked, after_timer, after_timers, timers_by, is_paused, begun, begun_to, unless_paused, nothing_due, by_due, before_emit, before_emit_to, going_on, peer_of}
+use Rattle.sock_tcp.specs.declared.rules.Rules.{Rules}
+use Rattle.sock_tcp.specs.Begin.{Begun, last_ts_set, last_ts_set_at, told_ready, readied, retransmission_begun, fast_retransmission_marked, after_timer, after_timers, is_paused, begun, begun_to, unless_paused, nothing_due, by_due, before_emit, before_emit_to, going_on, peer_of, probing_begun, timers_by}
 use Rattle.sock_tcp.specs.Content.{Sending, asked, carries_data, content, data_control, emission_kind, filled, offset_of, plain_segment, sent_as, with_data}
 use Rattle.sock_tcp.specs.Due.{is_closing, is_due}
 use Rattle.sock_tcp.specs.Process.{Outcome}
@@ -155,8 +156,21 @@ timer_kept (timer.Retransmit at) x now = go (is_over at now)
     go false = (refl, refl)
 timer_kept timer.FastRetransmit x now = (refl, refl)
 timer_kept (timer.Idle at) x now = (refl, refl)
-timer_kept (timer.ZeroWindowProbe at delay) x now = (refl, refl)
+timer_kept (timer.ZeroWindowProbe at delay) x now = go (is_over at now) x.rules
+  where
+    go : (b : Bool) (r : Rules) → ((if b then probing_begun r x else x).state ≡ x.state) × ((if b then probing_begun r x else x).synack_paused ≡ x.synack_paused)
+    go true rules.Smoltcp = (refl, refl)
+    go true rules.Rfc = (refl, refl)
+    go false r = (refl, refl)
 timer_kept (timer.Close at) x now = (refl, refl)
+
+-- by smoltcp's rules a probe that is due changes nothing before it goes out
+pub probe_alone : (x : View) (at : Instant) (delay : Duration) (now : Instant) → x.rules ≡ rules.Smoltcp → after_timer (timer.ZeroWindowProbe at delay) x now ≡ x
+probe_alone x at delay now ruled = go (is_over at now)
+  where
+    go : (b : Bool) → (if b then probing_begun x.rules x else x) ≡ x
+    go true = ap (λ r. probing_begun r x) ruled
+    go false = refl
 
 idle_is_no_end : (now : Instant) (keep : Option Duration) → is_close_over (idle_from now keep) now ≡ false
 idle_is_no_end now None = refl
@@ -171,7 +185,12 @@ timer_no_end (timer.Retransmit at) x now is e = go (is_over at now)
     go false = ap (λ t. is_close_over t now) is ∙ e
 timer_no_end timer.FastRetransmit x now is e = marked_as (λ t. is_close_over t now ≡ false) x.rules now x.keep_alive (retransmitted x.rtte) (idle_is_no_end now x.keep_alive) refl
 timer_no_end (timer.Idle at) x now is e = ap (λ t. is_close_over t now) is ∙ e
-timer_no_end (timer.ZeroWindowProbe at delay) x now is e = ap (λ t. is_close_over t now) is ∙ e
+timer_no_end (timer.ZeroWindowProbe at delay) x now is e = go (is_over at now) x.rules
+  where
+    go : (b : Bool) (r : Rules) → is_close_over (if b then probing_begun r x else x).timer now ≡ false
+    go true rules.Smoltcp = ap (λ t. is_close_over t now) is ∙ e
+    go true rules.Rfc = ap (λ t. is_close_over t now) is ∙ e
+    go false r = ap (λ t. is_close_over t now) is ∙ e
 timer_no_end (timer.Close at) x now is e = ap (λ t. is_close_over t now) is ∙ e
 
 readied_tuple : (v : View) (now : Instant) → (readied v now).tuple ≡ v.tuple
@@ -189,6 +208,12 @@ timer_tuple (timer.Retransmit at) v now = by (is_over at now)
     by : (b : Bool) → (if b then retransmission_begun v now else v).tuple ≡ v.tuple
     by true = refl
     by false = refl
+timer_tuple (timer.ZeroWindowProbe at delay) v now = by (is_over at now) v.rules
+  where
+    by : (b : Bool) (r : Rules) → (if b then probing_begun r v else v).tuple ≡ v.tuple
+    by true rules.Smoltcp = refl
+    by true rules.Rfc = refl
+    by false r = refl
 timer_tuple timer.FastRetransmit v now = refl
 timer_tuple _ v now = refl
 

@@ -7,11 +7,10 @@ use Rattle.ip_wire.specs.declared.address.IpAddress.TheVariants as address
 use Rattle.control_wire.specs.Segment.{segment_len}
 use Rattle.sock_core.specs.Facts.{Facts}
 use Rattle.sock_tcp.proofs.Lending.{lent_at_most}
-use Rattle.sock_tcp.specs.Content.{asked, carries_data, hole_of, is_probing, offset_of}
+use Rattle.sock_tcp.specs.Content.{asked, carries_data, hole_of, is_probing, offset_of, resent_size}
 use Rattle.sock_tcp.specs.Due.{effective_mss, flight, ip_header_len, mtu_for, timestamp_room}
 use Rattle.sock_tcp.specs.Queue.{IsLent, Queue}
-use Rattle.sock_tcp.proofs.Holes.{size_some, start_within}
-use Rattle.sock_tcp.specs.Rfc.Scoreboard.{hole_size}
+use Rattle.sock_tcp.proofs.Holes.{again_some, start_within}
 use Rattle.sock_tcp.specs.View.{View, moment_of}
 use Rattle.sock_tcp.specs.declared.tuple.Tuple.{Tuple}
 use Rattle.tcp_laws.specs.Waking.{HasToSend}
@@ -56,11 +55,11 @@ module _ (u : View) (p : Tuple) (f : Facts) (stamp : Option ℕ) (bytes : List �
       start : offset_of u ≤ min (length u.tx_buffer.bytes - 1) (2 ^ 30)
       start = rw m (start_within (hole_of u) (length u.tx_buffer.bytes))
 
-      whole : asked u p f ≡ hole_size (hole_of u) (length u.tx_buffer.bytes) (effective_mss u p f)
+      whole : asked u p f ≡ resent_size u (effective_mss u p f)
       whole = rw (carries, m) refl
 
-      asks : 0 < hole_size (hole_of u) (length u.tx_buffer.bytes) (effective_mss u p f)
-      asks = size_some (hole_of u) (length u.tx_buffer.bytes) (effective_mss u p f) room
+      asks : 0 < resent_size u (effective_mss u p f)
+      asks = again_some u (effective_mss u p f) room
 
       bytes_go : 0 < length u.tx_buffer.bytes → 0 < segment_len (segment_for u p stamp bytes)
       bytes_go some = let h = lent_some u.tx_buffer (offset_of u) (asked u p f) bytes lent (omega (arith, whole, asks)) (omega (arith, start, some)) in omega (arith, h)

@@ -23,7 +23,7 @@ use Rattle.tcp_laws.proofs.OrderedCalls.{reached_ordered, readied_ordered}
 use Rattle.tcp_laws.proofs.Probing.{ProbesIn, reached_probing}
 use Rattle.progress_laws.specs.InStep.{IsSender, told}
 use Rattle.progress_laws.specs.Speech.{DispatchesOk, GoesOn, SendsOk}
-use Rattle.progress_laws.proofs.Begins.{smoltcp_begins, Alike, beginning, carries_runs, content_is, dispatch_reached, lent_for, readied_alike, same_then, segment_for, sends_so, stamp_for, stamp_is}
+use Rattle.progress_laws.proofs.Begins.{Alike, beginning, carries_runs, content_is, dispatch_reached, lent_for, readied_alike, same_then, segment_for, sends_so, stamp_for, stamp_is, probe_alone, smoltcp_begins}
 use Rattle.progress_laws.proofs.Edges.{same_seq}
 use Rattle.progress_laws.proofs.Hears.{IsOpenTimer}
 use Rattle.progress_laws.proofs.Lends.{probe_byte}
@@ -49,7 +49,7 @@ module _ (d : Option Duration) (t : Tuple) (v : View) (f : Facts) (now at : Inst
   al = readied_alike v now
 
   probe_is : beginning v t (told f now) probe_on probe_carries ≡ p
-  probe_is = smoltcp_begins v t (told f now) probe_on probe_carries s.smoltcp ∙ ap (λ tm. after_timer tm p now) probes
+  probe_is = smoltcp_begins v t (told f now) probe_on probe_carries s.smoltcp ∙ ap (λ tm. after_timer tm p now) probes ∙ probe_alone p at delay now (al.same.same_rules ∙ s.smoltcp)
 
   probe_may : may_send p.state ≡ true
   probe_may = ap may_send al.same.state ∙ s.state

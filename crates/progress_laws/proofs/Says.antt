@@ -34,7 +34,7 @@ use Rattle.progress_laws.proofs.Again.{number_again}
 use Rattle.progress_laws.specs.Speech.{DispatchesOk, FromUna, IsPastTimer, KeepsAlive, Probes, Says, SendsOk, SpeaksPastItsTimers, SpeaksWithin, Speech}
 use Rattle.progress_laws.proofs.Lends.{marked_some, probe_byte}
 use Rattle.sock_tcp.specs.declared.rules.Rules.TheVariants as rules
-use Rattle.progress_laws.proofs.Begins.{Goes, Alike, and_no, beginning, begun_idle, carries_runs, content_is, dispatch_reached, goes, marked_idle, smoltcp_begins, not_empty, not_zero, readied_alike, segment_for}
+use Rattle.progress_laws.proofs.Begins.{Goes, Alike, and_no, beginning, begun_idle, carries_runs, content_is, dispatch_reached, goes, not_empty, not_zero, readied_alike, segment_for, probe_alone, marked_idle, smoltcp_begins}
 
 -- ---- a socket that has to say something
 
@@ -397,7 +397,7 @@ module _ (d : Duration) (t : Tuple) where
       still = readied_alike v (moment_of f)
 
       u_is : beginning v t f h.on (carries_runs v.state v.synack_paused s.carries) ≡ u
-      u_is = smoltcp_begins v t f h.on (carries_runs v.state v.synack_paused s.carries) s.smoltcp ∙ ap (λ tm. after_timer tm u (moment_of f)) is
+      u_is = smoltcp_begins v t f h.on (carries_runs v.state v.synack_paused s.carries) s.smoltcp ∙ ap (λ tm. after_timer tm u (moment_of f)) is ∙ probe_alone u at delay (moment_of f) (still.same.same_rules ∙ s.smoltcp)
 
       probes : u.timer ≡ timer.ZeroWindowProbe at delay
       probes = still.timer ∙ is

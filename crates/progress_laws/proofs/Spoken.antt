@@ -13,7 +13,9 @@ use Rattle.sock_core.specs.Congestion.{post_transmitted}
 use Rattle.sock_core.specs.Estimator.{sent}
 use Rattle.sock_core.specs.Facts.{Facts}
 use Rattle.sock_tcp.proofs.Lending.{lent_at_most, lent_beginning}
-use Rattle.sock_tcp.specs.Begin.{timers_by, after_timer, fast_retransmission_marked, readied, retransmission_begun}
+use Rattle.sock_tcp.specs.declared.rules.Rules.TheVariants as rules
+use Rattle.sock_tcp.specs.declared.rules.Rules.{Rules}
+use Rattle.sock_tcp.specs.Begin.{after_timer, fast_retransmission_marked, readied, retransmission_begun, probing_begun, timers_by}
 use Rattle.sock_tcp.specs.Rfc.TailLoss.{probes_tail, tail_probed}
 use Rattle.sock_tcp.specs.Content.{Sending, asked, carries_data, data_control, emission_kind, hole_of, offset_of, plain_segment, sent_as}
 use Rattle.sock_tcp.specs.Due.{flight, is_closing, window_field}
@@ -64,7 +66,12 @@ timer_still (timer.Retransmit at) x now = go (is_over at now)
     go false = unmoved x
 timer_still timer.FastRetransmit x now = record { state = refl; una = refl; tx = refl; rx = refl; rcv = refl; shift = refl }
 timer_still (timer.Idle at) x now = unmoved x
-timer_still (timer.ZeroWindowProbe at delay) x now = unmoved x
+timer_still (timer.ZeroWindowProbe at delay) x now = go (is_over at now) x.rules
+  where
+    go : (b : Bool) (r : Rules) → Still x (if b then probing_begun r x else x)
+    go true rules.Smoltcp = unmoved x
+    go true rules.Rfc = record { state = refl; una = refl; tx = refl; rx = refl; rcv = refl; shift = refl }
+    go false r = unmoved x
 timer_still (timer.Close at) x now = unmoved x
 
 timers_still : (b : Bool) (x : View) (now : Instant) → Still x (timers_by b x now)

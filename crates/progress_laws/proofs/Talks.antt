@@ -11,7 +11,7 @@ use Rattle.sock_core.specs.Facts.{Facts}
 use Rattle.sock_core.specs.Seq.{later_of}
 use Rattle.sock_tcp.proofs.Lending.{lent_at_most}
 use Rattle.sock_tcp.specs.Begin.{after_timer, fast_retransmission_marked, is_paused, readied, retransmission_begun}
-use Rattle.sock_tcp.specs.Content.{Sending, asked, carries_data, emission_kind, hole_of, is_probing, offset_of, plain_segment, sent_as, size_of, window_left}
+use Rattle.sock_tcp.specs.Content.{Sending, asked, carries_data, emission_kind, is_probing, offset_of, plain_segment, resent_size, sent_as, size_of, window_left}
 use Rattle.sock_tcp.specs.Due.{congestion_left, effective_mss, flight, is_closed, is_closing, is_due}
 use Rattle.sock_tcp.specs.Polls.{is_reached, timer_poll}
 use Rattle.sock_tcp.specs.Queue.{Queue}
@@ -29,12 +29,11 @@ use Rattle.tcp_laws.proofs.OrderedCalls.{readied_ordered, reached_ordered, timer
 use Rattle.tcp_laws.proofs.Probing.{ProbesIn, reached_probing}
 use Rattle.tcp_laws.proofs.Repeating.{empty_parts}
 use Rattle.progress_laws.proofs.Again.{number_again}
-use Rattle.sock_tcp.proofs.Holes.{size_at_most}
-use Rattle.sock_tcp.specs.Rfc.Scoreboard.{hole_size}
+use Rattle.sock_tcp.proofs.Holes.{again_at_most}
 use Rattle.progress_laws.specs.Agreement.{ForAnswer, ForKeepAlive, ForProbe, ForRepeat, IsSpeaker, Waits}
 use Rattle.progress_laws.specs.InStep.{told}
 use Rattle.progress_laws.specs.Speech.{DispatchesOk, GoesOn}
-use Rattle.progress_laws.proofs.Begins.{marked_idle, smoltcp_begins, Alike, Same, and_no, beginning, begun_idle, carries_runs, fin_len, lent_for, not_empty, not_zero, quiet_so, readied_alike, same_again, same_then, segment_for, sends_as, some_or_none, timers_are, stamp_for}
+use Rattle.progress_laws.proofs.Begins.{Alike, Same, and_no, beginning, begun_idle, carries_runs, fin_len, lent_for, not_empty, not_zero, quiet_so, readied_alike, same_again, same_then, segment_for, sends_as, some_or_none, timers_are, stamp_for, probe_alone, marked_idle, smoltcp_begins}
 use Rattle.progress_laws.proofs.Edges.{is_not_before, later_stays}
 use Rattle.progress_laws.proofs.Lends.{lent_some, marked_some, mss_short, mss_some, probe_byte}
 use Rattle.progress_laws.proofs.Says.{AtFront, front_number, keep_alive_due, no_probe, probe_due}
@@ -137,8 +136,8 @@ module _ (d : Duration) (t : Tuple) (v : View) (f : Facts) (now : Instant) (mtu 
   unfolding asked
   short = omega (arith, lent_at_most b.tx_buffer (offset_of b) (asked b t fa) bytes refl, ap (λ c. if c then size_of b t fa else 0) carries, few b.pending_fast_retransmit (is_probing b now))
     where
-      few : (m p : Bool) → (if m then hole_size (hole_of b) (length b.tx_buffer.bytes) (effective_mss b t fa) else (if p then min 1 (effective_mss b t fa) else min (min (window_left b) (effective_mss b t fa)) (congestion_left b))) ≤ 65535
-      few true p = omega (arith, mss_short b t fa mtu.1, size_at_most (hole_of b) (length b.tx_buffer.bytes) (effective_mss b t fa))
+      few : (m p : Bool) → (if m then resent_size b (effective_mss b t fa) else (if p then min 1 (effective_mss b t fa) else min (min (window_left b) (effective_mss b t fa)) (congestion_left b))) ≤ 65535
+      few true p = omega (arith, mss_short b t fa mtu.1, again_at_most b (effective_mss b t fa))
       few false true = omega (arith, mss_short b t fa mtu.1)
       few false false = omega (arith, mss_short b t fa mtu.1)
 
@@ -356,7 +355,7 @@ module _ (d : Duration) (t : Tuple) (f : Facts) (v : View) (now : Instant) (s : 
     view = x;
     started = record { same = al.same; untold = record { last_ack = al.last_ack; last_win = al.last_win }; front = front_x (by front); ready = IsProbe at delay (al.timer ∙ is) (subst (λ tm. is_reached (timer_poll tm) now ≡ true) is over) (al.same.window ∙ subst (λ tm. ProbesIn tm v.remote_win_len) is (reached_probing v s.reached).window) (queued front); mss = mss; quiet = λ e. ap (λ tm. is_keep_alive_over tm now) (sym al.timer) ∙ e };
     no_end = ap (λ tm. is_close_over tm now) is;
-    is = λ on runs. smoltcp_begins v t (told f now) on runs s.smoltcp ∙ ap (λ tm. after_timer tm x now) is;
+    is = λ on runs. smoltcp_begins v t (told f now) on runs s.smoltcp ∙ ap (λ tm. after_timer tm x now) is ∙ probe_alone x at delay now (al.same.same_rules ∙ s.smoltcp);
   }
     where
       by : (v.pending_fast_retransmit ≡ true) ⊎ ((v.remote_last_seq ≡ v.local_seq_no) × (0 < length v.tx_buffer.bytes)) → AtFront v

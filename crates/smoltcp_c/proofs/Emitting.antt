@@ -10,6 +10,7 @@ use Rattle.control_wire.specs.Segment.{Segment, segment_of}
 use Rattle.control_wire.specs.declared.tcp.TcpRepr.{TcpRepr}
 use Rattle.sock_core.specs.Emission.{Emits, EmitsAt}
 use Rattle.sock_core.specs.Facts.{Facts}
+use Rattle.sock_tcp.specs.Rfc.Numbers.{outgoing}
 use Rattle.sock_tcp.specs.Begin.{before_emit, peer_of}
 use Rattle.sock_tcp.specs.Content.{Sending, content}
 use Rattle.sock_tcp.specs.Dispatch.{packet_in, IsStamp, EmitsDue, EmitsTo, Dispatches}
@@ -78,16 +79,16 @@ module _ {F : Type 0} (g : Once F (MutBor Wire × ((IpRepr × TcpRepr) × Unit {
   due : (facts : Facts) (t : Tuple) (stamp : Option ℕ) (c c' : Wire) (v new : View) (r : Result (Unit {0}) Full) → c.len ≡ 0 → EmitsDue g f facts t stamp v c r new c' → SendsInto facts stamp t v c.out.now (sent_answer r c'.len) new c'.out.now × (c'.out.ghost_name ≡ c.out.ghost_name)
   due facts t stamp c c' v new r zero d = go (content v t facts stamp d.bytes) refl d.emits d.view d.fits
     where
-      go : (o : Option Sending) → content v t facts stamp d.bytes ≡ o → Emits g packet_of f (option_map packet_in o) c r c' → new ≡ left_by o v (moment_of facts) (is_ok r) → ((s : Sending) → o ≡ Some s → FitsPacket s.ip s.segment) → SendsInto facts stamp t v c.out.now (sent_answer r c'.len) new c'.out.now × (c'.out.ghost_name ≡ c.out.ghost_name)
-      go o q e w fits = (into (all o e fits), (all o e fits).same_buffer)
+      go : (o : Option Sending) → content v t facts stamp d.bytes ≡ o → Emits g packet_of f (option_map packet_in (outgoing v o)) c r c' → new ≡ left_by o v (moment_of facts) (is_ok r) → ((s : Sending) → outgoing v o ≡ Some s → FitsPacket s.ip s.segment) → SendsInto facts stamp t v c.out.now (sent_answer r c'.len) new c'.out.now × (c'.out.ghost_name ≡ c.out.ghost_name)
+      go o q e w fits = (into (all (outgoing v o) e fits), (all (outgoing v o) e fits).same_buffer)
         where
           all : (o : Option Sending) → Emits g packet_of f (option_map packet_in o) c r c' → ((s : Sending) → o ≡ Some s → FitsPacket s.ip s.segment) → Emitted c c' (option_map packet_in o) (has_room (option_map packet_in o) c.out.now) r
           all None e fits = quiet c c' r zero e.0 e.1
           all (Some s) e fits = emitted c c' s r (fits s refl) e
 
-          into : Emitted c c' (option_map packet_in o) (has_room (option_map packet_in o) c.out.now) r → SendsInto facts stamp t v c.out.now (sent_answer r c'.len) new c'.out.now
+          into : Emitted c c' (option_map packet_in (outgoing v o)) (has_room (option_map packet_in (outgoing v o)) c.out.now) r → SendsInto facts stamp t v c.out.now (sent_answer r c'.len) new c'.out.now
           into h =
-              let P : Option Sending → Type 0 = λ x. (sent_answer r c'.len ≡ (if has_room (option_map packet_in x) c.out.now then pos (size_of (option_map packet_in x)) else error_room)) × (c'.out.now ≡ (if has_room (option_map packet_in x) c.out.now then written_over (option_map packet_in x) c.out.now else c.out.now)) × (new ≡ left_by x v (moment_of facts) (has_room (option_map packet_in x) c.out.now)) in
+              let P : Option Sending → Type 0 = λ x. (sent_answer r c'.len ≡ (if has_room (option_map packet_in (outgoing v x)) c.out.now then pos (size_of (option_map packet_in (outgoing v x))) else error_room)) × (c'.out.now ≡ (if has_room (option_map packet_in (outgoing v x)) c.out.now then written_over (option_map packet_in (outgoing v x)) c.out.now else c.out.now)) × (new ≡ left_by x v (moment_of facts) (has_room (option_map packet_in (outgoing v x)) c.out.now)) in
               let k : P (content v t facts stamp d.bytes) = subst P (sym q) (h.answer, h.written, w ∙ ap (left_by o v (moment_of facts)) h.ok) in
               record { bytes = d.bytes; lent = d.lent; answer = k.0; written = k.1; view = k.2 }
 

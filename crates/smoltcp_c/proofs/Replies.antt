@@ -5,6 +5,7 @@ use Rattle.control_wire.specs.Segment.{Segment}
 use Rattle.control_wire.specs.declared.tcp.TcpControl.{TcpControl}
 use Rattle.control_wire.specs.declared.tcp.TcpControl.TheVariants as control
 use Rattle.control_wire.specs.declared.tcp.TcpTimestampRepr.{TcpTimestampRepr}
+use Rattle.sock_tcp.specs.Rfc.Numbers.{reply_numbered}
 use Rattle.sock_tcp.specs.Process.{Outcome, source_kept}
 use Rattle.sock_tcp.specs.Replies.{Answers, IsReplyStamp, echoed, with_header}
 use Rattle.sock_tcp.specs.View.{View}
@@ -28,5 +29,5 @@ reply_is clock came ip (Some s) None h = absurd h
 reply_is clock came ip (Some s) (Some x) h = ap Some (h.is ∙ ap (λ stamp. with_header ip (record s { timestamp = stamp })) (stamp_is clock came s.control h.stamp h.is_stamp))
 
 -- of the socket w that an outcome x leaves
-pub reply_from : (clock k : Option Clock) (w : View) (x : Outcome) (came : Option TcpTimestampRepr) (ip : IpRepr) (r : Option (IpRepr × Segment)) → clock ≡ source_kept w.stamps k → w ≡ x.view → Answers (IsReplyStamp (λ (k : Clock) (t : ℕ). t ≡ k.tsval) clock (echoed w came)) ip x.reply r → r ≡ replied (source_kept x.view.stamps k) (echoed x.view came) ip x.reply
-reply_from clock k w x came ip r c v h = reply_is clock (echoed w came) ip x.reply r h ∙ ap (λ y. replied y (echoed w came) ip x.reply) c ∙ ap (λ (u : View). replied (source_kept u.stamps k) (echoed u came) ip x.reply) v
+pub reply_from : (clock k : Option Clock) (w : View) (x : Outcome) (came : Option TcpTimestampRepr) (ip : IpRepr) (r : Option (IpRepr × Segment)) → clock ≡ source_kept w.stamps k → w ≡ x.view → Answers (IsReplyStamp (λ (k : Clock) (t : ℕ). t ≡ k.tsval) clock (echoed w came)) ip (reply_numbered w x.reply) r → r ≡ replied (source_kept x.view.stamps k) (echoed x.view came) ip (reply_numbered x.view x.reply)
+reply_from clock k w x came ip r c v h = reply_is clock (echoed w came) ip (reply_numbered w x.reply) r h ∙ ap (λ y. replied y (echoed w came) ip (reply_numbered w x.reply)) c ∙ ap (λ (u : View). replied (source_kept u.stamps k) (echoed u came) ip (reply_numbered u x.reply)) v

@@ -9,6 +9,7 @@ use Rattle.control_wire.specs.declared.tcp.TcpTimestampRepr.{TcpTimestampRepr}
 use Rattle.sock_core.specs.Facts.{Facts}
 use Rattle.sock_core.specs.declared.context.PollAt.{PollAt}
 use Rattle.sock_core.specs.declared.context.PollAt.TheVariants as poll
+use Rattle.sock_tcp.specs.Rfc.Numbers.{outgoing, reply_numbered}
 use Rattle.sock_tcp.specs.Begin.{before_emit, peer_of}
 use Rattle.sock_tcp.specs.Content.{asked, offset_of, content}
 use Rattle.sock_tcp.specs.Dispatch.{packet_in}
@@ -85,7 +86,7 @@ outcome_in cx v ip s = processed v (moment_of (facts_in cx)) cx.word ip s
 abbrev pub reply_in : Cx → Option Clock → View → IpRepr → Segment → Option (IpRepr × Segment)
 reply_in cx clock v ip s =
     replied (source_kept (outcome_in cx v ip s).view.stamps clock) (echoed (outcome_in cx v ip s).view s.timestamp) ip
-    (outcome_in cx v ip s).reply
+    (reply_numbered (outcome_in cx v ip s).view (outcome_in cx v ip s).reply)
 
 -- a segment that is not for the socket changes nothing; else the socket, its clock and the reply are those of
 -- `processed` at the context's clock, and the reply's packet stands at the beginning of the buffer
@@ -117,12 +118,12 @@ pub record SendsInto (f : Facts) (stamp : Option ℕ) (t : Tuple) (v : View) (ou
     (out' : List ℕ) : Type 0 where
   pub bytes : List ℕ
   pub lent : IsLent v.tx_buffer (offset_of v) (asked v t f) bytes
-  pub answer : result ≡ (if has_room (option_map packet_in (content v t f stamp bytes)) out
-      then pos (size_of (option_map packet_in (content v t f stamp bytes))) else error_room)
-  pub written : out' ≡ (if has_room (option_map packet_in (content v t f stamp bytes)) out
-      then written_over (option_map packet_in (content v t f stamp bytes)) out else out)
+  pub answer : result ≡ (if has_room (option_map packet_in (outgoing v (content v t f stamp bytes))) out
+      then pos (size_of (option_map packet_in (outgoing v (content v t f stamp bytes)))) else error_room)
+  pub written : out' ≡ (if has_room (option_map packet_in (outgoing v (content v t f stamp bytes))) out
+      then written_over (option_map packet_in (outgoing v (content v t f stamp bytes))) out else out)
   pub view : w ≡ left_by (content v t f stamp bytes) v (moment_of f)
-      (has_room (option_map packet_in (content v t f stamp bytes)) out)
+      (has_room (option_map packet_in (outgoing v (content v t f stamp bytes))) out)
 
 -- to the peer, if any
 abbrev pub SendsIf : Option Tuple → Facts → Option ℕ → View → List ℕ → ℤ → View → List ℕ → Type 0

@@ -77,6 +77,10 @@ with_initial_window r = record r { cwnd = initial_window r }
 unfoldable pub reno_opened : RenoNumbers → ℕ → RenoNumbers
 reno_opened r mss = with_initial_window (reno_with_mss r (max mss 1))
 
+-- nothing was sent for a retransmission timeout: the window is at most the initial one (RFC 5681, section 4.1)
+unfoldable pub reno_restarted : RenoNumbers → RenoNumbers
+reno_restarted r = record r { cwnd = min r.cwnd (initial_window r) }
+
 unfoldable pub reno_dup_acked : RenoNumbers → ℕ → RenoNumbers
 reno_dup_acked r n = if r.in_recovery then record r { cwnd = bounded r (r.cwnd + n) } else r
 
@@ -169,6 +173,10 @@ bytes_acked (controller.Reno r) now len careful = controller.Reno (reno_on_bytes
 unfoldable pub opened : AnyController → ℕ → AnyController
 opened (controller.None n) mss = controller.None n
 opened (controller.Reno r) mss = controller.Reno (reno_opened r mss)
+
+unfoldable pub restarted : AnyController → AnyController
+restarted (controller.None n) = controller.None n
+restarted (controller.Reno r) = controller.Reno (reno_restarted r)
 
 unfoldable pub dup_acked : AnyController → Instant → ℕ → ℕ → AnyController
 dup_acked (controller.None n) now len flight = controller.None n

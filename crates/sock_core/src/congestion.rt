@@ -2,8 +2,9 @@
 ghost use Rattle.std.specs.Prelude.{◌≡◌, ℕ, ◌-◌, ◌^◌, ◌<◌, ◌≤◌, Bool, List};
 ghost use Rattle.sock_core.specs.Reno.{RenoNumbers};
 ghost use Rattle.sock_core.specs.Congestion.{fresh_reno, reno_acked};
-ghost use Rattle.sock_core.specs.Congestion.{bytes_acked, congestion_window, acked, dup_acked, lost, opened, timed_out};
-ghost use Rattle.sock_core.specs.Congestion.{partially_acked, pre_transmitted, post_transmitted, recovery_window};
+ghost use Rattle.sock_core.specs.Congestion.{bytes_acked, congestion_window, acked, dup_acked, lost, opened};
+ghost use Rattle.sock_core.specs.Congestion.{timed_out, partially_acked, pre_transmitted, post_transmitted};
+ghost use Rattle.sock_core.specs.Congestion.{recovery_window, restarted};
 ghost use Rattle.sock_core.specs.Estimator.{Estimator};
 ghost use Rattle.net_base.specs.declared.time.Instant.{Instant};
 ghost use Rattle.sock_core.specs.Congestion.{with_mss, with_remote_window, Call, AcksNothing, KeepsThreshold};
@@ -32,6 +33,8 @@ pub trait Controller {
     ghost after_bytes_acked: { Self → Instant → ℕ → Bool → Self };
 
     ghost after_open: { Self → ℕ → Self };
+
+    ghost after_restart: { Self → Self };
 
     ghost after_dup_ack: { Self → Instant → ℕ → ℕ → Self };
 
@@ -70,6 +73,11 @@ pub trait Controller {
     /// A connection was opened to a peer with this maximum segment size: the initial window is that of RFC 6928.
     fn open(&mut self, mss: usize)
         ensures { self.new ≡ after_open self.old mss };
+
+    /// Sending begins again, after nothing was sent for a retransmission timeout: the window is at most the initial
+    /// one (RFC 5681, section 4.1).
+    fn restart(&mut self)
+        ensures { self.new ≡ after_restart self.old };
 
     /// A duplicate acknowledgement came, which tells that `len` bytes, a segment, left the network.
     fn on_dup_ack(&mut self, now: Instant, len: usize, in_flight: usize)
@@ -157,6 +165,8 @@ impl Controller for NoControl {
 
     ghost after_open = { λ c mss. c };
 
+    ghost after_restart = { λ c. c };
+
     ghost after_dup_ack = { λ c now len flight. c };
 
     ghost after_rto = { λ c now flight. c };
@@ -183,6 +193,8 @@ impl Controller for NoControl {
 
     fn open(&mut self, _mss: usize) {}
 
+    fn restart(&mut self) {}
+
     fn on_dup_ack(&mut self, _now: Instant, _len: usize, _in_flight: usize) {}
 
     fn on_rto(&mut self, _now: Instant, _in_flight: usize) {}
@@ -208,6 +220,8 @@ impl Controller for AnyController {
     ghost after_bytes_acked = { bytes_acked };
 
     ghost after_open = { opened };
+
+    ghost after_restart = { restarted };
 
     ghost after_dup_ack = { dup_acked };
 
@@ -265,6 +279,14 @@ impl Controller for AnyController {
         match self {
             AnyController::None(none) => none.open(mss),
             AnyController::Reno(reno) => reno.open(mss),
+        }
+    }
+
+    #[tactic(auto, unfolding(crate::specs::Congestion::restarted))]
+    fn restart(&mut self) {
+        match self {
+            AnyController::None(none) => none.restart(),
+            AnyController::Reno(reno) => reno.restart(),
         }
     }
 

@@ -4,7 +4,7 @@ ghost use Rattle.sock_core.specs.Congestion.{bounded, capped, deflated, fresh_re
 ghost use Rattle.sock_core.specs.Congestion.{initial_window, most_growth, reno_acked, reno_counted, reno_grows};
 ghost use Rattle.sock_core.specs.Congestion.{reno_on_ack, reno_on_bytes_acked, reno_on_dup_ack, reno_on_loss};
 ghost use Rattle.sock_core.specs.Congestion.{reno_on_partial_ack, reno_on_rto, reno_opened, reno_partially_acked};
-ghost use Rattle.sock_core.specs.Congestion.{reno_post_transmit, reno_recovery_window};
+ghost use Rattle.sock_core.specs.Congestion.{reno_post_transmit, reno_recovery_window, reno_restarted};
 ghost use Rattle.sock_core.specs.Congestion.{reno_pre_transmit, reno_with_mss, reno_with_remote_window};
 
 use crate::congestion::Controller;
@@ -206,6 +206,8 @@ impl Controller for Reno {
 
     ghost after_open = { reno_opened };
 
+    ghost after_restart = { reno_restarted };
+
     ghost after_dup_ack = { reno_on_dup_ack };
 
     ghost after_rto = { reno_on_rto };
@@ -239,6 +241,11 @@ impl Controller for Reno {
     #[tactic(auto, unfolding(crate::specs::Congestion::reno_on_bytes_acked))]
     fn on_bytes_acked(&mut self, _now: Instant, len: usize, careful: bool) {
         self.count(len, careful);
+    }
+
+    #[tactic(auto, unfolding(crate::specs::Congestion::reno_restarted))]
+    fn restart(&mut self) {
+        self.cwnd = self.cwnd.min(self.initial_window());
     }
 
     #[tactic(auto, unfolding(crate::specs::Congestion::reno_opened))]

@@ -15,11 +15,27 @@ use Rattle.sock_tcp.specs.Content.{Sending, asked, offset_of, plain_segment, fin
 use Rattle.sock_tcp.specs.Dispatch.{EmitTcp, packet_in, EmitsDue, EmitsIf, IsStamp, IsQuiet, EmitsTo, Dispatches}
 use Rattle.sock_tcp.specs.Outgoing.{packet_of}
 use Rattle.sock_tcp.specs.Queue.{IsLent}
+use Rattle.std.proofs.lemmas.Option.{none-some, same_Some}
+use Rattle.sock_tcp.specs.Rfc.Numbers.{numbered, outgoing}
 use Rattle.sock_tcp.specs.Sent.{emitted_as, after_emit, left_by}
 use Rattle.sock_tcp.specs.View.{View, moment_of}
 use Rattle.sock_tcp.specs.declared.emission.Kind.{Kind}
 use Rattle.sock_tcp.specs.declared.emission.Emitted.{Emitted}
 use Rattle.sock_tcp.specs.declared.tuple.Tuple.{Tuple}
+
+-- a number takes no room
+numbered_fits : (v : View) (ip : IpRepr) (s : Segment) → FitsPacket ip s → FitsPacket ip (numbered v s)
+numbered_fits v ip s h =
+    record {
+      header = record { scale = h.header.scale; permission = h.header.permission; ranges = h.header.ranges; options = h.header.options };
+      protocol = h.protocol;
+      octets = h.octets;
+      total = h.total;
+    }
+
+outgoing_fits : (v : View) (o : Option Sending) → ForSome o (λ s. FitsPacket s.ip s.segment) → ForSome (outgoing v o) (λ s. FitsPacket s.ip s.segment)
+outgoing_fits v None h x e = absurd (none-some x e)
+outgoing_fits v (Some s) h x e = subst (λ (y : Sending). FitsPacket y.ip y.segment) (same_Some (record s { segment = numbered v s.segment }) x e) (numbered_fits v s.ip s.segment (h s refl))
 
 module _ {F C E : Type 0} (g : EmitTcp F C E) (f : F) (facts : Facts) where
   -- the state has no segment
@@ -31,26 +47,26 @@ module _ {F C E : Type 0} (g : EmitTcp F C E) (f : F) (facts : Facts) where
         stamped = some;
         bytes = bytes;
         lent = lent;
-        emits = subst (λ (x : Option Sending). Emits g packet_of f (option_map packet_in x) c (Ok tt) c) is (refl, refl);
+        emits = subst (λ (x : Option Sending). Emits g packet_of f (option_map packet_in (outgoing v x)) c (Ok tt) c) is (refl, refl);
         view = subst (λ x. v ≡ left_by x v (moment_of facts) true) is refl;
-        fits = fits;
+        fits = outgoing_fits v (content v t facts stamp bytes) fits;
       } in
       subst (λ o. EmitsIf g f facts stamp o v c (Ok tt) v c) (sym peer) due
 
   -- emit was called, and answered r
-  pub emitted : (t : Tuple) (stamp : Option ℕ) (v : View) (bytes : List ℕ) (plain : Segment) (k : Kind) (sent : IpRepr × TcpRepr) (now : Instant) (e : Emitted) (ok : Bool) (shown left : MutBor C) (r : Result (Unit {0}) E) (w : View) → v.tuple ≡ Some t → IsLent v.tx_buffer (offset_of v) (asked v t facts) bytes → is_some stamp ≡ v.stamps → plain ≡ plain_segment v t stamp → Some (record { ip = sent.0; segment = segment_of sent.1; kind = k }) ≡ finished v t facts bytes plain → now.micros ≡ facts.now → e ≡ emitted_as k (segment_of sent.1) → ok ≡ is_ok r → w ≡ after_emit ok v now e → g.post f (shown, (sent, tt)) (r, (left, tt)) → ForSome (content v t facts stamp bytes) (λ s. FitsPacket s.ip s.segment) → EmitsIf g f facts stamp v.tuple v shown.now r w left.now
+  pub emitted : (t : Tuple) (stamp : Option ℕ) (v : View) (bytes : List ℕ) (plain : Segment) (k : Kind) (made sent : IpRepr × TcpRepr) (now : Instant) (e : Emitted) (ok : Bool) (shown left : MutBor C) (r : Result (Unit {0}) E) (w : View) → v.tuple ≡ Some t → IsLent v.tx_buffer (offset_of v) (asked v t facts) bytes → is_some stamp ≡ v.stamps → plain ≡ plain_segment v t stamp → Some (record { ip = made.0; segment = segment_of made.1; kind = k }) ≡ finished v t facts bytes plain → now.micros ≡ facts.now → e ≡ emitted_as k (segment_of made.1) → sent.0 ≡ made.0 → segment_of sent.1 ≡ numbered v (segment_of made.1) → ok ≡ is_ok r → w ≡ after_emit ok v now e → g.post f (shown, (sent, tt)) (r, (left, tt)) → ForSome (content v t facts stamp bytes) (λ s. FitsPacket s.ip s.segment) → EmitsIf g f facts stamp v.tuple v shown.now r w left.now
   unfolding content
-  emitted t stamp v bytes plain k sent now e ok shown left r w peer lent some begins ends moment kept answer h p fits =
-      let is : Some (record { ip = sent.0; segment = segment_of sent.1; kind = k }) ≡ content v t facts stamp bytes = ends ∙ ap (λ s. finished v t facts bytes s) begins in
+  emitted t stamp v bytes plain k made sent now e ok shown left r w peer lent some begins ends moment kept header segment answer h p fits =
+      let is : Some (record { ip = made.0; segment = segment_of made.1; kind = k }) ≡ content v t facts stamp bytes = ends ∙ ap (λ s. finished v t facts bytes s) begins in
       let m : now ≡ moment_of facts = ap (λ x. record { micros = x }) moment in
-      let a : after_emit ok v now e ≡ after_emit (is_ok r) v (moment_of facts) (emitted_as k (segment_of sent.1)) = (λ i. after_emit (answer i) v (m i) (kept i)) in
+      let a : after_emit ok v now e ≡ after_emit (is_ok r) v (moment_of facts) (emitted_as k (segment_of made.1)) = (λ i. after_emit (answer i) v (m i) (kept i)) in
       let due : EmitsDue g f facts t stamp v shown.now r w left.now = record {
         stamped = some;
         bytes = bytes;
         lent = lent;
-        emits = subst (λ (x : Option Sending). Emits g packet_of f (option_map packet_in x) shown.now r left.now) is (record { shown = shown; shows = refl; sent = sent; says = refl; left = left; met = p; leaves = refl });
+        emits = subst (λ (x : Option Sending). Emits g packet_of f (option_map packet_in (outgoing v x)) shown.now r left.now) is (record { shown = shown; shows = refl; sent = sent; says = λ i. (header i, segment i); left = left; met = p; leaves = refl });
         view = subst (λ x. w ≡ left_by x v (moment_of facts) (is_ok r)) is (h ∙ a);
-        fits = fits;
+        fits = outgoing_fits v (content v t facts stamp bytes) fits;
       } in
       subst (λ o. EmitsIf g f facts stamp o v shown.now r w left.now) (sym peer) due
 

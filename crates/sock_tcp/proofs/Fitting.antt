@@ -12,16 +12,15 @@ use Rattle.control_wire.specs.Fits.{is_packed, FitsHeader, FitsPacket}
 use Rattle.control_wire.specs.Segment.{Segment, options_len, segment_header_len}
 use Rattle.sock_core.specs.Bounds.{IsMtu}
 use Rattle.sock_core.specs.Facts.{Facts}
-use Rattle.sock_tcp.specs.Content.{carries_data, Sending, is_probing, window_left, size_of, asked, filled, emission_kind, hole_of, of_kind, hop_limit_of, plain_segment, sent_as, content, scale_back}
+use Rattle.sock_tcp.specs.Content.{carries_data, Sending, is_probing, window_left, size_of, asked, filled, emission_kind, of_kind, resent_size, hop_limit_of, plain_segment, sent_as, content, scale_back}
 use Rattle.sock_tcp.specs.Due.{congestion_left, effective_mss, ip_header_len, mtu_for}
-use Rattle.sock_tcp.specs.Rfc.Scoreboard.{hole_size}
 use Rattle.sock_tcp.specs.View.{View, moment_of}
 use Rattle.sock_tcp.specs.declared.emission.Kind.{Kind}
 use Rattle.sock_tcp.specs.declared.emission.Kind.TheVariants as kind
 use Rattle.sock_tcp.specs.declared.state.State.{State}
 use Rattle.sock_tcp.specs.declared.state.State.TheVariants as state
 use Rattle.sock_tcp.specs.declared.tuple.Tuple.{Tuple}
-use Rattle.sock_tcp.proofs.Holes.{size_at_most}
+use Rattle.sock_tcp.proofs.Holes.{again_at_most}
 
 -- ---- how many bytes are asked of the ring
 
@@ -36,7 +35,7 @@ or_none false n k h = omega arith
 
 asked_mss : (v : View) (t : Tuple) (f : Facts) → asked v t f ≤ effective_mss v t f
 unfolding asked
-asked_mss v t f = or_none (carries_data v.state) (size_of v t f) (effective_mss v t f) (one_of v.pending_fast_retransmit (is_probing v (moment_of f)) (hole_size (hole_of v) (length v.tx_buffer.bytes) (effective_mss v t f)) (effective_mss v t f) (window_left v) (congestion_left v) (size_at_most (hole_of v) (length v.tx_buffer.bytes) (effective_mss v t f)))
+asked_mss v t f = or_none (carries_data v.state) (size_of v t f) (effective_mss v t f) (one_of v.pending_fast_retransmit (is_probing v (moment_of f)) (resent_size v (effective_mss v t f)) (effective_mss v t f) (window_left v) (congestion_left v) (again_at_most v (effective_mss v t f)))
 
 -- ---- the header of each state's segment
 

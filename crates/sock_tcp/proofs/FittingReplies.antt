@@ -1,5 +1,5 @@
 -- What answers a segment fits a packet.
-use Rattle.std.proofs.Common.{◌≡◌, ℕ, ◌+◌, ◌*◌, ◌/◌, ◌≤◌, [], ◌∷◌, true, Option, Some, None, is_some, refl, sym, subst, length, arith}
+use Rattle.std.proofs.Common.{◌≡◌, ℕ, ◌+◌, ◌*◌, ◌/◌, ◌≤◌, [], ◌∷◌, true, Option, Some, None, is_some, refl, sym, subst, ap, ◌∙◌, length, arith}
 use Rattle.std.specs.Prelude.{count_by, if◌then◌else◌}
 use Rattle.std.specs.Option.{ForSome}
 use Rattle.std.proofs.lemmas.Option.{none-some}
@@ -10,6 +10,7 @@ use Rattle.control_wire.specs.Segment.{Segment, options_len, sack_option_len}
 use Rattle.control_wire.specs.declared.tcp.TcpControl.{TcpControl}
 use Rattle.control_wire.specs.declared.tcp.TcpTimestampRepr.{TcpTimestampRepr}
 use Rattle.sock_tcp.specs.Replies.{reply_ip, bare_reply, rst_segment, with_header, sack_range, ack_segment, IsSentAs}
+use Rattle.sock_tcp.specs.Rfc.Numbers.{renumbered}
 use Rattle.sock_tcp.specs.View.{View}
 
 -- ---- headers
@@ -32,9 +33,9 @@ range_len : (o : Option (ℕ × ℕ)) → sack_option_len (count_by is_some (o �
 range_len None = omega arith
 range_len (Some r) = omega arith
 
-ack_fits : (v : View) (s : Segment) (x : Option TcpTimestampRepr) → FitsHeader (record (ack_segment v s) { timestamp = x })
+ack_fits : (w v : View) (s : Segment) (x : Option TcpTimestampRepr) → FitsHeader (record (renumbered w (ack_segment v s)) { timestamp = x })
 unfolding ack_segment
-ack_fits v s x = record { scale = no_scale; permission = λ e. absurd cc; ranges = one_range (sack_range v); options = omega (arith, stamp_len x, range_len (sack_range v)) }
+ack_fits w v s x = record { scale = no_scale; permission = λ e. absurd cc; ranges = one_range (sack_range v); options = omega (arith, stamp_len x, range_len (sack_range v)) }
 
 rst_fits : (s : Segment) (x : Option TcpTimestampRepr) → FitsHeader (record (rst_segment s) { timestamp = x })
 rst_fits s x = record { scale = no_scale; permission = λ e. absurd cc; ranges = refl; options = omega (arith, stamp_len x) }
@@ -48,16 +49,16 @@ packet_of : (ip : IpRepr) (s : Segment) → FitsHeader s → length s.payload �
 packet_of (header.Ipv4 p) s h z = record { header = h; protocol = refl; octets = refl; total = omega (arith, z, short_header (options_len s) h.options) }
 packet_of (header.Ipv6 p) s h z = record { header = h; protocol = refl; octets = refl; total = omega (arith, z, short_header (options_len s) h.options) }
 
-empty_ack : (v : View) (s : Segment) → length (ack_segment v s).payload ≡ 0
+empty_ack : (w v : View) (s : Segment) → length (renumbered w (ack_segment v s)).payload ≡ 0
 unfolding ack_segment
-empty_ack v s = refl
+empty_ack w v s = refl
 
 sent_fits : (stamped : TcpControl → Option TcpTimestampRepr → Type 0) (ip : IpRepr) (s : Segment) (out : IpRepr × Segment) → length s.payload ≡ 0 → ((x : Option TcpTimestampRepr) → FitsHeader (record s { timestamp = x })) → IsSentAs stamped ip s out → FitsPacket out.0 out.1
 sent_fits stamped ip s out z h i = subst (λ (o : IpRepr × Segment). FitsPacket o.0 o.1) (sym i.is) (packet_of ip (record s { timestamp = i.stamp }) (h i.stamp) z)
 
 -- an acknowledgement that went out
-pub ack_sent : (stamped : TcpControl → Option TcpTimestampRepr → Type 0) (ip : IpRepr) (v : View) (s seg : Segment) (out : IpRepr × Segment) → seg ≡ ack_segment v s → IsSentAs stamped ip seg out → FitsPacket out.0 out.1
-ack_sent stamped ip v s seg out e i = sent_fits stamped ip (ack_segment v s) out (empty_ack v s) (λ x. ack_fits v s x) (subst (λ y. IsSentAs stamped ip y out) e i)
+pub ack_sent : (stamped : TcpControl → Option TcpTimestampRepr → Type 0) (ip : IpRepr) (w v : View) (s made seg : Segment) (out : IpRepr × Segment) → made ≡ ack_segment v s → seg ≡ renumbered w made → IsSentAs stamped ip seg out → FitsPacket out.0 out.1
+ack_sent stamped ip w v s made seg out m e i = sent_fits stamped ip (renumbered w (ack_segment v s)) out (empty_ack w v s) (λ x. ack_fits w v s x) (subst (λ y. IsSentAs stamped ip y out) (e ∙ ap (renumbered w) m) i)
 
 -- an RST that went out
 pub rst_sent : (stamped : TcpControl → Option TcpTimestampRepr → Type 0) (ip : IpRepr) (s seg : Segment) (out : IpRepr × Segment) → seg ≡ rst_segment s → IsSentAs stamped ip seg out → FitsPacket out.0 out.1

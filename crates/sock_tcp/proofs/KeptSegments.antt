@@ -18,6 +18,7 @@ use Rattle.sock_tcp.specs.Rfc.Refused.{refused}
 use Rattle.sock_tcp.specs.Steps.{ack_delayed, ack_heard, acknowledged, heard, is_duplicate, is_window_changed, joined, released, timer_set, timestamp_taken, window_taken}
 use Rattle.sock_tcp.specs.Timers.{after, challenge_interval}
 use Rattle.sock_tcp.specs.Rfc.Checks.{verdict_by}
+use Rattle.sock_tcp.specs.Rfc.Windows.{windowed}
 use Rattle.sock_tcp.specs.View.{View}
 use Rattle.sock_tcp.specs.Window.{receive_window, is_inside, cut_of}
 use Rattle.sock_tcp.specs.declared.acked.Acked.{Acked}
@@ -190,14 +191,15 @@ module _ (P : View → Type 0) (now : Instant) (word : ℕ) (ip : IpRepr) (s : S
 
   -- and where it has recovered, by either rules
   pub passed_kept : (r : Rules) (v : View) → P v → (b : Bool) → P (recovered_by r v now s (tested_by r b v come)).view
-  passed_kept r v h b = let i = tested_kept r v h b in recovered_as (λ o. P o.view) r v now s (tested_by r b v come) i (k.recovers v (tested_by r b v come).view h i) i
+  passed_kept r v h b = let i = tested_kept r v h b in recovered_as (λ o. P o.view) r v now s (tested_by r b v come) i (k.recovers v (tested_by r b v come).view h i)
 
-  pub process_kept : (r : Rules) (v : View) → P v → P (processed_by r v now word ip s).view
-  unfolding processed_by
-  process_kept r v h = by (verdict_by r v now s)
-    where
-      by : (x : Verdict) → P (by_verdict r x v come).view
-      by verdicts.Drop = h
-      by verdicts.Reset = h
-      by verdicts.Challenge = challenged_kept P now s k.answers v h
-      by verdicts.Pass = passed_kept r v h (has_window v.state)
+  verdict_kept : (r : Rules) (v : View) → P v → (x : Verdict) → P (by_verdict r x v come).view
+  verdict_kept r v h verdicts.Drop = h
+  verdict_kept r v h verdicts.Reset = h
+  verdict_kept r v h verdicts.Challenge = challenged_kept P now s k.answers v h
+  verdict_kept r v h verdicts.Pass = passed_kept r v h (has_window v.state)
+
+-- the whole, of a segment with the window that it counts as telling
+pub process_kept : (P : View → Type 0) (now : Instant) (word : ℕ) (ip : IpRepr) (s : Segment) (r : Rules) (v : View) → KeptBySegments P now word (windowed r v s) → P v → P (processed_by r v now word ip s).view
+unfolding processed_by
+process_kept P now word ip s r v k h = verdict_kept P now word ip (windowed r v s) k r v h (verdict_by r v now s)

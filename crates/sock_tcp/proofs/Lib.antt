@@ -6,6 +6,7 @@ pub mod Recovering
 pub mod KeptSegments
 pub mod Stamping
 pub mod Windows
+pub mod Windowing
 pub mod Holes
 pub mod Fitting
 pub mod FittingReplies

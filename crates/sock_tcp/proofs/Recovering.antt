@@ -9,12 +9,13 @@ use Rattle.ip_wire.specs.declared.repr.IpRepr.{IpRepr}
 use Rattle.sock_tcp.specs.Arrival.{arrival}
 use Rattle.sock_tcp.specs.Process.{Outcome, ack_sent, answered, by_verdict, processed_by, tuple_of}
 use Rattle.sock_tcp.specs.Replies.{ack_kept, ack_segment, sack_range}
-use Rattle.sock_tcp.specs.Rfc.Recovery.{before_of, begun_by, gone_on_from, has_timer, is_called, marked_by, is_unheard, recovered, recovered_by, recovered_if, resends, running, timer_after, waited_for, waits_tail}
+use Rattle.sock_tcp.specs.Rfc.Recovery.{before_of, begun_by, gone_on_from, has_timer, is_called, recovered, recovered_by, resends, running, timer_after, waited_for, marked_by, waits_tail}
 use Rattle.sock_tcp.specs.Due.{flight}
 use Rattle.sock_tcp.specs.Rfc.TailLoss.{is_alone, tail_from, tail_waits}
 use Rattle.sock_core.specs.Estimator.{Estimator}
 use Rattle.sock_tcp.specs.Timers.{idle_from, probe_from, retransmit_from}
 use Rattle.sock_tcp.specs.Rfc.Checks.{verdict_by}
+use Rattle.sock_tcp.specs.Rfc.Windows.{windowed}
 use Rattle.sock_tcp.specs.View.{View}
 use Rattle.sock_tcp.specs.declared.process.Answer.{Answer}
 use Rattle.sock_tcp.specs.declared.process.Answer.TheVariants as answers
@@ -27,8 +28,8 @@ use Rattle.sock_tcp.specs.declared.verdict.Verdict.TheVariants as verdicts
 
 -- an answer is the same before and after it
 module _ (b : Before) (u : View) (s : Segment) (now : Instant) where
-  abbrev behind : Bool → Outcome → Outcome
-  behind unheard o = record { view = recovered_if unheard b o.view now; reply = o.reply }
+  abbrev behind : Outcome → Outcome
+  behind o = record { view = recovered b o.view now; reply = o.reply }
 
   kept_view : ack_kept (recovered b u now) ≡ recovered b (ack_kept u) now
   unfolding recovered ack_kept
@@ -38,36 +39,28 @@ module _ (b : Before) (u : View) (s : Segment) (now : Instant) where
   unfolding recovered ack_segment sack_range
   kept_reply = refl
 
-  ack_then : (unheard : Bool) → ack_sent (recovered_if unheard b u now) s ≡ behind unheard (ack_sent u s)
-  ack_then true = refl
-  ack_then false = λ i. record { view = kept_view i; reply = Some (kept_reply i) }
-
-  said : (x : Answer) → answered x (recovered_if (is_unheard b u) b u now) s ≡ behind (is_unheard b (answered x u s).view) (answered x u s)
+  said : (x : Answer) → answered x (recovered b u now) s ≡ behind (answered x u s)
   unfolding ack_kept
   said answers.Nothing = refl
-  said answers.Ack = ack_then (is_unheard b u)
+  said answers.Ack = λ i. record { view = kept_view i; reply = Some (kept_reply i) }
   said answers.Rst = refl
 
-pub said_then : (x : Answer) (b : Before) (v u w : View) (s : Segment) (now : Instant) (o : Outcome) → b ≡ before_of v s → answered x u s ≡ o → w ≡ recovered_if (is_unheard b u) b u now → answered x w s ≡ recovered_by rules.Rfc v now s o
+pub said_then : (x : Answer) (b : Before) (v u w : View) (s : Segment) (now : Instant) (o : Outcome) → b ≡ before_of v s → answered x u s ≡ o → w ≡ recovered b u now → answered x w s ≡ recovered_by rules.Rfc v now s o
 said_then x b v u w s now o is e h =
-    ap (λ y. answered x y s) h ∙ said b u s now x ∙ ap (λ (y : Outcome). record { view = recovered_if (is_unheard b y.view) b y.view now; reply = y.reply }) e ∙ ap (λ c. record { view = recovered_if (is_unheard c o.view) c o.view now; reply = o.reply }) is
+    ap (λ y. answered x y s) h ∙ said b u s now x ∙ ap (λ (y : Outcome). record { view = recovered b y.view now; reply = y.reply }) e ∙ ap (λ c. record { view = recovered c o.view now; reply = o.reply }) is
 
 -- ---- by either rules
 
 -- what holds of an outcome, and of one whose socket has recovered as well
-pub recovered_as : (Q : Outcome → Type 0) (r : Rules) (v : View) (now : Instant) (s : Segment) (o : Outcome) → Q o → Q (record { view = recovered (before_of v s) o.view now; reply = o.reply }) → Q (record { view = o.view; reply = o.reply }) → Q (recovered_by r v now s o)
-recovered_as Q rules.Smoltcp v now s o h k i = h
-recovered_as Q rules.Rfc v now s o h k i = by (is_unheard (before_of v s) o.view)
-  where
-    by : (unheard : Bool) → Q (record { view = recovered_if unheard (before_of v s) o.view now; reply = o.reply })
-    by true = i
-    by false = k
+pub recovered_as : (Q : Outcome → Type 0) (r : Rules) (v : View) (now : Instant) (s : Segment) (o : Outcome) → Q o → Q (record { view = recovered (before_of v s) o.view now; reply = o.reply }) → Q (recovered_by r v now s o)
+recovered_as Q rules.Smoltcp v now s o h k = h
+recovered_as Q rules.Rfc v now s o h k = k
 
 -- ---- a segment that passes
 
-pub passes : (o : Outcome) (r : Rules) (v : View) (now : Instant) (word : ℕ) (ip : IpRepr) (s : Segment) → verdict_by r v now s ≡ verdicts.Pass → o ≡ by_verdict r verdicts.Pass v (arrival now (tuple_of ip s) word s) → o ≡ processed_by r v now word ip s
+pub passes : (o : Outcome) (r : Rules) (v : View) (now : Instant) (word : ℕ) (ip : IpRepr) (s : Segment) → verdict_by r v now s ≡ verdicts.Pass → o ≡ by_verdict r verdicts.Pass v (arrival now (tuple_of ip s) word (windowed r v s)) → o ≡ processed_by r v now word ip s
 unfolding processed_by
-passes o r v now word ip s p h = h ∙ ap (λ x. by_verdict r x v (arrival now (tuple_of ip s) word s)) (sym p)
+passes o r v now word ip s p h = h ∙ ap (λ x. by_verdict r x v (arrival now (tuple_of ip s) word (windowed r v s))) (sym p)
 
 -- ---- the timer that is left: as it was, a fast retransmission's, one that went on, a new one, that of a tail-loss probe,
 -- or that of keep-alives where it was a probe's

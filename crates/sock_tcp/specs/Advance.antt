@@ -16,6 +16,8 @@ use Rattle.sock_tcp.specs.View.{View}
 use Rattle.sock_tcp.specs.declared.acked.Acked.{Acked}
 use Rattle.sock_tcp.specs.declared.advance.Next.{Next}
 use Rattle.sock_tcp.specs.declared.advance.Next.TheVariants as next
+use Rattle.sock_tcp.specs.declared.rules.Rules.{Rules}
+use Rattle.sock_tcp.specs.declared.rules.Rules.TheVariants as rules
 use Rattle.sock_tcp.specs.declared.state.State.{State}
 use Rattle.sock_tcp.specs.declared.state.State.TheVariants as state
 use Rattle.sock_tcp.specs.declared.tuple.Tuple.{Tuple}
@@ -121,9 +123,14 @@ waiting now v = record v { state = state.TimeWait; timer = close_from now }
 
 -- ---- the table: by state, by the control bit that counts, and by whether the own FIN is acknowledged; RSTs first
 
--- LAST-ACK, with an acknowledgement of n bytes: one of nothing new is challenged
+-- LAST-ACK, with an acknowledgement of n bytes: by smoltcp's rules one of nothing new is challenged; by the RFCs' it is
+-- heard as in the other states (RFC 9293, section 3.10.7.4)
+abbrev pub nothing_new_by : Rules → Next
+nothing_new_by rules.Smoltcp = next.Challenge
+nothing_new_by rules.Rfc = next.Continue
+
 abbrev pub last_ack_waits : View → ℕ → Advance
-last_ack_waits v n = record { view = v; next = if n == 0 then next.Challenge else next.Continue }
+last_ack_waits v n = record { view = v; next = if n == 0 then nothing_new_by v.rules else next.Continue }
 
 abbrev pub advance_in : State → TcpControl → Bool → View → Arrival → ℕ → Advance
 advance_in state.SynReceived control.Rst fin v a n = stops (fallen_back v)

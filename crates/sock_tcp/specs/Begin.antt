@@ -89,9 +89,21 @@ fast_retransmission_marked v now =
       timer = marked_by v.rules now v.keep_alive (retransmitted v.rtte);
     }
 
+-- a window is to be probed for: by the RFCs' rules with the byte at SND.UNA, so that SND.NXT goes back, and what was
+-- in flight goes out again once there is a window (RFC 9293, section 3.8.6)
+abbrev pub probing_begun : Rules → View → View
+probing_begun rules.Smoltcp v = v
+probing_begun rules.Rfc v =
+    record v {
+      remote_last_seq = v.local_seq_no;
+      rtte = retransmitted v.rtte;
+      recovery = timed_out_by v.rules v.recovery v.remote_last_seq;
+    }
+
 abbrev pub after_timer : Timer → View → Instant → View
 after_timer (timer.Retransmit t) v now = if is_over t now then retransmission_begun v now else v
 after_timer timer.FastRetransmit v now = fast_retransmission_marked v now
+after_timer (timer.ZeroWindowProbe t delay) v now = if is_over t now then probing_begun v.rules v else v
 after_timer _ v now = v
 
 -- a tail-loss probe goes out, or what the timer asks for

@@ -1,5 +1,5 @@
 -- What a dispatch emits.
-use Rattle.std.specs.Prelude.{ℕ, ◌+◌, ◌-◌, List, [], ◌∷◌, length, min, Option, Some, None, Bool, true, not}
+use Rattle.std.specs.Prelude.{ℕ, ◌+◌, ◌-◌, List, [], ◌∷◌, length, max, min, nat_lt, Option, Some, None, Bool, true, not}
 use Rattle.std.specs.Prelude.{◌&&◌, ◌==◌, if◌then◌else◌, option_map}
 use Rattle.ip_wire.specs.IpHeader.{ip_header}
 use Rattle.ip_wire.specs.declared.protocol.IpProtocol.TheVariants as protocol
@@ -54,19 +54,36 @@ next_hole (recovery.Fast point high_rxt resent_at) k una = hole_behind k (again_
 next_hole (recovery.Probe start end) k una = Some (record { start = seq_sub start una; end = seq_sub end una })
 next_hole r k una = None
 
-abbrev pub hole_by : Rules → Recovery → Scoreboard → TcpSeqNumber → Option Hole
-hole_by rules.Smoltcp r k una = None
-hole_by rules.Rfc r k una = next_hole r k una
+-- where it begins within the peer's window (RFC 9293, section 3.8.6)
+abbrev pub hole_within : Option Hole → ℕ → Option Hole
+hole_within None window = None
+hole_within (Some h) window = if nat_lt h.start window then Some h else None
+
+abbrev pub hole_by : Rules → Recovery → Scoreboard → TcpSeqNumber → ℕ → Option Hole
+hole_by rules.Smoltcp r k una window = None
+hole_by rules.Rfc r k una window = hole_within (next_hole r k una) window
 
 -- what a fast retransmission sends again; where there is none, the segment at SND.UNA
 abbrev pub hole_of : View → Option Hole
-hole_of v = hole_by v.rules v.recovery v.sacked v.local_seq_no
+hole_of v = hole_by v.rules v.recovery v.sacked v.local_seq_no v.remote_win_len
 
--- a fast retransmission keeps to neither window and to the hole, a probe is one byte, and other data keeps to both
--- windows
+-- of n bytes that begin at start, what goes out again: by smoltcp's rules all; by the RFCs' what the peer's window
+-- takes, and one byte where it takes none (RFC 9293, section 3.8.6)
+abbrev pub resent_within : Rules → ℕ → ℕ → ℕ → ℕ
+resent_within rules.Smoltcp window start n = n
+resent_within rules.Rfc window start n = min n (max 1 (window - start))
+
+-- how many bytes a fast retransmission sends again, with segments of mss bytes
+abbrev pub resent_size : View → ℕ → ℕ
+resent_size v mss =
+    resent_within v.rules v.remote_win_len (hole_start (hole_of v) (length v.tx_buffer.bytes))
+    (hole_size (hole_of v) (length v.tx_buffer.bytes) mss)
+
+-- a fast retransmission keeps to the hole and, by the RFCs' rules, to the peer's window, a probe is one byte, and other
+-- data keeps to both windows
 abbrev pub size_of : View → Tuple → Facts → ℕ
 size_of v t f =
-    if v.pending_fast_retransmit then hole_size (hole_of v) (length v.tx_buffer.bytes) (effective_mss v t f)
+    if v.pending_fast_retransmit then resent_size v (effective_mss v t f)
     else (if is_probing v (moment_of f) then min 1 (effective_mss v t f)
     else min (min (window_left v) (effective_mss v t f)) (congestion_left v))
 

@@ -12,6 +12,7 @@ use Rattle.sock_tcp.specs.Begin.{peer_of, before_emit}
 use Rattle.sock_tcp.specs.Content.{Sending, asked, offset_of, content}
 use Rattle.sock_tcp.specs.Outgoing.{packet_of}
 use Rattle.sock_tcp.specs.Queue.{IsLent}
+use Rattle.sock_tcp.specs.Rfc.Numbers.{outgoing}
 use Rattle.sock_tcp.specs.Sent.{left_by}
 use Rattle.sock_tcp.specs.View.{View, moment_of}
 use Rattle.sock_tcp.specs.declared.tuple.Tuple.{Tuple}
@@ -32,9 +33,9 @@ pub record EmitsDue {F C E : Type 0} (g : EmitTcp F C E) (f : F) (facts : Facts)
   pub stamped : is_some stamp ≡ v.stamps
   pub bytes : List ℕ
   pub lent : IsLent v.tx_buffer (offset_of v) (asked v t facts) bytes
-  pub emits : Emits g packet_of f (option_map packet_in (content v t facts stamp bytes)) c r c'
+  pub emits : Emits g packet_of f (option_map packet_in (outgoing v (content v t facts stamp bytes))) c r c'
   pub view : w ≡ left_by (content v t facts stamp bytes) v (moment_of facts) (is_ok r)
-  pub fits : ForSome (content v t facts stamp bytes) (λ s. FitsPacket s.ip s.segment)
+  pub fits : ForSome (outgoing v (content v t facts stamp bytes)) (λ s. FitsPacket s.ip s.segment)
 
 -- nothing to emit, or nobody to emit to
 pub record IsQuiet {C E : Type 0} (v : View) (c : C) (r : Result (Unit {0}) E) (w : View) (c' : C) : Type 0 where

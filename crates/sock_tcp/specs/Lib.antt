@@ -1,4 +1,5 @@
 pub mod Queue
+pub mod Scale
 pub mod Timers
 pub mod Polls
 pub mod View

@@ -20,8 +20,10 @@ pub use Rattle.sock_tcp.specs.Inside.{Outcome, stopped, ack_sent, rst_sent, answ
 pub use Rattle.sock_tcp.specs.Inside.{tuple_of, gap_answered, after_advance, after_table, acked_by}
 unfoldable pub use Rattle.sock_tcp.specs.Inside.{challenged, close_restarted, outside, bytes_taken, processed_inside}
 use Rattle.sock_tcp.specs.Rfc.Checks.{verdict_by}
+use Rattle.sock_tcp.specs.Rfc.Numbers.{reply_numbered}
 use Rattle.sock_tcp.specs.Rfc.Recovery.{recovered_by}
 use Rattle.sock_tcp.specs.Rfc.Refused.{refused}
+use Rattle.sock_tcp.specs.Rfc.Windows.{windowed}
 use Rattle.sock_tcp.specs.View.{View, moment_of}
 use Rattle.sock_tcp.specs.Verdict.{verdict_of}
 pub use Rattle.sock_tcp.specs.Window.{has_window}
@@ -71,7 +73,8 @@ Accepts v ip s = AcceptsIn v.state v ip s
 
 -- ---- process
 -- Each definition stands below those that it names, so the rules are read from the end, in this order: `processed`
--- asks for the verdict, which is by the socket's rules (`Rfc/Checks.antt`); `by_verdict` drops, resets, challenges or
+-- asks for the verdict, which is by the socket's rules (`Rfc/Checks.antt`), and which window the segment tells by these
+-- (`Rfc/Windows.antt`); `by_verdict` drops, resets, challenges or
 -- lets pass; `tested` tests the receive window, in a state that has one, and `recovered_by` (`Rfc/Recovery.antt`) does
 -- by the socket's rules what is done of loss then; `cut_inside` cuts what lies inside, and `refused`
 -- (`Rfc/Refused.antt`) does by the socket's rules what is done outside. The rest stands in `Inside.antt`: `outside`
@@ -105,7 +108,7 @@ by_verdict r verdicts.Pass v a = recovered_by r v a.now a.segment (tested_by r (
 
 unfoldable pub processed_by : Rules → View → Instant → ℕ → IpRepr → Segment → Outcome
 processed_by r v now word ip s =
-    by_verdict r (verdict_by r v now s) v (arrival now (tuple_of ip s) word s)
+    by_verdict r (verdict_by r v now s) v (arrival now (tuple_of ip s) word (windowed r v s))
 
 -- by the socket's own rules
 abbrev pub processed : View → Instant → ℕ → IpRepr → Segment → Outcome
@@ -129,7 +132,7 @@ pub record Processes {C : Type 0} (facts : C → Facts) (word_at : C → ℕ →
     (stamped : TcpControl → Option TcpTimestampRepr → Type 0) (v : View) (cx : C)
     (ip : IpRepr) (s : Segment) (reply : Option (IpRepr × TcpRepr)) (w : View) (cx' : C) : Type 0 where
   pub view : w ≡ (processed v (moment_of (facts cx)) (word_at cx 0) ip s).view
-  pub answer : Answers stamped ip (processed v (moment_of (facts cx)) (word_at cx 0) ip s).reply
+  pub answer : Answers stamped ip (reply_numbered w (processed v (moment_of (facts cx)) (word_at cx 0) ip s).reply)
       (option_map reply_of reply)
   pub bare : ForSome reply (λ r. r.1.payload.now ≡ [])
   pub fits : ForSome (option_map reply_of reply) (λ r. FitsPacket r.0 r.1)

@@ -15,6 +15,8 @@ use Rattle.sock_core.specs.Seq.{is_before, is_not_after, later_of}
 use Rattle.sock_core.specs.Received.{taken_in}
 use Rattle.sock_tcp.specs.Due.{flight}
 use Rattle.sock_tcp.specs.Queue.{shortened}
+use Rattle.sock_tcp.specs.Rfc.Windows.{wl1_by, wl2_by}
+pub use Rattle.sock_tcp.specs.Scale.{scale_of}
 use Rattle.sock_tcp.specs.Timers.{after, idle_from, retransmit_from, probe_from, is_idle}
 use Rattle.sock_tcp.specs.View.{View}
 use Rattle.sock_tcp.specs.Window.{next_ack}
@@ -27,10 +29,6 @@ use Rattle.sock_tcp.specs.declared.timer.Timer.{Timer}
 use Rattle.sock_tcp.specs.declared.timer.Timer.TheVariants as timer
 
 -- ---- the peer's window
-
-abbrev pub scale_of : Option ℕ → ℕ
-scale_of None = 0
-scale_of (Some n) = n
 
 -- the window of a SYN is not shifted
 abbrev pub window_of : TcpControl → ℕ → Option ℕ → ℕ
@@ -102,7 +100,7 @@ acknowledged_by (Some ack) v now n payload changed = ack_heard (is_duplicate v a
 unfoldable pub acknowledged : View → Option TcpSeqNumber → Instant → ℕ → ℕ → Bool → View
 acknowledged v ack now n payload changed = acknowledged_by ack v now n payload changed
 
--- ---- the timestamp
+-- ---- the timestamp, and what told the window
 
 abbrev pub tsval_of : ℕ → Option TcpTimestampRepr → ℕ
 tsval_of old None = old
@@ -121,8 +119,14 @@ recent_by rules.Rfc v s =
     if moves_recent s.control v.remote_last_ack s.seq_number then tsval_of v.last_remote_tsval s.timestamp
     else v.last_remote_tsval
 
+-- TS.Recent, and which segment told the window
 unfoldable pub timestamp_taken : View → Segment → View
-timestamp_taken v s = record v { last_remote_tsval = recent_by v.rules v s }
+timestamp_taken v s =
+    record v {
+      last_remote_tsval = recent_by v.rules v s;
+      snd_wl1 = wl1_by v.rules v.snd_wl1 v.snd_wl2 s;
+      snd_wl2 = wl2_by v.rules v.snd_wl1 v.snd_wl2 s;
+    }
 
 -- ---- the timer
 

@@ -69,6 +69,8 @@ pub record View : Type 0 where
   pub rules : Rules  -- where smoltcp's differ from the RFCs'
   pub recovery : Recovery  -- what goes on of a loss, by the RFCs' rules
   pub sacked : Scoreboard  -- what the peer told by SACK, by the RFCs' rules
+  pub snd_wl1 : TcpSeqNumber  -- SND.WL1, the number of the segment that told SND.WND, by the RFCs' rules
+  pub snd_wl2 : TcpSeqNumber  -- SND.WL2, what it acknowledged
 
 -- the moment that a context tells
 abbrev pub moment_of : Facts → Instant
@@ -148,4 +150,6 @@ fresh rx tx =
       rules = rules.Smoltcp;
       recovery = recovery.Open;
       sacked = nothing_told;
+      snd_wl1 = seq_of 0;
+      snd_wl2 = seq_of 0;
     }

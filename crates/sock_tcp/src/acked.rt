@@ -38,7 +38,7 @@ impl<'a> ControlBlock<'a> {
     }
 
     #[tactic(auto, unfolding(crate::specs::Acked::acked_at))]
-    fn acked(&self, control: TcpControl, ack: Option<TcpSeqNumber>) -> Acked
+    pub(crate) fn acked(&self, control: TcpControl, ack: Option<TcpSeqNumber>) -> Acked
         ensures { result ≡ acked_of self.now control ack }
     {
         let ack = match (control, ack) {

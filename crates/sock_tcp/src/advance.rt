@@ -5,7 +5,7 @@ ghost use Rattle.control_wire.specs.Segment.{segment_of};
 ghost use Rattle.sock_core.specs.Bounds.{IsMoment};
 ghost use Rattle.sock_tcp.specs.Draw.{draws, Draws};
 ghost use Rattle.sock_tcp.specs.Advance.{options_taken, fallen_back, dropped, syn_received, syn_answered, moved_to};
-ghost use Rattle.sock_tcp.specs.Advance.{fin_counted, waiting, continues, stops, advanced};
+ghost use Rattle.sock_tcp.specs.Advance.{fin_counted, nothing_new_by, waiting, continues, stops, advanced};
 ghost use Rattle.sock_tcp.specs.declared.state.State.TheVariants.{TimeWait};
 ghost use Rattle.sock_tcp.specs.Arrival.{arrival};
 ghost use Rattle.sock_tcp.specs.Process.{tuple_of};
@@ -16,6 +16,7 @@ ghost use Rattle.sock_tcp.specs.declared.verdict.Verdict.TheVariants.{Pass};
 
 use crate::acked::Acked;
 use crate::control_block::ControlBlock;
+use crate::rules::Rules;
 use crate::state::State;
 use crate::timer::Timer;
 use crate::tuple::Tuple;
@@ -41,6 +42,16 @@ pub enum Next {
     Stop,
     /// A challenge ACK, and nothing else.
     Challenge,
+}
+
+// In LAST-ACK, with an acknowledgement of nothing new: by smoltcp's rules it is challenged.
+fn nothing_new(rules: Rules) -> Next
+    ensures { result ≡ nothing_new_by rules }
+{
+    match rules {
+        Rules::Smoltcp => Next::Challenge,
+        Rules::Rfc => Next::Continue,
+    }
 }
 
 impl<'a> ControlBlock<'a> {
@@ -218,7 +229,9 @@ impl<'a> ControlBlock<'a> {
             (State::Closing, TcpControl::None, true) => self.wait(now),
             (State::Closing, TcpControl::None, false) => Next::Continue,
             (State::LastAck, TcpControl::None, true) => self.end(Next::Continue),
-            (State::LastAck, TcpControl::None, false) if acked.len == 0 => Next::Challenge,
+            (State::LastAck, TcpControl::None, false) if acked.len == 0 => {
+                nothing_new(self.rules)
+            }
             (State::LastAck, TcpControl::None, false) => Next::Continue,
             _ => Next::Stop,
         }

@@ -5,7 +5,7 @@ ghost use Rattle.sock_tcp.specs.View.{moment_of};
 ghost use Rattle.sock_tcp.specs.Due.{flight, is_due};
 ghost use Rattle.sock_tcp.specs.Begin.{last_ts_set, readied, retransmission_begun, fast_retransmission_marked};
 ghost use Rattle.sock_core.specs.Congestion.{congestion_window};
-ghost use Rattle.sock_tcp.specs.Begin.{after_timers, flight_lost};
+ghost use Rattle.sock_tcp.specs.Begin.{after_timers, flight_lost, probing_begun};
 ghost use Rattle.sock_tcp.specs.Rfc.Recovery.{marked_by};
 ghost use Rattle.sock_tcp.specs.Timers.{IsTimer};
 ghost use Rattle.sock_tcp.specs.Begin.{is_paused, begun, nothing_due, before_emit_to, before_emit};
@@ -109,6 +109,18 @@ impl<'a> ControlBlock<'a> {
         self.timer = self.timer_marked(now);
     }
 
+    // A window is to be probed for: by the RFCs' rules with the byte at SND.UNA.
+    fn begin_probe(&mut self)
+        ensures table { self.new ≡ probing_begun self.old.rules self.old }
+        ensures stamps { self.new.stamps ≡ self.old.stamps }
+    {
+        if let Rules::Rfc = self.rules {
+            self.recovery = self.recovery.timed_out(self.rules, self.remote_last_seq);
+            self.remote_last_seq = self.local_seq_no;
+            self.rtte.on_retransmit();
+        }
+    }
+
     // What the moments that have passed change.
     #[tactic(auto, unfolding(crate::specs::Begin::after_timers))]
     fn heed_timers(&mut self, now: Instant)
@@ -131,6 +143,11 @@ impl<'a> ControlBlock<'a> {
                 }
             }
             Timer::FastRetransmit => self.mark_fast_retransmission(now),
+            Timer::ZeroWindowProbe { expires_at, .. } => {
+                if is_over(expires_at, now) {
+                    self.begin_probe();
+                }
+            }
             _ => {}
         }
     }

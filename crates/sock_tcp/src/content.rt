@@ -9,7 +9,7 @@ ghost use Rattle.control_wire.specs.Segment.{segment_of};
 ghost use Rattle.sock_core.specs.Facts.{IsLawful};
 ghost use Rattle.sock_tcp.specs.Queue.{IsLent};
 ghost use Rattle.sock_tcp.specs.Due.{flight, window_field};
-ghost use Rattle.sock_tcp.specs.Content.{window_left, is_probing, hole_of, size_of, offset_of, number_of, asked};
+ghost use Rattle.sock_tcp.specs.Content.{window_left, is_probing, hole_of, hole_within, resent_size, size_of, offset_of, number_of, asked};
 ghost use Rattle.sock_tcp.specs.Content.{timestamp_of, plain_segment, with_syn, syn, syn_ack, data_control, with_data};
 ghost use Rattle.sock_tcp.specs.Content.{filled, emission_kind, of_kind, hop_limit_of, sending, finished, content};
 
@@ -37,6 +37,16 @@ pub(crate) const NO_HEADER: IpRepr = IpRepr::Ipv4(Ipv4Repr {
     hop_limit: 0,
 });
 
+// The hole, where it begins within this window.
+fn hole_within(hole: Option<Hole>, window: usize) -> Option<Hole>
+    ensures { result ≡ hole_within hole window }
+{
+    match hole {
+        Some(hole) if (hole.start as usize) < window => Some(hole),
+        _ => None,
+    }
+}
+
 impl<'a> ControlBlock<'a> {
     fn window_left(&self) -> usize
         ensures { result ≡ window_left self.now }
@@ -54,12 +64,33 @@ impl<'a> ControlBlock<'a> {
     }
 
     // What a fast retransmission sends again; where there is none, the segment at SND.UNA.
-    fn hole(&self) -> Option<Hole>
+    pub(crate) fn hole(&self) -> Option<Hole>
         ensures { result ≡ hole_of self.now }
     {
         match self.rules {
             Rules::Smoltcp => None,
-            Rules::Rfc => self.recovery.next_hole(&self.sacked, self.local_seq_no),
+            Rules::Rfc => hole_within(
+                self.recovery.next_hole(&self.sacked, self.local_seq_no),
+                self.remote_win_len,
+            ),
+        }
+    }
+
+    // How many bytes a fast retransmission sends again.
+    fn resent_size(&self, mss: usize) -> usize
+        ensures { result ≡ resent_size self.now mss }
+    {
+        let hole = self.hole();
+        let queued = self.tx_buffer.len();
+        let size = hole_size(&hole, queued, mss);
+        match self.rules {
+            Rules::Smoltcp => size,
+            Rules::Rfc => {
+                let left = self
+                    .remote_win_len
+                    .saturating_sub(hole_start(&hole, queued));
+                size.min(left.max(1))
+            }
         }
     }
 
@@ -70,7 +101,7 @@ impl<'a> ControlBlock<'a> {
     {
         let mss = self.effective_mss(cx, tuple);
         if self.pending_fast_retransmit {
-            hole_size(&self.hole(), self.tx_buffer.len(), mss)
+            self.resent_size(mss)
         } else if self.is_probing(cx.now()) {
             mss.min(1)
         } else {

@@ -96,6 +96,9 @@ pub struct ControlBlock<'a> {
     pub(crate) recovery: Recovery,
     // what the peer told by SACK, by the RFCs' rules
     pub(crate) sacked: Scoreboard,
+    // SND.WL1 and SND.WL2, by the RFCs' rules
+    pub(crate) snd_wl1: TcpSeqNumber,
+    pub(crate) snd_wl2: TcpSeqNumber,
 }
 
 impl<'a> Model for ControlBlock<'a> {
@@ -142,6 +145,8 @@ impl<'a> Model for ControlBlock<'a> {
       rules = s.rules;
       recovery = s.recovery;
       sacked = s.sacked;
+      snd_wl1 = s.snd_wl1;
+      snd_wl2 = s.snd_wl2;
     } };
 
     ghost invariant = { λ s. IsSound s.rx_buffer (queue_of s.tx_buffer) s.tuple

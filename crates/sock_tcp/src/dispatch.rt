@@ -133,6 +133,7 @@ impl<'a> ControlBlock<'a> {
             Some(kind) => kind,
         };
         let emitted = Emitted::of(kind, &packet.1);
+        self.number_packet(&mut packet);
         let result = emit(cx, packet);
         self.after_emit(result.is_ok(), now, emitted);
         result

@@ -85,6 +85,8 @@ impl<'a> ControlBlock<'a> {
             rules: Rules::Smoltcp,
             recovery: Recovery::Open,
             sacked: NOTHING_TOLD,
+            snd_wl1: TcpSeqNumber(0),
+            snd_wl2: TcpSeqNumber(0),
         }
     }
 
@@ -119,6 +121,8 @@ impl<'a> ControlBlock<'a> {
         self.congestion_controller = self.congestion_control().controller();
         self.recovery = Recovery::Open;
         self.sacked = NOTHING_TOLD;
+        self.snd_wl1 = TcpSeqNumber(0);
+        self.snd_wl2 = TcpSeqNumber(0);
     }
 
     pub(crate) fn is_open(&self) -> bool

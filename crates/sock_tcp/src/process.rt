@@ -12,6 +12,7 @@ ghost use Rattle.sock_tcp.specs.Process.{answered, challenged, close_restarted, 
 ghost use Rattle.sock_tcp.specs.Process.{by_verdict, processed_inside, tested, processed};
 ghost use Rattle.sock_tcp.specs.Draw.{draws, Draws};
 ghost use Rattle.sock_tcp.specs.Rfc.Recovery.{recovered_by};
+ghost use Rattle.sock_tcp.specs.Rfc.Windows.{windowed};
 ghost use Rattle.sock_tcp.specs.declared.rules.Rules.TheVariants.{Rfc};
 
 use crate::advance::Next;
@@ -254,6 +255,28 @@ impl<'a> ControlBlock<'a> {
         answer
     }
 
+    // By the RFCs' rules: an older segment counts as telling the window that is known.
+    #[inline(never)]
+    fn process_by_rfc<C: Context>(
+        &mut self,
+        cx: &mut C,
+        now: Instant,
+        ip_repr: &IpRepr,
+        repr: &TcpRepr<'_>,
+    ) -> Answer
+        requires moment { IsMoment now.micros }
+        requires passed { verdict_of self.old repr.now.control repr.now.ack_number ≡ Pass }
+        requires small { length repr.now.payload.now ≤ 65535 }
+        ensures table { answered result self.new (segment_of repr.now)
+            ≡ recovered_by Rfc self.old now (windowed Rfc self.old (segment_of repr.now))
+            (tested (has_window self.old.state) self.old (arrival now (tuple_of ip_repr.now (segment_of repr.now))
+            (C.word_at cx.old 0) (windowed Rfc self.old (segment_of repr.now)))) }
+        ensures context { Draws (draws Pass self.old.state repr.now.control) C.facts C.word_at cx.old cx.new }
+    {
+        let windowed = self.windowed(repr);
+        self.process_and_recover(cx, now, ip_repr, &windowed)
+    }
+
     // By the socket's rules.
     #[inline(always)]
     fn process_by_rules<C: Context>(
@@ -268,12 +291,12 @@ impl<'a> ControlBlock<'a> {
         requires small { length repr.now.payload.now ≤ 65535 }
         ensures table { answered result self.new (segment_of repr.now)
             ≡ by_verdict self.old.rules Pass self.old (arrival now (tuple_of ip_repr.now (segment_of repr.now))
-            (C.word_at cx.old 0) (segment_of repr.now)) }
+            (C.word_at cx.old 0) (windowed self.old.rules self.old (segment_of repr.now))) }
         ensures context { Draws (draws Pass self.old.state repr.now.control) C.facts C.word_at cx.old cx.new }
     {
         match self.rules {
             Rules::Smoltcp => self.process_passed(cx, now, ip_repr, repr),
-            Rules::Rfc => self.process_and_recover(cx, now, ip_repr, repr),
+            Rules::Rfc => self.process_by_rfc(cx, now, ip_repr, repr),
         }
     }
 

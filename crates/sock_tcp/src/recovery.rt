@@ -7,8 +7,8 @@ ghost use Rattle.sock_tcp.specs.Due.{flight};
 ghost use Rattle.sock_tcp.specs.Rfc.Recovery.{before_of, begins, begun_by, controller_after, duplicates_after};
 ghost use Rattle.sock_tcp.specs.Rfc.Recovery.{estimator_after};
 ghost use Rattle.sock_tcp.specs.Rfc.Recovery.{gone_on, gone_on_from, has_timer, highest_of, is_bare_control, is_called};
-ghost use Rattle.sock_tcp.specs.Rfc.Recovery.{is_fast, is_grown, is_last, is_news, is_opened, is_over, is_partial};
-ghost use Rattle.sock_tcp.specs.Rfc.Recovery.{is_counted, is_early, is_unheard, may_resend, recovered, recovered_if};
+ghost use Rattle.sock_tcp.specs.Rfc.Recovery.{is_fast, is_grown, is_news, is_opened, is_over, is_partial};
+ghost use Rattle.sock_tcp.specs.Rfc.Recovery.{is_counted, is_early, may_resend, recovered};
 ghost use Rattle.sock_tcp.specs.Rfc.Recovery.{recovery_after, repeats_by, resends, running, timed_out_by, timer_after};
 ghost use Rattle.sock_tcp.specs.Rfc.Recovery.{before_it, is_timed_out, is_uncounted, told_of_bytes};
 ghost use Rattle.sock_tcp.specs.Rfc.Recovery.{segments_out, tells_loss, waited_for};
@@ -162,13 +162,6 @@ impl Before {
         ensures { result ≡ is_news self.now after.now }
     {
         self.una != after.local_seq_no
-    }
-
-    // In LAST-ACK a segment that acknowledges nothing is not heard.
-    fn is_unheard(&self, after: &ControlBlock<'_>) -> bool
-        ensures { result ≡ is_unheard self.now after.now }
-    {
-        matches!(self.state, State::LastAck) && !self.is_news(after)
     }
 
     // A duplicate that tells a larger window.
@@ -462,7 +455,7 @@ impl<'a> ControlBlock<'a> {
 
     // What is done of loss, once a segment was heard.
     #[tactic(auto, unfolding(crate::specs::Rfc::Recovery::recovered))]
-    fn recover_heard(&mut self, before: &Before, now: Instant)
+    pub(crate) fn recover(&mut self, before: &Before, now: Instant)
         requires { IsMoment now.micros }
         ensures { self.new ≡ recovered before.now self.old now }
     {
@@ -478,15 +471,5 @@ impl<'a> ControlBlock<'a> {
         self.congestion_controller = controller;
         self.recovery = recovery;
         self.sacked = sacked;
-    }
-
-    pub(crate) fn recover(&mut self, before: &Before, now: Instant)
-        requires { IsMoment now.micros }
-        ensures { self.new ≡ recovered_if (is_unheard before.now self.old) before.now self.old now }
-    {
-        if before.is_unheard(self) {
-            return;
-        }
-        self.recover_heard(before, now);
     }
 }

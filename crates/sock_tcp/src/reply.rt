@@ -11,6 +11,7 @@ ghost use Rattle.sock_tcp.specs.Window.{next_ack};
 ghost use Rattle.sock_tcp.specs.Replies.{reply_ip, bare_reply, rst_ack, rst_number, rst_segment, with_header};
 ghost use Rattle.sock_tcp.specs.Replies.{chosen_range, wire_edges, sack_range, ack_segment, ack_kept};
 ghost use Rattle.sock_tcp.specs.Replies.{Answers, IsReplyStamp, IsSentAs, echoed};
+ghost use Rattle.sock_tcp.specs.Rfc.Numbers.{reply_numbered};
 
 use crate::control_block::ControlBlock;
 use crate::generator::TsvalSource;
@@ -194,7 +195,8 @@ impl<'a, G: TsvalSource> Socket<'a, G> {
         ensures ended { self.new.ended ≡ self.old.ended }
         ensures answer { Answers (IsReplyStamp G.tells self.old.tsval_generator
             (echoed self.new.control_block repr.now.timestamp)) ip_repr.now
-            (answered answer self.old.control_block (segment_of repr.now)).reply (option_map reply_of result) }
+            (reply_numbered self.new.control_block (answered answer self.old.control_block (segment_of repr.now)).reply)
+            (option_map reply_of result) }
         ensures bare { ForSome result (λ r. r.1.payload.now ≡ []) }
         ensures fits { ForSome (option_map reply_of result) (λ r. FitsPacket r.0 r.1) }
     {
@@ -202,6 +204,7 @@ impl<'a, G: TsvalSource> Socket<'a, G> {
             Answer::Nothing => None,
             Answer::Ack => {
                 let reply = self.control_block.ack_reply(repr);
+                let reply = self.control_block.number_reply(reply);
                 Some(self.answer(ip_repr, repr, reply))
             }
             Answer::Rst => Some(self.answer(ip_repr, repr, rst_segment(repr))),

@@ -194,7 +194,7 @@ impl Before {
 
 impl<'a> ControlBlock<'a> {
     // How many bytes behind SND.UNA were sent.
-    fn sent(&self) -> usize
+    pub(crate) fn sent(&self) -> usize
         ensures value { result ≡ sent_of self.now }
         ensures small { result < 2 ^ 32 }
     {

@@ -144,6 +144,7 @@ impl<'a> ControlBlock<'a> {
             (Some(_), Rules::Rfc) if !self.moves_recent(repr) => {}
             (Some(timestamp), _) => self.last_remote_tsval = timestamp.tsval,
         }
+        self.note_window(repr);
     }
 
     // The timer after an acknowledgement.

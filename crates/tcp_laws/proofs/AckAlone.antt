@@ -13,21 +13,23 @@ use Rattle.control_wire.specs.Seq.{seq_add, seq_of}
 use Rattle.control_wire.specs.Segment.{Segment, control_len, segment_len}
 use Rattle.control_wire.specs.declared.tcp.TcpControl.TheVariants as control
 use Rattle.sock_core.specs.Facts.{Facts, IsLawful}
-use Rattle.sock_tcp.specs.Begin.{last_ts_set, last_ts_set_at, told_ready, readied, retransmission_begun, fast_retransmission_marked, after_timer, after_timers, timers_by, begun, begun_to, unless_paused, ended, by_due, before_emit, before_emit_to, peer_of}
-use Rattle.sock_tcp.specs.Content.{asked, carries_data, data_control, filled, hole_of, is_probing, offset_of, plain_segment, size_of, window_left, with_data}
+use Rattle.sock_tcp.specs.Begin.{last_ts_set, last_ts_set_at, told_ready, readied, retransmission_begun, fast_retransmission_marked, after_timer, after_timers, begun, begun_to, unless_paused, ended, by_due, before_emit, before_emit_to, peer_of, probing_begun, timers_by}
+use Rattle.sock_tcp.specs.Content.{asked, carries_data, data_control, filled, hole_of, is_probing, offset_of, plain_segment, size_of, window_left, with_data, resent_size}
 use Rattle.sock_tcp.specs.Due.{congestion_left, effective_mss, flight, ip_header_len, mtu_for, is_closing, is_due, is_opening, sendable, timestamp_room, window_field}
 use Rattle.sock_tcp.specs.Opening.{renewed}
 use Rattle.sock_tcp.specs.Polls.{is_reached, timeout_poll}
 use Rattle.sock_tcp.specs.Queue.{IsLent, Queue}
-use Rattle.sock_tcp.specs.Rfc.Scoreboard.{hole_number, hole_size, hole_start}
-use Rattle.sock_tcp.specs.Rfc.TailLoss.{probes_tail, tail_probed}
+use Rattle.sock_tcp.specs.Rfc.Scoreboard.{hole_number, hole_start}
 use Rattle.sock_tcp.specs.Timers.{idle_from, is_over, retransmit_from, rto_of}
+use Rattle.sock_tcp.specs.Rfc.TailLoss.{probes_tail, tail_probed}
 use Rattle.sock_tcp.specs.declared.scoreboard.Hole.{Hole}
-use Rattle.sock_tcp.proofs.Holes.{size_some, start_within}
+use Rattle.sock_tcp.proofs.Holes.{again_some, start_within}
 use Rattle.sock_tcp.specs.View.{View, moment_of}
 use Rattle.sock_tcp.specs.Window.{next_ack}
 use Rattle.sock_tcp.specs.declared.state.State.{State}
 use Rattle.sock_tcp.specs.declared.state.State.TheVariants as state
+use Rattle.sock_tcp.specs.declared.rules.Rules.{Rules}
+use Rattle.sock_tcp.specs.declared.rules.Rules.TheVariants as rules
 use Rattle.sock_tcp.specs.declared.timer.Timer.{Timer}
 use Rattle.sock_tcp.specs.declared.timer.Timer.TheVariants as timer
 use Rattle.sock_tcp.specs.declared.tuple.Tuple.{Tuple}
@@ -66,7 +68,15 @@ timer_settles (timer.Retransmit at) x now paced is known e = go (is_over at now)
     go false o = record { known = known; alive = inr (e, subst (λ t. IsSet t now) (sym is) o) }
 timer_settles timer.FastRetransmit x now paced is known e = record { known = known; alive = inr (e, marked_as (λ t. IsSet t now) x.rules now x.keep_alive (retransmitted x.rtte) (idle_set now x.keep_alive) (timed_set now (retransmitted x.rtte) (fast_paced x.rtte paced))) }
 timer_settles (timer.Idle at) x now paced is known e = record { known = known; alive = inr (e, subst (λ t. IsSet t now) (sym is) tt) }
-timer_settles (timer.ZeroWindowProbe at delay) x now paced is known e = record { known = known; alive = inr (e, subst (λ t. IsSet t now) (sym is) tt) }
+timer_settles (timer.ZeroWindowProbe at delay) x now paced is known e = go (is_over at now) x.rules
+  where
+    as_it_was : IsSet x.timer now
+    as_it_was = subst (λ t. IsSet t now) (sym is) tt
+
+    go : (b : Bool) (r : Rules) → Settled (if b then probing_begun r x else x) now
+    go true rules.Smoltcp = record { known = known; alive = inr (e, as_it_was) }
+    go true rules.Rfc = record { known = known; alive = inr (e, as_it_was) }
+    go false r = record { known = known; alive = inr (e, as_it_was) }
 timer_settles (timer.Close at) x now paced is known e = record { known = known; alive = inr (e, subst (λ t. IsSet t now) (sym is) tt) }
 
 pub timers_settle : (x : View) (now : Instant) → 0 < x.rtte.rto → is_none x.remote_last_ts ≡ false → Settled (after_timers x now) now
@@ -209,11 +219,11 @@ module _ (u : View) (p : Tuple) (f : Facts) (stamp : Option ℕ) (bytes : List �
       by : (b : Bool) → u.pending_fast_retransmit ≡ b → NoData
       by true e = again either
         where
-          whole : asked u p f ≡ hole_size (hole_of u) n (effective_mss u p f)
+          whole : asked u p f ≡ resent_size u (effective_mss u p f)
           whole = size ∙ rw e refl
 
-          some : 0 < hole_size (hole_of u) n (effective_mss u p f)
-          some = size_some (hole_of u) n (effective_mss u p f) mss
+          some : 0 < resent_size u (effective_mss u p f)
+          some = again_some u (effective_mss u p f) mss
 
           start : offset_of u ≤ min (n - 1) (2 ^ 30)
           start = rw e (start_within (hole_of u) n)

@@ -139,6 +139,7 @@ begins_both now = record {
   forgets = λ v h. ((begins_ordered now).forgets v h.0, record { rfc = h.1.rfc; row = tt });
   begins_again = λ v at e h. ((begins_ordered now).begins_again v at e h.0, record { rfc = h.1.rfc; row = rests_row v.state _ _ _ _ (begun_rests v.rules now v.keep_alive (retransmitted (backed_off v.rtte)) (seq_sub v.local_seq_no v.local_seq_no) v.remote_win_len (length v.tx_buffer.bytes) h.1.rfc (no_distance v.local_seq_no h.0.una_small)) });
   marks = λ v e h. ((begins_ordered now).marks v e h.0, record { rfc = h.1.rfc; row = rests_row v.state _ _ _ _ (marked_rests v.rules now v.keep_alive (retransmitted v.rtte) (flight v) v.remote_win_len (length v.tx_buffer.bytes) h.1.rfc) });
+  goes_back = λ v at delay e h. ((begins_ordered now).goes_back v at delay e h.0, record { rfc = h.1.rfc; row = rests_row v.state v.timer (seq_sub v.local_seq_no v.local_seq_no) v.remote_win_len (length v.tx_buffer.bytes) (subst (λ t. Rests t (seq_sub v.local_seq_no v.local_seq_no) v.remote_win_len (length v.tx_buffer.bytes)) (sym e) tt) });
   probes_tail = λ v at e h. ((begins_ordered now).probes_tail v at e h.0, record { rfc = h.1.rfc; row = rests_row v.state (retransmit_from now (retransmitted v.rtte)) (flight v) v.remote_win_len (length v.tx_buffer.bytes) tt });
 }
 
@@ -333,7 +334,7 @@ module _ (v w : View) (i j : Counts) where
         same = ap (λ (x : View). x.rules) h ∙ process_ruled v.rules r v now word ip s refl
 
         step : IsAwakeByRfc v → IsAwakeByRfc w
-        step k = let is_so : w ≡ (processed_by rules.Rfc v now word ip s).view = h ∙ ap (λ x. (processed_by x v now word ip s).view) (b ∙ k.rfc) in subst IsAwakeByRfc (sym is_so) (process_awake v now word ip s a.ordered.una_small k (subst IsOrdered is_so o))
+        step k = let is_so : w ≡ (processed_by rules.Rfc v now word ip s).view = h ∙ ap (λ x. (processed_by x v now word ip s).view) (b ∙ k.rfc) in subst IsAwakeByRfc (sym is_so) (process_awake v now word ip s k (subst IsOrdered is_so o))
     call_awake (Dispatch f out h is) b o = by_rules (dispatch_ruled v.rules f v w out h refl) step a.awake
       where
         step : IsAwakeByRfc v → IsAwakeByRfc w

@@ -11,6 +11,7 @@ use Rattle.sock_tcp.specs.Arrival.{Arrival, arrival}
 use Rattle.sock_tcp.specs.Process.{ack_sent, by_verdict, challenged, processed_by, stopped, tuple_of}
 use Rattle.sock_tcp.specs.Replies.{ack_kept}
 use Rattle.sock_tcp.specs.Rfc.Checks.{checked, checked_in, is_forgotten, is_older, rst_checked, stamp_checked, verdict_by, verdict_then}
+use Rattle.sock_tcp.specs.Rfc.Windows.{windowed}
 use Rattle.sock_tcp.specs.Timers.{after, challenge_interval}
 use Rattle.sock_tcp.specs.View.{View}
 use Rattle.sock_tcp.specs.Window.{has_window, next_ack, receive_window, starts_inside}
@@ -86,7 +87,7 @@ pub blind_segments_change_nothing : BlindSegmentsChangeNothing
 unfolding processed_by
 blind_segments_change_nothing v now word ip s is w b =
     subst (λ r. OnlyAnswered v (by_verdict v.rules (verdict_by r v now s) v come).view) (sym is)
-    (blind_checked v now s (λ x. OnlyAnswered v (by_verdict v.rules (verdict_then x v s) v come).view) refl (challenged_answers v now s) w b)
+    (blind_checked v now s (λ x. OnlyAnswered v (by_verdict v.rules (verdict_then x v s) v come).view) refl (challenged_answers v now (windowed v.rules v s)) w b)
   where
     come : Arrival
-    come = arrival now (tuple_of ip s) word s
+    come = arrival now (tuple_of ip s) word (windowed v.rules v s)

@@ -9,6 +9,7 @@ use Rattle.sock_tcp.specs.Dispatch.{EmitTcp, packet_in, EmitsTo, Dispatches}
 use Rattle.sock_tcp.specs.Outgoing.{packet_of}
 use Rattle.sock_tcp.specs.Queues.{SendsWithIf, SendsWith, ReadsWithIf, ReadsWith, may_send, may_recv}
 use Rattle.tcp_laws.specs.SocketRun.{DispatchesOut, SendsTo, any_filling, answer_of, any_taking, read_answer_of}
+use Rattle.sock_tcp.specs.Rfc.Numbers.{outgoing}
 use Rattle.sock_tcp.specs.View.{View}
 use Rattle.sock_tcp.specs.declared.error.RecvError.{RecvError}
 use Rattle.sock_tcp.specs.declared.error.SendError.{SendError}
@@ -18,7 +19,7 @@ module _ {F C E G : Type 0} (g : EmitTcp F C E) (emit : F) (f : Facts) (tells : 
   record GoesOut (o : Option Tuple) (u : View) (c : C) (r : Result (Unit {0}) E) (w : View) (c' : C) : Type 0 where
     out : Option Sending
     socket : SendsTo o f u out w
-    emits : Emits g packet_of emit (option_map packet_in out) c r c'
+    emits : Emits g packet_of emit (option_map packet_in (outgoing u out)) c r c'
 
   goes_out : (o : Option Tuple) (u : View) (c : C) (r : Result (Unit {0}) E) (w : View) (c' : C) → EmitsTo g emit f tells clock o u c r w c' → GoesOut o u c r w c'
   goes_out None u c r w c' h = record { out = None; socket = (refl, h.view); emits = (h.answer, h.context) }

@@ -42,6 +42,7 @@ beginnings_keep v now = record {
   forgets = λ w k. record { tx = k.tx; rx = k.rx; una = k.una };
   begins_again = λ w at e k. record { tx = k.tx; rx = k.rx; una = k.una };
   marks = λ w e k. record { tx = k.tx; rx = k.rx; una = k.una };
+  goes_back = λ w at delay e k. record { tx = k.tx; rx = k.rx; una = k.una };
   probes_tail = λ w at e k. record { tx = k.tx; rx = k.rx; una = k.una };
 }
 

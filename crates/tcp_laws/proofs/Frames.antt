@@ -9,6 +9,7 @@ use Rattle.control_wire.specs.declared.tcp.TcpControl.{TcpControl}
 use Rattle.control_wire.specs.declared.tcp.TcpControl.TheVariants as control
 use Rattle.sock_core.specs.Received.{Received, received, written, gathered, taken_in, makes_fifth_range, holds_nothing}
 use Rattle.sock_tcp.specs.Arrival.{arrival}
+use Rattle.sock_tcp.specs.Rfc.Windows.{windowed}
 use Rattle.sock_tcp.specs.View.{View}
 use Rattle.sock_tcp.specs.Rfc.Checks.{verdict_by}
 use Rattle.sock_tcp.specs.Window.{receive_window, is_inside, cut_of, cut_bytes}
@@ -319,11 +320,7 @@ module _ (v : View) (now : Instant) (word : ℕ) (ip : IpRepr) (s : Segment) whe
   by_verdict_brings r verdicts.Drop = kept v (same v)
   by_verdict_brings r verdicts.Reset = kept v (same v)
   by_verdict_brings r verdicts.Challenge = kept _ (challenged_keeps s now v)
-  by_verdict_brings r verdicts.Pass = let h = tested_brings r (has_window v.state) in recovered_as (λ o. Brings o.view) r v now s _ h (recovered_brings _ h) h
-
-  pub process_brings : (r : Rules) → Brings (processed_by r v now word ip s).view
-  unfolding processed_by
-  process_brings r = by_verdict_brings r (verdict_by r v now s)
+  by_verdict_brings r verdicts.Pass = let h = tested_brings r (has_window v.state) in recovered_as (λ o. Brings o.view) r v now s _ h (recovered_brings _ h)
 
   -- ---- the peer
 
@@ -372,11 +369,7 @@ module _ (v : View) (now : Instant) (word : ℕ) (ip : IpRepr) (s : Segment) whe
   by_verdict_peers r verdicts.Drop p = p
   by_verdict_peers r verdicts.Reset p = p
   by_verdict_peers r verdicts.Challenge p = kept_peered _ (challenged_keeps s now v) p
-  by_verdict_peers r verdicts.Pass p = let h = tested_peers r (has_window v.state) p in recovered_as (λ o. Peered o.view) r v now s _ h (recovered_peers _ h) h
-
-  pub process_peers : (r : Rules) → Peered v → Peered (processed_by r v now word ip s).view
-  unfolding processed_by
-  process_peers r p = by_verdict_peers r (verdict_by r v now s) p
+  by_verdict_peers r verdicts.Pass p = let h = tested_peers r (has_window v.state) p in recovered_as (λ o. Peered o.view) r v now s _ h (recovered_peers _ h)
 
   -- ---- the reply
 
@@ -405,8 +398,18 @@ module _ (v : View) (now : Instant) (word : ℕ) (ip : IpRepr) (s : Segment) whe
   by_verdict_back r verdicts.Drop = tt
   by_verdict_back r verdicts.Reset = (refl, refl)
   by_verdict_back r verdicts.Challenge = challenged_back s now v
-  by_verdict_back r verdicts.Pass = let h = tested_back r (has_window v.state) in recovered_as (λ o. GoesBack s o.reply) r v now s _ h h h
+  by_verdict_back r verdicts.Pass = let h = tested_back r (has_window v.state) in recovered_as (λ o. GoesBack s o.reply) r v now s _ h h
 
-  pub process_back : (r : Rules) → GoesBack s (processed_by r v now word ip s).reply
-  unfolding processed_by
-  process_back r = by_verdict_back r (verdict_by r v now s)
+-- ---- the whole, of a segment with the window that it counts as telling
+
+pub process_brings : (v : View) (now : Instant) (word : ℕ) (ip : IpRepr) (s : Segment) (r : Rules) → Brings v now word ip s (processed_by r v now word ip s).view
+unfolding processed_by
+process_brings v now word ip s r = let h = by_verdict_brings v now word ip (windowed r v s) r (verdict_by r v now s) in record { listen = h.listen; rx = h.rx }
+
+pub process_peers : (v : View) (now : Instant) (word : ℕ) (ip : IpRepr) (s : Segment) (r : Rules) → Peered v now word ip s v → Peered v now word ip s (processed_by r v now word ip s).view
+unfolding processed_by
+process_peers v now word ip s r p = by_verdict_peers v now word ip (windowed r v s) r (verdict_by r v now s) p
+
+pub process_back : (v : View) (now : Instant) (word : ℕ) (ip : IpRepr) (s : Segment) (r : Rules) → GoesBack s (processed_by r v now word ip s).reply
+unfolding processed_by
+process_back v now word ip s r = by_verdict_back v now word ip (windowed r v s) r (verdict_by r v now s)

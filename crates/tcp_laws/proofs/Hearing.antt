@@ -1,11 +1,11 @@
 -- What a segment tells a socket that waits for its peer.
-use Rattle.std.proofs.Common.{◌≡◌, ℕ, ◌+◌, ◌-◌, ◌<◌, ◌≤◌, ◌^◌, ◌*◌, ◌⊎◌, inl, inr, Bool, true, false, refl, sym, ap, subst, ◌∙◌, List, [], length, Option, Some, arith}
+use Rattle.std.proofs.Common.{◌≡◌, ℕ, ◌+◌, ◌-◌, ◌<◌, ◌≤◌, ◌^◌, ◌*◌, ◌⊎◌, inl, inr, Bool, true, false, refl, sym, ap, subst, ◌∙◌, List, length, Option, Some, arith}
 use Rattle.std.specs.Prelude.{if◌then◌else◌, ◌==◌}
-use Rattle.std.proofs.lemmas.Bool.{and_parts, eq-eqb, eqb-true}
+use Rattle.std.proofs.lemmas.Bool.{and_parts, eqb-true}
 use Rattle.std.proofs.Math.Nat.{mul-pos}
 use Rattle.std.proofs.lemmas.Nat.{pow_pos}
 use Rattle.net_base.specs.declared.time.Duration.{Duration}
-use Rattle.control_wire.specs.Seq.{seq_eq, seq_sub}
+use Rattle.control_wire.specs.Seq.{seq_sub}
 use Rattle.sock_core.specs.Seq.{is_before, is_not_after}
 use Rattle.ip_wire.specs.declared.repr.IpRepr.{IpRepr}
 use Rattle.net_base.specs.declared.time.Instant.{Instant}
@@ -13,11 +13,11 @@ use Rattle.control_wire.specs.Segment.{Segment}
 use Rattle.control_wire.specs.declared.seq_number.TcpSeqNumber.{TcpSeqNumber}
 use Rattle.control_wire.specs.declared.tcp.TcpControl.{TcpControl}
 use Rattle.control_wire.specs.declared.tcp.TcpControl.TheVariants as control
-use Rattle.sock_tcp.specs.Arrival.{Arrival, arrival}
+use Rattle.sock_tcp.specs.Arrival.{arrival}
 use Rattle.sock_tcp.specs.Acked.{acked_at, acked_of, is_fin_acked}
-use Rattle.sock_tcp.specs.Advance.{advance_in, advanced, counted_control, moved_to, waiting}
+use Rattle.sock_tcp.specs.Advance.{advance_in, advanced, counted_control, moved_to, nothing_new_by, waiting}
 use Rattle.sock_tcp.specs.Due.{flight}
-use Rattle.sock_tcp.specs.Process.{Outcome, challenged, close_restarted, outside, bytes_taken, tuple_of, after_table, processed_inside, has_window, tested_by, by_verdict, processed, processed_by}
+use Rattle.sock_tcp.specs.Process.{Outcome, challenged, close_restarted, outside, bytes_taken, tuple_of, after_advance, after_table, processed_inside, has_window, tested_by, by_verdict, processed, processed_by}
 use Rattle.sock_tcp.specs.Replies.{ack_kept}
 use Rattle.sock_tcp.specs.Steps.{scale_of, window_of, window_taken, released, is_duplicate, is_last_ack, is_window_changed, duplicate_counted, ack_counted, una_advanced, acknowledged, timestamp_taken, timer_set, heard, joined, ack_delayed}
 use Rattle.sock_tcp.specs.Rfc.Checks.{verdict_by}
@@ -40,14 +40,13 @@ use Rattle.tcp_laws.proofs.Kept.{KeptByAnswers, bytes_kept, challenged_kept, hea
 use Rattle.tcp_laws.proofs.OrderedCalls.{reached_ordered}
 use Rattle.tcp_laws.proofs.OrderedSegments.{process_ordered}
 use Rattle.tcp_laws.proofs.Sleeping.{window_sends}
-use Rattle.sock_tcp.specs.Rfc.Recovery.{before_of, is_unheard, recovered, recovered_by, recovered_if}
-use Rattle.sock_tcp.specs.Rfc.Refused.{refused}
+use Rattle.sock_tcp.specs.Rfc.Recovery.{before_of, recovered, recovered_by}
+use Rattle.sock_tcp.specs.Rfc.Windows.{told_by, windowed}
 use Rattle.sock_tcp.specs.Timers.{idle_from}
 use Rattle.sock_tcp.specs.declared.recovery.Before.{Before}
 use Rattle.sock_tcp.specs.declared.rules.Rules.{Rules}
 use Rattle.sock_tcp.specs.declared.rules.Rules.TheVariants as rules
 use Rattle.sock_tcp.proofs.Recovering.{recovered_as, timer_as}
-use Rattle.sock_tcp.proofs.Refusing.{heard_alone, refused_as}
 
 unheard : (v : View) → HeardNothing v v
 unheard v = record { last = refl; timeout = refl; window = refl; timer = refl; queue = refl; una = refl; nxt = refl }
@@ -88,14 +87,14 @@ module _ (now : Instant) (s : Segment) where
     outside_unheard = (outside_kept Unheard now s answers_in_last_ack restarted_unheard v (unheard v, is)).0
 
     -- the rows of LAST-ACK, where nothing is acknowledged
-    row_unheard : (u : View) (c : TcpControl) (t : Tuple) (word : ℕ) (a : Acked) (o : ℕ) (bs : List ℕ) → HeardNothing v u → HeardNothing v (after_table (advance_in state.LastAck c false u (arrival now t word s) 0) (arrival now t word s) a o bs).view
-    row_unheard u control.None t word a o bs h =
+    row_unheard : (u : View) → u.rules ≡ rules.Smoltcp → (c : TcpControl) (t : Tuple) (word : ℕ) (a : Acked) (o : ℕ) (bs : List ℕ) → HeardNothing v u → HeardNothing v (after_table (advance_in state.LastAck c false u (arrival now t word s) 0) (arrival now t word s) a o bs).view
+    row_unheard u smoltcp control.None t word a o bs h =
         let k = challenged_unheard u in
-        record { last = k.last ∙ h.last; timeout = k.timeout ∙ h.timeout; window = k.window ∙ h.window; timer = k.timer ∙ h.timer; queue = k.queue ∙ h.queue; una = k.una ∙ h.una; nxt = k.nxt ∙ h.nxt }
-    row_unheard u control.Rst t word a o bs h = record { last = h.last; timeout = h.timeout; window = h.window; timer = h.timer; queue = h.queue; una = h.una; nxt = h.nxt }
-    row_unheard u control.Psh t word a o bs h = h
-    row_unheard u control.Syn t word a o bs h = h
-    row_unheard u control.Fin t word a o bs h = h
+        subst (λ r. HeardNothing v (after_advance (nothing_new_by r) u (arrival now t word s) a o bs).view) (sym smoltcp) (record { last = k.last ∙ h.last; timeout = k.timeout ∙ h.timeout; window = k.window ∙ h.window; timer = k.timer ∙ h.timer; queue = k.queue ∙ h.queue; una = k.una ∙ h.una; nxt = k.nxt ∙ h.nxt })
+    row_unheard u smoltcp control.Rst t word a o bs h = record { last = h.last; timeout = h.timeout; window = h.window; timer = h.timer; queue = h.queue; una = h.una; nxt = h.nxt }
+    row_unheard u smoltcp control.Psh t word a o bs h = h
+    row_unheard u smoltcp control.Syn t word a o bs h = h
+    row_unheard u smoltcp control.Fin t word a o bs h = h
 
   -- ---- a window
 
@@ -111,18 +110,6 @@ module _ (now : Instant) (s : Segment) where
 
 -- ---- what is done of loss behind the tables
 
-same_number_eq : (m n : TcpSeqNumber) → n ≡ m → seq_eq m n ≡ true
-same_number_eq m n e = eq-eqb m.0 n.0 (ap (λ (x : TcpSeqNumber). x.0) (sym e))
-
--- nothing in LAST-ACK, where SND.UNA has not moved
-stays_unheard : (P : View → Type 0) (r : Rules) (v : View) (now : Instant) (s : Segment) (o : Outcome) → v.state ≡ state.LastAck → o.view.local_seq_no ≡ v.local_seq_no → P o.view → P (recovered_by r v now s o).view
-unfolding before_of
-stays_unheard P rules.Smoltcp v now s o is una h = h
-stays_unheard P rules.Rfc v now s o is una h = subst (λ b. P (recovered_if b (before_of v s) o.view now)) (sym unheard) h
-  where
-    unheard : is_unheard (before_of v s) o.view ≡ true
-    unheard = rw (is, same_number_eq v.local_seq_no o.view.local_seq_no una) refl
-
 -- a fast retransmission that the tables call for
 fast_or_timed : (b : Before) (w : View) (now : Instant) → w.timer ≡ timer.FastRetransmit → Resends rules.Rfc (recovered b w now).timer
 unfolding recovered
@@ -133,11 +120,7 @@ fast_or_timed b w now e = timer_as (Resends rules.Rfc) b w now (inl e) (inl refl
 
 fast_resends : (r : Rules) (v : View) (now : Instant) (s : Segment) (o : Outcome) → o.view.timer ≡ timer.FastRetransmit → Resends r (recovered_by r v now s o).view.timer
 fast_resends rules.Smoltcp v now s o e = e
-fast_resends rules.Rfc v now s o e = by (is_unheard (before_of v s) o.view)
-  where
-    by : (b : Bool) → Resends rules.Rfc (recovered_if b (before_of v s) o.view now).timer
-    by true = inl e
-    by false = fast_or_timed (before_of v s) o.view now e
+fast_resends rules.Rfc v now s o e = fast_or_timed (before_of v s) o.view now e
 
 -- ---- a segment that passes and lies in the window
 
@@ -167,43 +150,23 @@ module _ (v : View) (now : Instant) (word : ℕ) (ip : IpRepr) (s : Segment) whe
   abbrev inside_as : State → TcpControl → Outcome
   inside_as st b = after_table (advance_in st b a.fin u (arrival now (tuple_of ip s) word s) a.len) (arrival now (tuple_of ip s) word s) a cut.offset (cut_bytes cut s.payload)
 
-  -- behind the tests of the verdict and of the window
-  in_window : (r : Rules) → verdict_by r v now s ≡ verdicts.Pass → has_window v.state ≡ true → is_inside (receive_window v) s.seq_number (length s.payload) ≡ true → processed_by r v now word ip s ≡ recovered_by r v now s (inside_as v.state c)
-  unfolding processed_by processed_inside advanced
-  in_window r p has i = rw (p, has, i) refl
+  -- behind the test of the window
+  in_window : (r : Rules) → has_window v.state ≡ true → is_inside (receive_window v) s.seq_number (length s.payload) ≡ true → by_verdict r verdicts.Pass v (arrival now (tuple_of ip s) word s) ≡ recovered_by r v now s (inside_as v.state c)
+  unfolding processed_inside advanced
+  in_window r has i = rw (has, i) refl
 
   -- ---- LAST-ACK
 
-  -- outside of the window, by either rules: a FIN stops there, and an acknowledgement of nothing is challenged
-  abbrev come : Arrival
-  come = arrival now (tuple_of ip s) word s
-
-  table_unheard : v.state ≡ state.LastAck → AcksNothing v s → (P : View → Type 0) (b : TcpControl) → P (after_table (advance_in state.LastAck b false v come 0) come a 0 []).view → P (processed_inside v come b 0 []).view
+  last_ack_by : v.rules ≡ rules.Smoltcp → v.state ≡ state.LastAck → AcksNothing v s → (b : Bool) → HeardNothing v (if b then processed_inside u (arrival now (tuple_of ip s) word s) c cut.offset (cut_bytes cut s.payload) else outside v now s).view
   unfolding processed_inside advanced
-  table_unheard is h P b p = subst (λ st. P (after_table (advance_in st b a.fin v come a.len) come a 0 []).view) (sym is) (subst (λ z. P (after_table (advance_in state.LastAck b z v come a.len) come a 0 []).view) (sym h.fin) (subst (λ n. P (after_table (advance_in state.LastAck b false v come n) come a 0 []).view) (sym h.bytes) p))
+  last_ack_by smoltcp is h true = subst (λ st. HeardNothing v (after_table (advance_in st c a.fin u (arrival now (tuple_of ip s) word s) a.len) (arrival now (tuple_of ip s) word s) a cut.offset (cut_bytes cut s.payload)).view) (sym is) (subst (λ z. HeardNothing v (after_table (advance_in state.LastAck c z u (arrival now (tuple_of ip s) word s) a.len) (arrival now (tuple_of ip s) word s) a cut.offset (cut_bytes cut s.payload)).view) (sym h.fin) (subst (λ n. HeardNothing v (after_table (advance_in state.LastAck c false u (arrival now (tuple_of ip s) word s) n) (arrival now (tuple_of ip s) word s) a cut.offset (cut_bytes cut s.payload)).view) (sym h.bytes) (row_unheard now s v is u smoltcp c (tuple_of ip s) word a cut.offset (cut_bytes cut s.payload) (record { last = refl; timeout = refl; window = refl; timer = refl; queue = refl; una = refl; nxt = refl }))))
+  last_ack_by smoltcp is h false = outside_unheard now s v is
 
-  refused_unheard : v.state ≡ state.LastAck → AcksNothing v s → (r : Rules) → HeardNothing v (refused r v come).view
-  refused_unheard is h r = refused_as (λ o. HeardNothing v o.view) r v come (record {
-    answers = outside_unheard now s v is;
-    counts = λ e. table_unheard is h (HeardNothing v) control.Fin (unheard v);
-    hears = λ e. alone.0;
-    ends = λ e. alone.0;
-    goes_on = λ e. let k = outside_unheard now s (heard_alone v come).view alone.1 in record { last = k.last ∙ alone.0.last; timeout = k.timeout ∙ alone.0.timeout; window = k.window ∙ alone.0.window; timer = k.timer ∙ alone.0.timer; queue = k.queue ∙ alone.0.queue; una = k.una ∙ alone.0.una; nxt = k.nxt ∙ alone.0.nxt };
-  })
-    where
-      alone : HeardNothing v (heard_alone v come).view × ((heard_alone v come).view.state ≡ state.LastAck)
-      alone = table_unheard is h (Unheard now s v is) control.None (challenged_kept (Unheard now s v is) now s (answers_in_last_ack now s v is) v (unheard v, is))
-
-  last_ack_by : (r : Rules) → v.state ≡ state.LastAck → AcksNothing v s → (b : Bool) → HeardNothing v (if b then processed_inside u (arrival now (tuple_of ip s) word s) c cut.offset (cut_bytes cut s.payload) else refused r v (arrival now (tuple_of ip s) word s)).view
-  unfolding processed_inside advanced
-  last_ack_by r is h true = subst (λ st. HeardNothing v (after_table (advance_in st c a.fin u (arrival now (tuple_of ip s) word s) a.len) (arrival now (tuple_of ip s) word s) a cut.offset (cut_bytes cut s.payload)).view) (sym is) (subst (λ z. HeardNothing v (after_table (advance_in state.LastAck c z u (arrival now (tuple_of ip s) word s) a.len) (arrival now (tuple_of ip s) word s) a cut.offset (cut_bytes cut s.payload)).view) (sym h.fin) (subst (λ n. HeardNothing v (after_table (advance_in state.LastAck c false u (arrival now (tuple_of ip s) word s) n) (arrival now (tuple_of ip s) word s) a cut.offset (cut_bytes cut s.payload)).view) (sym h.bytes) (row_unheard now s v is u c (tuple_of ip s) word a cut.offset (cut_bytes cut s.payload) (record { last = refl; timeout = refl; window = refl; timer = refl; queue = refl; una = refl; nxt = refl }))))
-  last_ack_by r is h false = refused_unheard is h r
-
-  last_ack : (r : Rules) → v.state ≡ state.LastAck → AcksNothing v s → (x : Verdict) → HeardNothing v (by_verdict r x v (arrival now (tuple_of ip s) word s)).view
-  last_ack r is h verdicts.Drop = unheard v
-  last_ack r is h verdicts.Reset = unheard v
-  last_ack r is h verdicts.Challenge = challenged_unheard now s v
-  last_ack r is h verdicts.Pass = let i = subst (λ st. HeardNothing v (tested_by r (has_window st) v come).view) (sym is) (last_ack_by r is h (is_inside (receive_window v) s.seq_number (length s.payload))) in stays_unheard (HeardNothing v) r v now s (tested_by r (has_window v.state) v come) is i.una i
+  last_ack : v.rules ≡ rules.Smoltcp → v.state ≡ state.LastAck → AcksNothing v s → (x : Verdict) → HeardNothing v (by_verdict rules.Smoltcp x v (arrival now (tuple_of ip s) word s)).view
+  last_ack smoltcp is h verdicts.Drop = unheard v
+  last_ack smoltcp is h verdicts.Reset = unheard v
+  last_ack smoltcp is h verdicts.Challenge = challenged_unheard now s v
+  last_ack smoltcp is h verdicts.Pass = subst (λ st. HeardNothing v (tested_by rules.Smoltcp (has_window st) v (arrival now (tuple_of ip s) word s)).view) (sym is) (last_ack_by smoltcp is h (is_inside (receive_window v) s.seq_number (length s.payload)))
 
   -- ---- the states that hear a window
 
@@ -233,8 +196,8 @@ module _ (v : View) (now : Instant) (word : ℕ) (ip : IpRepr) (s : Segment) whe
   unfolding recovered
   recovered_tells o h = h
 
-  tells : TellsWindow v now s → Tells (processed v now word ip s)
-  tells h = let t : Tells (inside_as v.state c) = rw h.no_bit (row_tells v.state a.fin h.hears) in rw (in_window v.rules h.passes (has v.state h.hears) h.inside) (recovered_as Tells v.rules v now s (inside_as v.state c) t (recovered_tells (inside_as v.state c) t) t)
+  tells_inside : hears_window v.state ≡ true → is_inside (receive_window v) s.seq_number (length s.payload) ≡ true → c ≡ control.None → (r : Rules) → Tells (by_verdict r verdicts.Pass v (arrival now (tuple_of ip s) word s))
+  tells_inside hears inside no_bit r = let t : Tells (inside_as v.state c) = rw no_bit (row_tells v.state a.fin hears) in rw (in_window r (has v.state hears) inside) (recovered_as Tells r v now s (inside_as v.state c) t (recovered_tells (inside_as v.state c) t))
 
   abbrev Fast : Outcome → Type 0
   Fast x = x.view.timer ≡ timer.FastRetransmit
@@ -259,14 +222,22 @@ not_listening _ h e = absurd cc
 
 pub last_ack_hears_nothing : LastAckHearsNothing
 unfolding processed_by
-last_ack_hears_nothing v now word ip s is h = last_ack v now word ip s v.rules is h (verdict_by v.rules v now s)
+last_ack_hears_nothing v now word ip s smoltcp is h = subst (λ r. HeardNothing v (processed_by r v now word ip s).view) (sym smoltcp) (last_ack v now word ip s smoltcp is h (verdict_by rules.Smoltcp v now s))
+
+-- a segment that passes, with the window that it counts as telling
+passed_as : (r : Rules) (v : View) (now : Instant) (word : ℕ) (ip : IpRepr) (s : Segment) → verdict_by r v now s ≡ verdicts.Pass → processed_by r v now word ip s ≡ by_verdict r verdicts.Pass v (arrival now (tuple_of ip s) word (windowed r v s))
+unfolding processed_by
+passed_as r v now word ip s p = ap (λ x. by_verdict r x v (arrival now (tuple_of ip s) word (windowed r v s))) p
+
+tells : (v : View) (now : Instant) (word : ℕ) (ip : IpRepr) (s : Segment) → TellsWindow v now s → (processed v now word ip s).view.remote_win_len ≡ window_of s.control (told_by v.rules v s) v.remote_win_scale
+tells v now word ip s h = ap (λ (o : Outcome). o.view.remote_win_len) (passed_as v.rules v now word ip s h.passes) ∙ tells_inside v now word ip (windowed v.rules v s) h.hears h.inside h.no_bit v.rules
 
 pub window_wakes : WindowWakes
 window_wakes v now word ip s t f r small numbered h z send =
     let w : View = (processed v now word ip s).view in
-    let e : w.remote_win_len ≡ window_of s.control s.window_len v.remote_win_scale = tells v now word ip s h in
+    let e : w.remote_win_len ≡ window_of s.control (told_by v.rules v s) v.remote_win_scale = tells v now word ip s h in
     let o : IsOrdered w = process_ordered now word ip s small numbered.ack_number v.rules v (reached_ordered v r) (λ is. absurd (not_listening v.state h.hears is)) in
-    window_sends w t f o (subst (λ n. 0 < n) (sym e) (some_window s.control s.window_len v.remote_win_scale h.window)) z send
+    window_sends w t f o (subst (λ n. 0 < n) (sym e) (some_window s.control (told_by v.rules v s) v.remote_win_scale h.window)) z send
 
 -- ---- the third duplicate
 
@@ -334,6 +305,7 @@ third_duplicate_wakes v now word ip s k r numbered h d =
     let b = (and_parts (is_before k v.remote_last_seq) _ (and_parts (is_last_ack v.local_rx_last_ack k) _ d.duplicate).1).0 in
     let n = not_all v.remote_last_seq k v.local_seq_no o.nxt_small (numbered.ack_number k d.number) o.una_small (omega (arith, i, o.room)) z b in
     let all : (acked_of v s.control s.ack_number).all ≡ false = ap (λ (x : Acked). x.all) e ∙ all_sent v.state s.control k v.local_seq_no v.remote_last_seq (length v.tx_buffer.bytes) n in
-    let timer = heard_third now s (u v now word ip s) (a v now word ip s) k d.number all d.nothing.bytes d.two_before d.duplicate (not_zero _ (some_window s.control s.window_len v.remote_win_scale h.window)) in
-    let fast : Fast v now word ip s (inside_as v now word ip s v.state (c v now word ip s)) = rw (h.no_bit, d.nothing.fin) (row_fast v now word ip s v.state h.hears timer) in
-    rw (in_window v now word ip s v.rules h.passes (has v now word ip s v.state h.hears) h.inside) (fast_resends v.rules v now s (inside_as v now word ip s v.state (c v now word ip s)) fast)
+    let y : Segment = windowed v.rules v s in
+    let timer = heard_third now y (u v now word ip y) (a v now word ip y) k d.number all d.nothing.bytes d.two_before d.duplicate (not_zero _ (some_window s.control (told_by v.rules v s) v.remote_win_scale h.window)) in
+    let fast : Fast v now word ip y (inside_as v now word ip y v.state (c v now word ip y)) = rw (h.no_bit, d.nothing.fin) (row_fast v now word ip y v.state h.hears timer) in
+    rw (passed_as v.rules v now word ip s h.passes, in_window v now word ip y v.rules (has v now word ip y v.state h.hears) h.inside) (fast_resends v.rules v now y (inside_as v now word ip y v.state (c v now word ip y)) fast)

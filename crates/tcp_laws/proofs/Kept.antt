@@ -16,7 +16,7 @@ use Rattle.sock_core.specs.Received.{receiving}
 use Rattle.sock_tcp.proofs.Lending.{free_within}
 pub use Rattle.sock_tcp.proofs.KeptSegments.{acked_view, timer_then, heard_kept, KeptByAnswers, challenged_kept, outside_kept, bytes_kept, KeptByRows, rows_kept, KeptBySegments, process_kept}
 use Rattle.sock_tcp.specs.Advance.{dropped}
-use Rattle.sock_tcp.specs.Begin.{last_ts_set, last_ts_set_at, told_ready, readied, retransmission_begun, fast_retransmission_marked, after_timer, after_timers, timers_by, begun, begun_to, unless_paused, ended, nothing_due, by_due, before_emit, before_emit_to, peer_of, time_wait_ended}
+use Rattle.sock_tcp.specs.Begin.{last_ts_set, last_ts_set_at, told_ready, readied, retransmission_begun, fast_retransmission_marked, after_timer, after_timers, begun, begun_to, unless_paused, ended, nothing_due, by_due, before_emit, before_emit_to, peer_of, time_wait_ended, probing_begun, timers_by}
 use Rattle.sock_tcp.specs.Closing.{aborted, closed}
 use Rattle.sock_tcp.specs.Content.{Sending}
 use Rattle.sock_tcp.specs.Due.{is_due}
@@ -68,6 +68,7 @@ pub record KeptByBeginnings (P : View → Type 0) (now : Instant) : Type 0 where
   pub forgets : (v : View) → P v → P (dropped v)
   pub begins_again : (v : View) (at : Instant) → v.timer ≡ timer.Retransmit at → P v → P (retransmission_begun v now)
   pub marks : (v : View) → v.timer ≡ timer.FastRetransmit → P v → P (fast_retransmission_marked v now)
+  pub goes_back : (v : View) (at : Instant) (delay : Duration) → v.timer ≡ timer.ZeroWindowProbe at delay → P v → P (probing_begun rules.Rfc v)
   pub probes_tail : (v : View) (at : Instant) → v.timer ≡ timer.Retransmit at → P v → P (tail_probed v now)
 
 module _ (P : View → Type 0) (now : Instant) (k : KeptByBeginnings P now) where
@@ -86,6 +87,15 @@ module _ (P : View → Type 0) (now : Instant) (k : KeptByBeginnings P now) wher
       go true = k.begins_again v at e h
       go false = h
   timer_kept timer.FastRetransmit v e h = k.marks v e h
+  timer_kept (timer.ZeroWindowProbe at delay) v e h = go (is_over at now)
+    where
+      by_rules : (r : Rules) → P (probing_begun r v)
+      by_rules rules.Smoltcp = h
+      by_rules rules.Rfc = k.goes_back v at delay e h
+
+      go : (b : Bool) → P (if b then probing_begun v.rules v else v)
+      go true = by_rules v.rules
+      go false = h
   timer_kept _ v e h = h
 
   pub timers_kept : (v : View) → P v → P (after_timers v now)

@@ -105,6 +105,20 @@ fast_row state.LastAck keep now flight n r = (idle_has_moment now keep, r.1)
 fast_row state.FinWait2 keep now flight n r = (idle_has_moment now keep, r.1, r.2)
 fast_row state.TimeWait keep now flight n r = absurd cc
 
+-- SND.NXT goes back, and the timer of probes stays
+back_row : (st : State) (at : Instant) (delay : Duration) (keep : Option Duration) (flight n : ℕ) → Row st (timer.ZeroWindowProbe at delay) keep flight n → Row st (timer.ZeroWindowProbe at delay) keep 0 n
+back_row state.Closed at delay keep flight n r = tt
+back_row state.Listen at delay keep flight n r = r
+back_row state.SynSent at delay keep flight n r = absurd r.0
+back_row state.SynReceived at delay keep flight n r = (tt, r.1, omega arith)
+back_row state.Established at delay keep flight n r = (tt, omega arith)
+back_row state.CloseWait at delay keep flight n r = (tt, omega arith)
+back_row state.FinWait1 at delay keep flight n r = (tt, omega arith)
+back_row state.Closing at delay keep flight n r = (tt, omega arith)
+back_row state.LastAck at delay keep flight n r = (tt, omega arith)
+back_row state.FinWait2 at delay keep flight n r = (tt, r.1, refl)
+back_row state.TimeWait at delay keep flight n r = absurd cc
+
 -- or it waits for a retransmission
 timed_row : (st : State) (now : Instant) (e : Estimator) (keep : Option Duration) (flight n : ℕ) → Row st timer.FastRetransmit keep flight n → Row st (retransmit_from now e) keep flight n
 timed_row state.Closed now e keep flight n r = tt
@@ -163,6 +177,14 @@ begins_ordered now = record {
     congestion = h.congestion;
     peered = h.peered;
     row = later_row v.state at now (retransmitted v.rtte) v.keep_alive _ _ (was v (timer.Retransmit at) e h);
+  };
+  goes_back = λ v at delay e h. record {
+    una_small = h.una_small;
+    nxt_small = h.una_small;
+    room = h.room;
+    congestion = h.congestion;
+    peered = h.peered;
+    row = subst (λ x. Row v.state x v.keep_alive (seq_sub v.local_seq_no v.local_seq_no) (length v.tx_buffer.bytes)) (sym e) (subst (λ i. Row v.state (timer.ZeroWindowProbe at delay) v.keep_alive i (length v.tx_buffer.bytes)) (sym (no_distance v.local_seq_no h.una_small)) (back_row v.state at delay v.keep_alive _ _ (subst (λ x. Row v.state x v.keep_alive (seq_sub v.remote_last_seq v.local_seq_no) (length v.tx_buffer.bytes)) e h.row)));
   };
 }
   where

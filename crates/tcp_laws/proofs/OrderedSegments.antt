@@ -14,12 +14,13 @@ use Rattle.control_wire.specs.declared.tcp.TcpControl.TheVariants as control
 use Rattle.sock_core.specs.Seq.{is_before, later_of}
 use Rattle.sock_tcp.specs.Arrival.{arrival}
 use Rattle.sock_tcp.specs.Acked.{acked_of, acked_at}
-use Rattle.sock_tcp.specs.Advance.{Advance, advance_in, advanced, continues, counted_control, dropped, fallen_back, fin_counted, moved_to, opened_state, options_taken, syn_answered, syn_received, waiting}
+use Rattle.sock_tcp.specs.Advance.{Advance, advance_in, advanced, continues, counted_control, dropped, fallen_back, fin_counted, moved_to, opened_state, options_taken, syn_answered, syn_received, waiting, nothing_new_by}
 use Rattle.sock_tcp.specs.Process.{challenged, close_restarted, timer_restarted, bytes_taken, tuple_of, after_table, processed_inside, has_window, cut_inside, tested_by, by_verdict, processed_by}
 use Rattle.sock_tcp.specs.Queue.{Queue, capacity}
 use Rattle.sock_tcp.specs.Replies.{ack_kept}
 use Rattle.sock_tcp.specs.Steps.{window_taken, released, is_duplicate, is_last_ack, is_window_changed, ack_heard, duplicate_counted, ack_counted, una_advanced, acknowledged, timestamp_taken, timer_set, timer_acked, probe_set, heard, joined, ack_delayed}
 use Rattle.sock_tcp.specs.Verdict.{fin_place, is_next, open_verdict, verdict_at, verdict_of}
+use Rattle.sock_tcp.specs.Rfc.Windows.{windowed}
 use Rattle.sock_tcp.specs.View.{View}
 use Rattle.sock_tcp.specs.Window.{receive_window, is_inside, cut_of}
 use Rattle.sock_tcp.specs.declared.acked.Acked.{Acked}
@@ -40,6 +41,7 @@ use Rattle.sock_tcp.specs.Rfc.Recovery.{before_it, before_of, controller_after, 
 use Rattle.sock_tcp.specs.Rfc.Refused.{is_plain_control, refused}
 use Rattle.sock_tcp.specs.declared.recovery.Before.{Before}
 use Rattle.sock_tcp.specs.declared.rules.Rules.{Rules}
+use Rattle.sock_tcp.specs.declared.rules.Rules.TheVariants as rules
 use Rattle.sock_tcp.proofs.Recovering.{recovered_as, waited_as}
 use Rattle.sock_tcp.proofs.Checking.{verdict_as}
 use Rattle.sock_tcp.proofs.Refusing.{fin_is_plain, heard_alone, plain_is_no_rst, refused_as}
@@ -352,11 +354,11 @@ module _ (s : Segment) (now : Instant) where
     row_with state.Closing control.None true k e is c = let r = own state.Closing is in moves state.TimeWait (waiting now v) k e (hearing state.TimeWait _ refl (peer state.Closing is) refl refl refl refl) (omega (arith, r.1)) (omega (arith, c.0)) (λ t m z. (z refl (omega (arith, r.1, c.0)) (omega (arith, c.1)), omega (arith, c.1), omega (arith, r.1, c.0)))
     row_with state.Closing control.None false k e is c = let r = own state.Closing is in moves state.Closing v k e (hearing state.Closing v is (peer state.Closing is) refl refl refl refl) (omega (arith, r.1)) (omega (arith, c.0)) (λ t m z. (m, omega (arith, r.1, c.0, c.1)))
     row_with state.LastAck control.None true k e is c = let r = own state.LastAck is in moves state.Closed (dropped v) k e (hearing state.Closed _ refl tt refl refl refl refl) (omega (arith, r.1)) (omega (arith, c.0)) (λ t m z. tt)
-    row_with state.LastAck control.None false k e is c = by (a.len == 0)
+    row_with state.LastAck control.None false k e is c = by (a.len == 0) v.rules
       where
-        by : (b : Bool) → After (record { view = v; next = if b then next.Challenge else next.Continue })
-        by true = challenged_ordered v h
-        by false = let r = own state.LastAck is in moves state.LastAck v k e (hearing state.LastAck v is (peer state.LastAck is) refl refl refl refl) (omega (arith, r.1)) (omega (arith, c.0)) (λ t m z. (m, omega (arith, r.1, c.0, c.1)))
+        by : (b : Bool) (r : Rules) → After (record { view = v; next = if b then nothing_new_by r else next.Continue })
+        by true rules.Smoltcp = challenged_ordered v h
+        by _ r = let r = own state.LastAck is in moves state.LastAck v k e (hearing state.LastAck v is (peer state.LastAck is) refl refl refl refl) (omega (arith, r.1)) (omega (arith, c.0)) (λ t m z. (m, omega (arith, r.1, c.0, c.1)))
     row_with _ _ fin k e is c = h
 
     row_without : (st : State) (c : TcpControl) (fin : Bool) → s.ack_number ≡ None → v.state ≡ st → CoversNone st a.len → After (advance_in st c fin v (arrival now t word s) a.len)
@@ -484,12 +486,15 @@ module _ (now : Instant) (word : ℕ) (ip : IpRepr) (s : Segment) (small : word 
     row = row_recovers w.state (waited_for (before_of v s) w now) w.timer w.keep_alive (seq_sub w.remote_last_seq w.local_seq_no) (length w.tx_buffer.bytes) (λ m. waited_as (λ t. HasMoment t w.keep_alive) (before_of v s) w now m tt (λ at e. tt) tt tt (λ at delay e. idle_has_moment now w.keep_alive)) i.row;
   }
 
-  pub process_ordered : (r : Rules) (v : View) → IsOrdered v → (v.state ≡ state.Listen → s.ack_number ≡ None) → IsOrdered (processed_by r v now word ip s).view
-  unfolding processed_by
-  process_ordered r v h bare = verdict_as (λ x. IsOrdered (by_verdict r x v (arrival now (tuple_of ip s) word s)).view) r v now s (λ w. h) (λ w. challenged_ordered s now v h) (by (verdict_of v s.control s.ack_number) refl)
-    where
-      by : (x : Verdict) → verdict_of v s.control s.ack_number ≡ x → IsOrdered (by_verdict r x v (arrival now (tuple_of ip s) word s)).view
-      by verdicts.Drop e = h
-      by verdicts.Reset e = h
-      by verdicts.Challenge e = challenged_ordered s now v h
-      by verdicts.Pass e = let i = tested_ordered r v h bare e (has_window v.state) in recovered_as (λ o. IsOrdered o.view) r v now s _ i (recovered_ordered v _ h i) i
+  verdict_ordered : (r : Rules) (v : View) → IsOrdered v → (v.state ≡ state.Listen → s.ack_number ≡ None) → (x : Verdict) → verdict_of v s.control s.ack_number ≡ x → IsOrdered (by_verdict r x v (arrival now (tuple_of ip s) word s)).view
+  verdict_ordered r v h bare verdicts.Drop e = h
+  verdict_ordered r v h bare verdicts.Reset e = h
+  verdict_ordered r v h bare verdicts.Challenge e = challenged_ordered s now v h
+  verdict_ordered r v h bare verdicts.Pass e = let i = tested_ordered r v h bare e (has_window v.state) in recovered_as (λ o. IsOrdered o.view) r v now s _ i (recovered_ordered v _ h i)
+
+-- of a segment with the window that it counts as telling
+pub process_ordered : (now : Instant) (word : ℕ) (ip : IpRepr) (s : Segment) → word < 2 ^ 32 → ForSome s.ack_number (λ k. k.0 < 2 ^ 32) → (r : Rules) (v : View) → IsOrdered v → (v.state ≡ state.Listen → s.ack_number ≡ None) → IsOrdered (processed_by r v now word ip s).view
+unfolding processed_by
+process_ordered now word ip s small ack r v h bare =
+    let y : Segment = windowed r v s in
+    verdict_as (λ x. IsOrdered (by_verdict r x v (arrival now (tuple_of ip s) word y)).view) r v now s (λ w. h) (λ w. challenged_ordered y now v h) (verdict_ordered now word ip y small ack r v h bare (verdict_of v s.control s.ack_number) refl)

@@ -20,6 +20,7 @@ use Rattle.sock_tcp.specs.Rfc.TailLoss.{tail_probed}
 use Rattle.sock_tcp.specs.Sent.{after_any, after_probe, snd_nxt_moved}
 use Rattle.sock_tcp.specs.Steps.{window_taken, released, duplicate_counted, ack_counted, una_advanced, timestamp_taken, timer_set, heard, joined, ack_delayed}
 use Rattle.sock_tcp.specs.Timers.{after, is_over}
+use Rattle.sock_tcp.specs.Rfc.Windows.{windowed}
 use Rattle.sock_tcp.specs.View.{View, fresh, moment_of}
 use Rattle.sock_tcp.specs.declared.acked.Acked.{Acked}
 use Rattle.tcp_laws.specs.Polling.{IsReached}
@@ -127,6 +128,7 @@ begins_paced now = record {
   forgets = λ v h. h;
   begins_again = λ v at e h. again_paced v.rtte h;
   marks = λ v e h. fast_paced v.rtte h;
+  goes_back = λ v at delay e h. fast_paced v.rtte h;
   probes_tail = λ v at e h. fast_paced v.rtte h;
 }
 
@@ -172,7 +174,7 @@ kept_paced : Kept (λ at. IsPaced) (λ at. Unit {0}) (λ last now. Unit {0}) (λ
 kept_paced = record {
   later = λ last now v c h. h;
   calls = λ last b. calls_paced;
-  segments = λ r now word ip s v small numbered bare h. process_kept IsPaced now word ip s (segments_paced s now word) r v h;
+  segments = λ r now word ip s v small numbered bare h. process_kept IsPaced now word ip s r v (segments_paced (windowed r v s) now word) h;
   beginnings = λ now. begins_paced now;
   resets = λ now v h. new_paced v;
   sendings = λ o f u w out h i. sends_kept IsPaced f (sends_paced (moment_of f)) o u w out h i;

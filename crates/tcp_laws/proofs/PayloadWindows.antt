@@ -13,8 +13,7 @@ use Rattle.sock_tcp.specs.declared.tuple.Tuple.{Tuple}
 use Rattle.sock_tcp.specs.View.{View, moment_of}
 use Rattle.control_wire.specs.Segment.{Segment}
 use Rattle.sock_tcp.specs.Due.{flight, congestion_left, effective_mss}
-use Rattle.sock_tcp.specs.Content.{carries_data, Sending, is_probing, window_left, hole_of, size_of, offset_of, asked, filled, emission_kind, of_kind, plain_segment, sent_as, content}
-use Rattle.sock_tcp.specs.Rfc.Scoreboard.{hole_size}
+use Rattle.sock_tcp.specs.Content.{carries_data, Sending, is_probing, window_left, size_of, offset_of, asked, filled, emission_kind, of_kind, plain_segment, sent_as, content, resent_size}
 use Rattle.tcp_laws.specs.Polling.{PayloadKeepsToWindows}
 
 neither : (p q : Bool) (k m w c : ℕ) → p ≡ false → q ≡ false → (if p then k else (if q then min 1 m else min (min w m) c)) ≤ min w c
@@ -29,7 +28,7 @@ or_none false n k h = omega arith
 -- what is asked for where nothing is sent again, nor probed
 asked_at_most : (v : View) (t : Tuple) (f : Facts) → v.pending_fast_retransmit ≡ false → is_probing v (moment_of f) ≡ false → asked v t f ≤ min (window_left v) (congestion_left v)
 unfolding asked
-asked_at_most v t f e p = or_none (carries_data v.state) (size_of v t f) (min (window_left v) (congestion_left v)) (neither v.pending_fast_retransmit (is_probing v (moment_of f)) (hole_size (hole_of v) (length v.tx_buffer.bytes) (effective_mss v t f)) (effective_mss v t f) (window_left v) (congestion_left v) e p)
+asked_at_most v t f e p = or_none (carries_data v.state) (size_of v t f) (min (window_left v) (congestion_left v)) (neither v.pending_fast_retransmit (is_probing v (moment_of f)) (resent_size v (effective_mss v t f)) (effective_mss v t f) (window_left v) (congestion_left v) e p)
 
 abbrev pub len_in : Option Segment → ℕ
 len_in None = 0

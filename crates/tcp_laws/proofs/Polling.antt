@@ -64,7 +64,7 @@ no_effect : (m : Timer) (v : View) (now : Instant) → IsLater (timer_poll m) no
 no_effect (timer.Retransmit t) v now h = rw (not_over t now h) refl
 no_effect timer.FastRetransmit v now h = absurd h
 no_effect (timer.Idle o) v now h = refl
-no_effect (timer.ZeroWindowProbe t delay) v now h = refl
+no_effect (timer.ZeroWindowProbe t delay) v now h = rw (not_over t now h) refl
 no_effect (timer.Close t) v now h = refl
 
 no_over : (m : Timer) (now : Instant) → IsLater (timer_poll m) now → is_retransmission_over m now ≡ false

@@ -19,6 +19,7 @@ use Rattle.sock_tcp.specs.Sent.{after_any, after_probe, snd_nxt_moved}
 use Rattle.sock_tcp.specs.Settings.{keep_alive_timer}
 use Rattle.sock_tcp.specs.Steps.{window_taken, released, ack_heard, duplicate_counted, ack_counted, una_advanced, timestamp_taken, timer_set, timer_acked, probe_ended, probe_set, begins_probe, heard, joined, ack_delayed}
 use Rattle.sock_tcp.specs.Timers.{idle_from, is_idle, keep_alive_renewed, probe_doubled, probe_from, retransmit_unless_set}
+use Rattle.sock_tcp.specs.Rfc.Windows.{windowed}
 use Rattle.sock_tcp.specs.View.{View, fresh, moment_of}
 use Rattle.sock_tcp.specs.declared.acked.Acked.{Acked}
 use Rattle.sock_tcp.specs.declared.state.State.{State}
@@ -155,6 +156,7 @@ module _ (now : Instant) where
     forgets = λ v h. h;
     begins_again = λ v at e h. record { window = begun_as (λ t. ProbesIn t v.remote_win_len) v.rules v.remote_win_len (length v.tx_buffer.bytes) now v.keep_alive (retransmitted (backed_off v.rtte)) (idle_probes now v.keep_alive v.remote_win_len) (λ z some. z); mss = h.mss };
     marks = λ v e h. record { window = marked_as (λ t. ProbesIn t v.remote_win_len) v.rules now v.keep_alive (retransmitted v.rtte) (idle_probes now v.keep_alive v.remote_win_len) tt; mss = h.mss };
+    goes_back = λ v at delay e h. record { window = h.window; mss = h.mss };
     probes_tail = λ v at e h. record { window = tt; mss = h.mss };
   }
 
@@ -225,7 +227,7 @@ pub kept_probing : Kept (λ at. IsProbing) (λ at. Unit {0}) (λ last now. Unit 
 kept_probing = record {
   later = λ last now v c h. h;
   calls = λ last b. calls_probing;
-  segments = λ r now word ip s v small numbered bare h. process_kept IsProbing now word ip s (segments_probing s now word) r v h;
+  segments = λ r now word ip s v small numbered bare h. process_kept IsProbing now word ip s r v (segments_probing (windowed r v s) now word) h;
   beginnings = λ now. begins_probing now;
   resets = λ now v h. new_probing v;
   sendings = λ o f u w out h i. sends_kept IsProbing f (sends_probing (moment_of f)) o u w out h i;

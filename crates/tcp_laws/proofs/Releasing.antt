@@ -9,6 +9,7 @@ use Rattle.control_wire.specs.declared.seq_number.TcpSeqNumber.{TcpSeqNumber}
 use Rattle.control_wire.specs.declared.tcp.TcpControl.{TcpControl}
 use Rattle.sock_tcp.specs.Arrival.{arrival}
 use Rattle.sock_tcp.specs.Queue.{Queue}
+use Rattle.sock_tcp.specs.Rfc.Windows.{windowed}
 use Rattle.sock_tcp.specs.View.{View}
 use Rattle.sock_tcp.specs.Rfc.Checks.{verdict_by}
 use Rattle.sock_tcp.specs.Window.{receive_window, is_inside, cut_of, cut_bytes}
@@ -148,8 +149,8 @@ module _ (v : View) (now : Instant) (word : ℕ) (ip : IpRepr) (s : Segment) whe
     by_verdict_releases r verdicts.Drop = none_leave v v (same v)
     by_verdict_releases r verdicts.Reset = none_leave v v (same v)
     by_verdict_releases r verdicts.Challenge = none_leave v (challenged v now s).view (challenged_kept (Same v) now s (answers_same s now v) v (same v))
-    by_verdict_releases r verdicts.Pass = let h = tested_releases r (has_window v.state) in recovered_as (λ o. Releases v o.view) r v now s _ h (recovered_releases _ h) h
+    by_verdict_releases r verdicts.Pass = let h = tested_releases r (has_window v.state) in recovered_as (λ o. Releases v o.view) r v now s _ h (recovered_releases _ h)
 
-    pub process_releases : (r : Rules) → Releases v (processed_by r v now word ip s).view
-    unfolding processed_by
-    process_releases r = by_verdict_releases r (verdict_by r v now s)
+pub process_releases : (v : View) (now : Instant) (word : ℕ) (ip : IpRepr) (s : Segment) → word < 2 ^ 32 → ForSome s.ack_number (λ a. a.0 < 2 ^ 32) → (r : Rules) → Releases v (processed_by r v now word ip s).view
+unfolding processed_by
+process_releases v now word ip s small ack r = by_verdict_releases v now word ip (windowed r v s) small ack r (verdict_by r v now s)

@@ -15,6 +15,7 @@ use Rattle.sock_tcp.specs.Rfc.Recovery.{recovered}
 use Rattle.sock_tcp.specs.Rfc.TailLoss.{tail_probed}
 use Rattle.sock_tcp.specs.Sent.{after_any, after_probe, snd_nxt_moved}
 use Rattle.sock_tcp.specs.Steps.{ack_counted, ack_delayed, duplicate_counted, heard, joined, released, timer_set, timestamp_taken, una_advanced, window_taken}
+use Rattle.sock_tcp.specs.Rfc.Windows.{windowed}
 use Rattle.sock_tcp.specs.View.{View, fresh, moment_of}
 use Rattle.sock_tcp.specs.declared.acked.Acked.{Acked}
 use Rattle.sock_tcp.specs.declared.rules.Rules.{Rules}
@@ -67,7 +68,7 @@ module _ (r : Rules) where
     }
 
   pub process_ruled : (x : Rules) (v : View) (now : Instant) (word : ℕ) (ip : IpRepr) (s : Segment) → IsRuled v → IsRuled (processed_by x v now word ip s).view
-  process_ruled x v now word ip s h = process_kept IsRuled now word ip s (segments_ruled s now word) x v h
+  process_ruled x v now word ip s h = process_kept IsRuled now word ip s x v (segments_ruled (windowed x v s) now word) h
 
   begins_ruled : (now : Instant) → KeptByBeginnings IsRuled now
   unfolding retransmission_begun fast_retransmission_marked tail_probed
@@ -78,6 +79,7 @@ module _ (r : Rules) where
     forgets = λ v h. h;
     begins_again = λ v at e h. h;
     marks = λ v e h. h;
+    goes_back = λ v at delay e h. h;
     probes_tail = λ v at e h. h;
   }
 

@@ -17,6 +17,7 @@ use Rattle.sock_tcp.specs.Rfc.Recovery.{recovered}
 use Rattle.sock_tcp.specs.Rfc.TailLoss.{tail_probed}
 use Rattle.sock_tcp.specs.Sent.{after_any, after_probe, snd_nxt_moved}
 use Rattle.sock_tcp.specs.Steps.{window_taken, released, duplicate_counted, ack_counted, una_advanced, timestamp_taken, timer_set, heard, joined, ack_delayed}
+use Rattle.sock_tcp.specs.Rfc.Windows.{windowed}
 use Rattle.sock_tcp.specs.View.{View, fresh, moment_of}
 use Rattle.sock_tcp.specs.declared.acked.Acked.{Acked}
 use Rattle.tcp_laws.specs.Polling.{IsReached}
@@ -121,6 +122,7 @@ begins_scaled now = record {
   forgets = λ v h. h;
   begins_again = λ v at e h. h;
   marks = λ v e h. h;
+  goes_back = λ v at delay e h. h;
   probes_tail = λ v at e h. h;
 }
 
@@ -154,7 +156,7 @@ kept_scaled : Kept (λ at. IsScaled) (λ at. Unit {0}) (λ last now. Unit {0}) (
 kept_scaled = record {
   later = λ last now v c h. h;
   calls = λ last b. calls_scaled;
-  segments = λ r now word ip s v small numbered bare h. process_kept IsScaled now word ip s (segments_scaled s now word) r v h;
+  segments = λ r now word ip s v small numbered bare h. process_kept IsScaled now word ip s r v (segments_scaled (windowed r v s) now word) h;
   beginnings = λ now. begins_scaled now;
   resets = λ now v h. new_scaled v;
   sendings = λ o f u w out h i. sends_kept IsScaled f (sends_scaled (moment_of f)) o u w out h i;

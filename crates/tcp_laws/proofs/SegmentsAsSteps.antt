@@ -17,6 +17,7 @@ use Rattle.sock_tcp.specs.Opening.{endpoints, connect_answer, after_connect, Con
 use Rattle.sock_tcp.specs.Process.{Outcome, AcceptsIn, Accepts, after_advance, after_table, by_verdict, cut_inside, has_window, outside, processed, processed_by, processed_inside, tested_by, tuple_of}
 use Rattle.tcp_laws.specs.SocketRun.{Counts, Step, Process, Connect, IsNumbered, after_segment, starting_if}
 use Rattle.sock_tcp.specs.Verdict.{verdict_of}
+use Rattle.sock_tcp.specs.Rfc.Windows.{windowed}
 use Rattle.sock_tcp.specs.View.{View}
 use Rattle.sock_tcp.specs.Window.{receive_window, is_inside, cut_of}
 use Rattle.sock_tcp.specs.declared.error.ConnectError.{ConnectError}
@@ -94,9 +95,11 @@ module _ (now : Instant) (m n : ℕ) (ip : IpRepr) (s : Segment) where
   verdict_alike r v verdicts.Challenge e = refl
   verdict_alike r v verdicts.Pass e = ap (recovered_by r v now s) (tested_alike r v (has_window v.state) refl e)
 
-  processed_alike : (r : Rules) (v : View) → draws (verdict_of v s.control s.ack_number) v.state s.control ≡ false → processed_by r v now m ip s ≡ processed_by r v now n ip s
-  unfolding processed_by
-  processed_alike r v e = verdict_as (λ x. by_verdict r x v (arrival now (tuple_of ip s) m s) ≡ by_verdict r x v (arrival now (tuple_of ip s) n s)) r v now s (λ w. refl) (λ w. refl) (verdict_alike r v (verdict_of v s.control s.ack_number) e)
+processed_alike : (now : Instant) (m n : ℕ) (ip : IpRepr) (s : Segment) (r : Rules) (v : View) → draws (verdict_of v s.control s.ack_number) v.state s.control ≡ false → processed_by r v now m ip s ≡ processed_by r v now n ip s
+unfolding processed_by
+processed_alike now m n ip s r v e =
+    let y : Segment = windowed r v s in
+    verdict_as (λ x. by_verdict r x v (arrival now (tuple_of ip s) m y) ≡ by_verdict r x v (arrival now (tuple_of ip s) n y)) r v now s (λ w. refl) (λ w. refl) (verdict_alike now m n ip y r v (verdict_of v s.control s.ack_number) e)
 
 -- ---- the calls
 

@@ -1,26 +1,25 @@
 -- A segment by the RFCs' rules: what the tables leave, and then what is done of loss, keeps a timer running.
 use Rattle.std.proofs.Common.{◌≡◌, ℕ, zero, suc, ◌-◌, ◌<◌, ◌^◌, ◌⊎◌, inl, inr, Bool, true, false, true≢false, not, ◌&&◌, ◌||◌, refl, sym, ap, subst, ◌∙◌, List, [], length, Option, Some, None, arith}
 use Rattle.std.specs.Prelude.{if◌then◌else◌, ◌==◌, nat_le}
-use Rattle.std.proofs.lemmas.Bool.{and_parts, eq-eqb, eqb-true, leb-true}
+use Rattle.std.proofs.lemmas.Bool.{eq-eqb, eqb-true, leb-true}
 use Rattle.ip_wire.specs.declared.repr.IpRepr.{IpRepr}
 use Rattle.net_base.specs.declared.time.Duration.{Duration}
 use Rattle.net_base.specs.declared.time.Instant.{Instant}
 use Rattle.control_wire.specs.Segment.{Segment}
-use Rattle.control_wire.specs.Seq.{seq_eq, seq_sub}
-use Rattle.control_wire.specs.declared.seq_number.TcpSeqNumber.{TcpSeqNumber}
 use Rattle.control_wire.specs.declared.tcp.TcpControl.{TcpControl}
 use Rattle.control_wire.specs.declared.tcp.TcpControl.TheVariants as control
 use Rattle.sock_tcp.specs.Acked.{acked_at, acked_of, is_fin_acked, syn_place}
-use Rattle.sock_tcp.specs.Advance.{advance_in, advanced, counted_control, fallen_back, fin_counted, options_taken, syn_answered, syn_received}
+use Rattle.sock_tcp.specs.Advance.{advance_in, advanced, counted_control, fallen_back, fin_counted, options_taken, syn_answered, syn_received, nothing_new_by}
 use Rattle.sock_tcp.specs.Arrival.{Arrival, arrival}
 use Rattle.sock_tcp.specs.Due.{flight}
 use Rattle.sock_tcp.specs.Process.{Outcome, after_advance, by_verdict, close_restarted, cut_inside, has_window, processed_by, processed_inside, tested_by, timer_restarted, tuple_of}
 use Rattle.sock_tcp.specs.Replies.{ack_kept}
 use Rattle.sock_tcp.specs.Rfc.Checks.{verdict_by}
-use Rattle.sock_tcp.specs.Rfc.Recovery.{before_of, gone_on_from, has_timer, is_called, is_last, is_news, is_unheard, recovered, recovered_by, recovered_if, resends, running, waited_for, waits_tail}
+use Rattle.sock_tcp.specs.Rfc.Recovery.{before_of, gone_on_from, has_timer, is_called, recovered, recovered_by, resends, running, waited_for, waits_tail}
 use Rattle.sock_tcp.specs.Rfc.Refused.{refused}
 use Rattle.sock_tcp.specs.Rfc.TailLoss.{is_alone, tail_waits}
 use Rattle.sock_tcp.specs.Steps.{ack_counted, ack_delayed, ack_heard, acknowledged, begins_probe, duplicate_counted, heard, is_duplicate, is_window_changed, joined, probe_ended, probe_set, released, timer_acked, timer_set, timestamp_taken, una_advanced, window_taken}
+use Rattle.sock_tcp.specs.Rfc.Windows.{windowed}
 use Rattle.sock_tcp.specs.Timers.{idle_from, probe_from, retransmit_from}
 use Rattle.sock_tcp.specs.View.{View}
 use Rattle.sock_tcp.specs.Window.{cut_of, is_inside, receive_window}
@@ -101,14 +100,12 @@ asks_row state.Closing t window n h = h
 asks_row state.LastAck t window n h = h
 asks_row _ t window n h = tt
 
--- and all of it in LAST-ACK, where SND.UNA has not moved, since nothing is done of loss then
-record Tabled (before : State) (from : TcpSeqNumber) (r : Rules) (st : State) (t : Timer) (una nxt : TcpSeqNumber) (window n : ℕ) : Type 0 where
+record Tabled (r : Rules) (st : State) (t : Timer) (window n : ℕ) : Type 0 where
   rfc : r ≡ rules.Rfc
   half : HalfIn st t window n
-  still : before ≡ state.LastAck → seq_eq from una ≡ true → AwakeIn st t (seq_sub nxt una) window n
 
-abbrev IsTabled : View → View → Type 0
-IsTabled v w = Tabled v.state v.local_seq_no w.rules w.state w.timer w.local_seq_no w.remote_last_seq w.remote_win_len (length w.tx_buffer.bytes)
+abbrev IsTabled : View → Type 0
+IsTabled w = Tabled w.rules w.state w.timer w.remote_win_len (length w.tx_buffer.bytes)
 
 -- ---- timers
 
@@ -206,60 +203,17 @@ module _ (now : Instant) where
         by false true = goes b.timer
         by false false = probes (waits_tail b w) left (runs w.timer asks)
 
--- ---- what an acknowledgement says
-
-abbrev MovesTo : Option TcpSeqNumber → TcpSeqNumber → Type 0
-MovesTo None una = ⊥
-MovesTo (Some k) una = 0 < seq_sub k una
-
-acked_moves : (st : State) (c : TcpControl) (o : Option TcpSeqNumber) (una nxt : TcpSeqNumber) (q : ℕ) → ((acked_at st c o una nxt q).len ≡ 0 → ⊥) → MovesTo o una
-unfolding acked_at
-acked_moves st control.Rst o una nxt q h = absurd (h refl)
-acked_moves st c None una nxt q h = absurd (h refl)
-acked_moves st c (Some k) una nxt q h = by (seq_sub k una) refl
-  where
-    n : ℕ
-    n = seq_sub k una - syn_place st
-
-    none : seq_sub k una ≡ 0 → (b : Bool) → (if b then n - 1 else n) ≡ 0
-    none e true = omega (arith, e)
-    none e false = omega (arith, e)
-
-    by : (m : ℕ) → seq_sub k una ≡ m → 0 < seq_sub k una
-    by zero e = absurd (h (none e (is_fin_acked st q n)))
-    by (suc m) e = omega (arith, e)
-
--- SND.UNA is there
-abbrev Una : Option TcpSeqNumber → TcpSeqNumber → Type 0
-Una None una = Unit {0}
-Una (Some k) una = una ≡ k
-
-not_same : (o : Option TcpSeqNumber) (from una : TcpSeqNumber) → from.0 < 2 ^ 32 → MovesTo o from → Una o una → seq_eq from una ≡ true → ⊥
-not_same None from una small m u e = absurd m
-not_same (Some k) from una small m u e =
-    let x : from.0 ≡ una.0 = eqb-true from.0 una.0 e in
-    let y : una.0 ≡ k.0 = ap (λ (z : TcpSeqNumber). z.0) u in
-    omega (arith, x, y, m, small)
-
-is_last_ack : (st : State) → is_last st ≡ true → st ≡ state.LastAck
-is_last_ack state.LastAck e = refl
-is_last_ack _ e = absurd cc
-
-twice_not : (b : Bool) → not (not b) ≡ true → b ≡ true
-twice_not true e = refl
-twice_not false e = absurd cc
-
 -- ---- a segment
 
-module _ (v : View) (now : Instant) (word : ℕ) (ip : IpRepr) (s : Segment) (small : v.local_seq_no.0 < 2 ^ 32) (awake : IsAwakeByRfc v) where
+module _ (v : View) (now : Instant) (word : ℕ) (ip : IpRepr) (s : Segment) (awake : IsAwakeByRfc v) where
   abbrev come : Arrival
   come = arrival now (tuple_of ip s) word s
 
   abbrev Left : View → Type 0
-  Left w = IsTabled v w
+  Left w = IsTabled w
 
   left_v : Left v
-  left_v = record { rfc = awake.rfc; half = half_row v.state v.timer (flight v) v.remote_win_len (length v.tx_buffer.bytes) awake.row; still = λ e i. awake.row }
+  left_v = record { rfc = awake.rfc; half = half_row v.state v.timer (flight v) v.remote_win_len (length v.tx_buffer.bytes) awake.row }
 
   answers_left : KeptByAnswers Left
   unfolding ack_kept
@@ -267,7 +221,7 @@ module _ (v : View) (now : Instant) (word : ℕ) (ip : IpRepr) (s : Segment) (sm
 
   restarts_left : (w : View) → Left w → Left (close_restarted w now)
   unfolding close_restarted
-  restarts_left w h = record { rfc = h.rfc; half = restarted_half now w.state w.timer w.remote_win_len (length w.tx_buffer.bytes) h.half; still = λ e i. restarted_row now w.state w.timer (flight w) w.remote_win_len (length w.tx_buffer.bytes) (h.still e i) }
+  restarts_left w h = record { rfc = h.rfc; half = restarted_half now w.state w.timer w.remote_win_len (length w.tx_buffer.bytes) h.half }
 
   joins_left : (w : View) (o : ℕ) (bs : List ℕ) → Left w → Left (ack_delayed (joined w o bs) now)
   unfolding joined ack_delayed
@@ -293,93 +247,63 @@ module _ (v : View) (now : Instant) (word : ℕ) (ip : IpRepr) (s : Segment) (sm
       sets : (y : View) → Asks (timer_then (λ w. Unit {0}) now s u a y).timer (timer_then (λ w. Unit {0}) now s u a y).remote_win_len (length (timer_then (λ w. Unit {0}) now s u a y).tx_buffer.bytes)
       sets y = let z = timestamp_taken y s in set_asks now (timer_acked z.timer z now a) z a
 
-  una_from : (k : Option TcpSeqNumber) (w : View) (n : ℕ) (changed : Bool) → Una k (acknowledged w k now n (length s.payload) changed).local_seq_no
-  unfolding acknowledged duplicate_counted ack_counted una_advanced
-  una_from None w n changed = tt
-  una_from (Some k) w n changed = go (is_duplicate w k (length s.payload) changed)
+  heard_left : (w : View) (a : Acked) → w.rules ≡ rules.Rfc → Left (heard w now a s)
+  heard_left w a rfc = record { rfc = heard_rules w a rfc; half = asks_row h.state h.timer h.remote_win_len (length h.tx_buffer.bytes) (heard_asks w a) }
     where
-      go : (b : Bool) → (ack_heard b w now k n).local_seq_no ≡ k
-      go true = refl
-      go false = refl
-
-  heard_una : (u : View) (a : Acked) → Una s.ack_number (heard u now a s).local_seq_no
-  unfolding heard timer_set timestamp_taken
-  heard_una u a = una_from s.ack_number (released (window_taken u now s.control s.window_len) a.len) a.len (is_window_changed u s.control s.window_len)
-
-  heard_left : (u w : View) → u.local_seq_no ≡ v.local_seq_no → w.rules ≡ rules.Rfc → (v.state ≡ state.LastAck → (w.state ≡ state.Closed) ⊎ ((acked_of u s.control s.ack_number).len ≡ 0 → ⊥)) → Left (heard w now (acked_of u s.control s.ack_number) s)
-  heard_left u w una rfc last = record { rfc = heard_rules w a rfc; half = asks_row h.state h.timer h.remote_win_len (length h.tx_buffer.bytes) (heard_asks w a); still = λ e i. by (last e) i }
-    where
-      a : Acked
-      a = acked_of u s.control s.ack_number
-
       h : View
       h = heard w now a s
 
-      row : (st : State) → st ≡ state.Closed → AwakeIn st h.timer (flight h) h.remote_win_len (length h.tx_buffer.bytes)
-      row state.Closed e = tt
-      row _ e = absurd cc
-
-      by : (w.state ≡ state.Closed) ⊎ (a.len ≡ 0 → ⊥) → seq_eq v.local_seq_no h.local_seq_no ≡ true → AwakeIn h.state h.timer (flight h) h.remote_win_len (length h.tx_buffer.bytes)
-      by (inl e) i = row h.state (heard_state w a ∙ e)
-      by (inr some) i = absurd (not_same s.ack_number v.local_seq_no h.local_seq_no small (subst (MovesTo s.ack_number) una (acked_moves u.state s.control s.ack_number u.local_seq_no u.remote_last_seq (length u.tx_buffer.bytes) some)) (heard_una w a) i)
-
   -- ---- the rows
 
-  module _ (u : View) (same_state : u.state ≡ v.state) (same_una : u.local_seq_no ≡ v.local_seq_no) (h : Left u) where
+  module _ (u : View) (h : Left u) where
     abbrev a : Acked
     a = acked_of u s.control s.ack_number
 
     abbrev Ends : Next → View → Type 0
     Ends next.Stop w = Left w
     Ends next.Challenge w = Left w
-    Ends next.Continue w = (w.rules ≡ rules.Rfc) × (v.state ≡ state.LastAck → (w.state ≡ state.Closed) ⊎ (a.len ≡ 0 → ⊥))
-
-    other : (st : State) → u.state ≡ st → is_last st ≡ false → v.state ≡ state.LastAck → ⊥
-    other st is n e = true≢false (sym (ap is_last (sym is ∙ same_state ∙ e)) ∙ n)
+    Ends next.Continue w = w.rules ≡ rules.Rfc
 
     fallen : Left (fallen_back u)
     unfolding fallen_back
-    fallen = record { rfc = h.rfc; half = half (u.listen_endpoint.port == 0); still = λ e i. row (u.listen_endpoint.port == 0) }
+    fallen = record { rfc = h.rfc; half = half (u.listen_endpoint.port == 0) }
       where
         half : (b : Bool) → HalfIn (if b then state.Closed else state.Listen) u.timer u.remote_win_len (length u.tx_buffer.bytes)
         half true = tt
         half false = tt
 
-        row : (b : Bool) → AwakeIn (if b then state.Closed else state.Listen) u.timer (flight u) u.remote_win_len (length u.tx_buffer.bytes)
-        row true = tt
-        row false = tt
-
     rows_end : (st : State) (c : TcpControl) (fin : Bool) → u.state ≡ st → Ends (advance_in st c fin u come a.len).next (advance_in st c fin u come a.len).view
     unfolding syn_received syn_answered options_taken fin_counted
     rows_end state.SynReceived control.Rst fin is = fallen
-    rows_end _ control.Rst fin is = record { rfc = h.rfc; half = tt; still = λ e i. tt }
-    rows_end state.Listen control.Syn fin is = (h.rfc, λ e. absurd (other state.Listen is refl e))
-    rows_end state.SynSent control.Syn fin is = (h.rfc, λ e. absurd (other state.SynSent is refl e))
-    rows_end state.SynReceived control.None fin is = (h.rfc, λ e. absurd (other state.SynReceived is refl e))
-    rows_end state.SynReceived control.Fin fin is = (h.rfc, λ e. absurd (other state.SynReceived is refl e))
-    rows_end state.Established control.None fin is = (h.rfc, λ e. absurd (other state.Established is refl e))
-    rows_end state.Established control.Fin fin is = (h.rfc, λ e. absurd (other state.Established is refl e))
-    rows_end state.FinWait1 control.None true is = (h.rfc, λ e. absurd (other state.FinWait1 is refl e))
-    rows_end state.FinWait1 control.None false is = (h.rfc, λ e. absurd (other state.FinWait1 is refl e))
-    rows_end state.FinWait1 control.Fin true is = (h.rfc, λ e. absurd (other state.FinWait1 is refl e))
-    rows_end state.FinWait1 control.Fin false is = (h.rfc, λ e. absurd (other state.FinWait1 is refl e))
-    rows_end state.FinWait2 control.None fin is = (h.rfc, λ e. absurd (other state.FinWait2 is refl e))
-    rows_end state.FinWait2 control.Fin fin is = (h.rfc, λ e. absurd (other state.FinWait2 is refl e))
-    rows_end state.CloseWait control.None fin is = (h.rfc, λ e. absurd (other state.CloseWait is refl e))
-    rows_end state.Closing control.None true is = (h.rfc, λ e. absurd (other state.Closing is refl e))
-    rows_end state.Closing control.None false is = (h.rfc, λ e. absurd (other state.Closing is refl e))
-    rows_end state.LastAck control.None true is = (h.rfc, λ e. inl refl)
-    rows_end state.LastAck control.None false is = by (a.len == 0) refl
+    rows_end _ control.Rst fin is = record { rfc = h.rfc; half = tt }
+    rows_end state.Listen control.Syn fin is = h.rfc
+    rows_end state.SynSent control.Syn fin is = h.rfc
+    rows_end state.SynReceived control.None fin is = h.rfc
+    rows_end state.SynReceived control.Fin fin is = h.rfc
+    rows_end state.Established control.None fin is = h.rfc
+    rows_end state.Established control.Fin fin is = h.rfc
+    rows_end state.FinWait1 control.None true is = h.rfc
+    rows_end state.FinWait1 control.None false is = h.rfc
+    rows_end state.FinWait1 control.Fin true is = h.rfc
+    rows_end state.FinWait1 control.Fin false is = h.rfc
+    rows_end state.FinWait2 control.None fin is = h.rfc
+    rows_end state.FinWait2 control.Fin fin is = h.rfc
+    rows_end state.CloseWait control.None fin is = h.rfc
+    rows_end state.Closing control.None true is = h.rfc
+    rows_end state.Closing control.None false is = h.rfc
+    rows_end state.LastAck control.None true is = h.rfc
+    rows_end state.LastAck control.None false is = by (a.len == 0) u.rules
       where
-        by : (b : Bool) → (a.len == 0) ≡ b → Ends (if b then next.Challenge else next.Continue) u
-        by true e = h
-        by false e = (h.rfc, λ i. inr (λ z. true≢false (sym (eq-eqb a.len 0 z) ∙ e)))
+        by : (b : Bool) (r : Rules) → Ends (if b then nothing_new_by r else next.Continue) u
+        by true rules.Smoltcp = h
+        by true rules.Rfc = h.rfc
+        by false r = h.rfc
     rows_end _ _ fin is = h
 
     after_left : (x : Next) (w : View) (o : ℕ) (bs : List ℕ) → Ends x w → Left (after_advance x w come a o bs).view
     after_left next.Stop w o bs e = e
     after_left next.Challenge w o bs e = challenged_kept Left now s answers_left w e
-    after_left next.Continue w o bs e = bytes_kept Left now s answers_left joins_left (heard w now a s) o bs (heard_left u w same_una e.0 e.1)
+    after_left next.Continue w o bs e = bytes_kept Left now s answers_left joins_left (heard w now a s) o bs (heard_left w a e)
 
     inside_left : (c : TcpControl) (o : ℕ) (bs : List ℕ) → Left (processed_inside u come c o bs).view
     unfolding processed_inside advanced
@@ -390,22 +314,22 @@ module _ (v : View) (now : Instant) (word : ℕ) (ip : IpRepr) (s : Segment) (sm
   refused_left : Left (refused rules.Rfc v come).view
   refused_left = refused_as (λ o. Left o.view) rules.Rfc v come (record {
     answers = outside_kept Left now s answers_left restarts_left v left_v;
-    counts = λ e. inside_left v refl refl left_v control.Fin 0 [];
+    counts = λ e. inside_left v left_v control.Fin 0 [];
     hears = λ e. alone;
     ends = λ e. alone;
     goes_on = λ e. outside_kept Left now s answers_left restarts_left (heard_alone v come).view alone;
   })
     where
       alone : Left (heard_alone v come).view
-      alone = inside_left v refl refl left_v control.None 0 []
+      alone = inside_left v left_v control.None 0 []
 
   tested_left : (b : Bool) → Left (tested_by rules.Rfc b v come).view
-  tested_left false = inside_left v refl refl left_v s.control 0 []
+  tested_left false = inside_left v left_v s.control 0 []
   tested_left true = go (is_inside (receive_window v) s.seq_number (length s.payload))
     where
       go : (b : Bool) → Left (if b then cut_inside (receive_window v) (cut_of (receive_window v) s.seq_number (length s.payload)) v come else refused rules.Rfc v come).view
       go false = refused_left
-      go true = inside_left (record v { local_rx_last_seq = Some s.seq_number }) refl refl left_v (counted_control s.control (receive_window v) s.seq_number (length s.payload)) _ _
+      go true = inside_left (record v { local_rx_last_seq = Some s.seq_number }) left_v (counted_control s.control (receive_window v) s.seq_number (length s.payload)) _ _
 
   chosen : (w : View) (b : Bool) → b ≡ true → Rests (waited_for (before_of v s) w now) (flight w) w.remote_win_len (length w.tx_buffer.bytes) → Rests (if b then waited_for (before_of v s) w now else w.timer) (flight w) w.remote_win_len (length w.tx_buffer.bytes)
   chosen w true e h = h
@@ -431,33 +355,18 @@ module _ (v : View) (now : Instant) (word : ℕ) (ip : IpRepr) (s : Segment) (sm
 
   recovered_awake : (o : Outcome) → Left o.view → IsOrdered (recovered_by rules.Rfc v now s o).view → IsAwakeByRfc (recovered_by rules.Rfc v now s o).view
   unfolding recovered before_of
-  recovered_awake o h ordered = by (is_unheard (before_of v s) o.view) refl ordered
-    where
-      w : View
-      w = o.view
-
-      done : IsOrdered (recovered (before_of v s) w now) → IsAwakeByRfc (recovered (before_of v s) w now)
-      done i = record { rfc = h.rfc; row = recovered_row w w.state refl h.half i.row }
-
-      unheard : is_unheard (before_of v s) w ≡ true → IsAwakeByRfc w
-      unheard e =
-          let p = and_parts (is_last v.state) (not (is_news (before_of v s) w)) e in
-          record { rfc = h.rfc; row = h.still (is_last_ack v.state p.0) (twice_not (seq_eq v.local_seq_no w.local_seq_no) p.1) }
-
-      by : (b : Bool) → is_unheard (before_of v s) w ≡ b → IsOrdered (recovered_if b (before_of v s) w now) → IsAwakeByRfc (recovered_if b (before_of v s) w now)
-      by true e i = unheard e
-      by false e i = done i
+  recovered_awake o h ordered = record { rfc = h.rfc; row = recovered_row o.view o.view.state refl h.half ordered.row }
 
   answers_awake : KeptByAnswers IsAwakeByRfc
   unfolding ack_kept
   answers_awake = record { challenges = λ w at h. h; acks = λ w h. h }
 
-  pub process_awake : IsOrdered (processed_by rules.Rfc v now word ip s).view → IsAwakeByRfc (processed_by rules.Rfc v now word ip s).view
-  unfolding processed_by
-  process_awake = by (verdict_by rules.Rfc v now s)
-    where
-      by : (x : Verdict) → IsOrdered (by_verdict rules.Rfc x v come).view → IsAwakeByRfc (by_verdict rules.Rfc x v come).view
-      by verdicts.Drop i = awake
-      by verdicts.Reset i = awake
-      by verdicts.Challenge i = challenged_kept IsAwakeByRfc now s answers_awake v awake
-      by verdicts.Pass i = recovered_awake (tested_by rules.Rfc (has_window v.state) v come) (tested_left (has_window v.state)) i
+  verdict_awake : (x : Verdict) → IsOrdered (by_verdict rules.Rfc x v come).view → IsAwakeByRfc (by_verdict rules.Rfc x v come).view
+  verdict_awake verdicts.Drop i = awake
+  verdict_awake verdicts.Reset i = awake
+  verdict_awake verdicts.Challenge i = challenged_kept IsAwakeByRfc now s answers_awake v awake
+  verdict_awake verdicts.Pass i = recovered_awake (tested_by rules.Rfc (has_window v.state) v come) (tested_left (has_window v.state)) i
+
+pub process_awake : (v : View) (now : Instant) (word : ℕ) (ip : IpRepr) (s : Segment) → IsAwakeByRfc v → IsOrdered (processed_by rules.Rfc v now word ip s).view → IsAwakeByRfc (processed_by rules.Rfc v now word ip s).view
+unfolding processed_by
+process_awake v now word ip s awake = verdict_awake v now word ip (windowed rules.Rfc v s) awake (verdict_by rules.Rfc v now s)

@@ -19,6 +19,7 @@ use Rattle.sock_tcp.specs.Sent.{after_any, after_probe, snd_nxt_moved}
 use Rattle.sock_tcp.specs.Settings.{keep_alive_timer}
 use Rattle.sock_tcp.specs.Steps.{is_duplicate, is_window_changed, window_taken, released, ack_heard, duplicate_counted, ack_counted, una_advanced, acknowledged, timestamp_taken, timer_set, timer_acked, heard, joined, ack_delayed}
 use Rattle.sock_tcp.specs.Timers.{is_idle}
+use Rattle.sock_tcp.specs.Rfc.Windows.{windowed}
 use Rattle.sock_tcp.specs.View.{View, fresh, moment_of}
 use Rattle.sock_tcp.specs.declared.acked.Acked.{Acked}
 use Rattle.sock_tcp.specs.declared.timer.Timer.{Timer}
@@ -109,6 +110,7 @@ module _ (most : Duration) (minute : 60000000 ≤ most.micros) where
       forgets = λ v h. h;
       begins_again = λ v at e h. record { timer = begun_as (λ t. is_timer_by now most t ≡ true) v.rules v.remote_win_len (length v.tx_buffer.bytes) now v.keep_alive (retransmitted (backed_off v.rtte)) (idle_by most minute now v.keep_alive h.keep_short) (λ z some. probe_by most minute now (retransmitted (backed_off v.rtte)) (again_short v.rtte h.timeout)); waits = h.waits; timeout = again_short v.rtte h.timeout; keep_short = h.keep_short; delay_short = h.delay_short };
       marks = λ v e h. record { timer = marked_as (λ t. is_timer_by now most t ≡ true) v.rules now v.keep_alive (retransmitted v.rtte) (idle_by most minute now v.keep_alive h.keep_short) (rto_by most minute now (retransmitted v.rtte) (fast_short v.rtte h.timeout)); waits = h.waits; timeout = fast_short v.rtte h.timeout; keep_short = h.keep_short; delay_short = h.delay_short };
+      goes_back = λ v at delay e h. record { timer = h.timer; waits = h.waits; timeout = fast_short v.rtte h.timeout; keep_short = h.keep_short; delay_short = h.delay_short };
       probes_tail = λ v at e h. record { timer = rto_by most minute now (retransmitted v.rtte) (fast_short v.rtte h.timeout); waits = h.waits; timeout = fast_short v.rtte h.timeout; keep_short = h.keep_short; delay_short = h.delay_short };
     }
 
@@ -196,7 +198,7 @@ module _ (most : Duration) (minute : 60000000 ≤ most.micros) where
   kept_timed = record {
     later = λ last now v c h. later_timed last now most v c h;
     calls = λ last z. calls_timed last z;
-    segments = λ r now word ip s v small numbered bare h. process_kept (IsTimed now most) now word ip s (segments_timed s now word) r v h;
+    segments = λ r now word ip s v small numbered bare h. process_kept (IsTimed now most) now word ip s r v (segments_timed (windowed r v s) now word) h;
     beginnings = λ now. begins_timed now;
     resets = λ now v h. renewed_timed now v h;
     sendings = λ o f u w out h i. sends_kept (IsTimed (moment_of f) most) f (sends_timed (moment_of f)) o u w out h i;

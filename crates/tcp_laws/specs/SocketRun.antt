@@ -29,6 +29,7 @@ use Rattle.sock_tcp.specs.Queues.{may_recv, Reads, ReadsWithIf, ReadsWith}
 use Rattle.sock_tcp.specs.Sent.{left_by}
 use Rattle.sock_tcp.specs.Settings.{of_kind}
 use Rattle.sock_tcp.specs.Timers.{is_close_over}
+use Rattle.sock_tcp.specs.Rfc.Numbers.{outgoing}
 use Rattle.sock_tcp.specs.View.{View, moment_of}
 use Rattle.sock_tcp.specs.declared.emission.Kind.TheVariants as kind
 use Rattle.sock_tcp.specs.declared.error.ListenError.{ListenError}
@@ -186,7 +187,7 @@ pub record DispatchesOut {F C E : Type 0} (g : EmitTcp F C E) (emit : F) (f : Fa
     (v : View) (c : C) (r : Result (Unit {0}) E) (w : View) (c' : C) : Type 0 where
   pub out : Option Sending
   pub socket : Dispatched f v out w
-  pub emits : Emits g packet_of emit (option_map packet_in out) c r c'
+  pub emits : Emits g packet_of emit (option_map packet_in (outgoing (before_emit v f).view out)) c r c'
 
 -- a segment's numbers have 32 bits
 pub record IsNumbered (s : Segment) : Type 0 where

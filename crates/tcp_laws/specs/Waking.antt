@@ -13,6 +13,7 @@ use Rattle.sock_tcp.specs.Polls.{is_reached, timeout_poll}
 use Rattle.sock_tcp.specs.Process.{processed}
 use Rattle.sock_tcp.specs.Steps.{is_duplicate, is_window_changed}
 use Rattle.sock_tcp.specs.Rfc.Checks.{verdict_by}
+use Rattle.sock_tcp.specs.Rfc.Windows.{told_by}
 use Rattle.sock_tcp.specs.View.{View}
 use Rattle.sock_tcp.specs.Window.{receive_window, is_inside}
 use Rattle.sock_tcp.specs.declared.state.State.TheVariants as state
@@ -53,9 +54,10 @@ pub record HeardNothing (v w : View) : Type 0 where
   pub una : w.local_seq_no ≡ v.local_seq_no
   pub nxt : w.remote_last_seq ≡ v.remote_last_seq
 
--- in LAST-ACK whatever acknowledges nothing new says nothing else either, its window included
+-- by smoltcp's rules in LAST-ACK whatever acknowledges nothing new says nothing else either, its window included
 abbrev pub LastAckHearsNothing : Type 0
 LastAckHearsNothing = (v : View) (now : Instant) (word : ℕ) (ip : IpRepr) (s : Segment)
+    → v.rules ≡ rules.Smoltcp
     → v.state ≡ state.LastAck
     → AcksNothing v s
     → HeardNothing v (processed v now word ip s).view
@@ -70,13 +72,13 @@ hears_window state.CloseWait = true
 hears_window state.Closing = true
 hears_window _ = false
 
--- a segment that passes, lies in the receive window, counts as one without a control bit, and tells a window
+-- a segment that passes, lies in the receive window, counts as one without a control bit, and counts as telling a window
 pub record TellsWindow (v : View) (now : Instant) (s : Segment) : Type 0 where
   pub hears : hears_window v.state ≡ true
   pub passes : verdict_by v.rules v now s ≡ verdicts.Pass
   pub inside : is_inside (receive_window v) s.seq_number (length s.payload) ≡ true
   pub no_bit : counted_control s.control (receive_window v) s.seq_number (length s.payload) ≡ control.None
-  pub window : 0 < s.window_len
+  pub window : 0 < told_by v.rules v s
 
 -- bytes wait, or a FIN does
 abbrev pub HasToSend : View → Type 0
@@ -98,7 +100,7 @@ WindowWakes = (v : View) (now : Instant) (word : ℕ) (ip : IpRepr) (s : Segment
 pub record IsThirdDuplicate (v : View) (s : Segment) (ack : TcpSeqNumber) : Type 0 where
   pub number : s.ack_number ≡ Some ack
   pub nothing : AcksNothing v s
-  pub duplicate : is_duplicate v ack (length s.payload) (is_window_changed v s.control s.window_len) ≡ true
+  pub duplicate : is_duplicate v ack (length s.payload) (is_window_changed v s.control (told_by v.rules v s)) ≡ true
   pub two_before : v.local_rx_dup_acks ≡ 2
 
 abbrev pub is_retransmission : Timer → Bool

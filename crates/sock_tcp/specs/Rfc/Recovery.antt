@@ -345,25 +345,11 @@ recovered b w now =
       sacked = sacked_after b w;
     }
 
--- in LAST-ACK a segment that acknowledges nothing is not heard
-abbrev pub is_last : State → Bool
-is_last state.LastAck = true
-is_last _ = false
-
-abbrev pub is_unheard : Before → View → Bool
-is_unheard b w = is_last b.state && not (is_news b w)
-
-abbrev pub recovered_if : Bool → Before → View → Instant → View
-recovered_if unheard b w now = if unheard then w else recovered b w now
-
 -- smoltcp's rules do nothing more
 abbrev pub recovered_by : Rules → View → Instant → Segment → Outcome → Outcome
 recovered_by rules.Smoltcp v now s o = o
 recovered_by rules.Rfc v now s o =
-    record {
-      view = recovered_if (is_unheard (before_of v s) o.view) (before_of v s) o.view now;
-      reply = o.reply;
-    }
+    record { view = recovered (before_of v s) o.view now; reply = o.reply }
 
 -- ---- the retransmission timer is over: where the peer has no window and bytes wait, it is probed for, with the byte
 -- at SND.UNA (RFC 9293, section 3.8.6.1)

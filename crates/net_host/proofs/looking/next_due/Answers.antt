@@ -1,8 +1,10 @@
-use Rattle.std.proofs.Common.{rules, ◌≡◌, min, length, subst, arith}
+use Rattle.std.proofs.Common.{rules, to_z, of_z, w64, ◌≡◌, ◌∙◌, ◌<◌, min, length, sym, subst, arith}
+use Rattle.std.specs.Prelude.{◌<ℤ◌}
+use Rattle.host_bounds.specs.Bounding.{bound_at}
 use Rattle.sock_tcp.specs.View.{moment_of}
 use Rattle.net_host.specs.Looking.{LooksIn, MayLook}
 use Rattle.net_host.proofs.Sleepers.{each_len}
-use Rattle.net_host.proofs.Walking.{second_goes}
+use Rattle.net_host.proofs.Walking.{all_rest, over_now, second_goes}
 use Rattle.net_host.proofs.looking.next_due.Goals as goal
 
 pub due_between-requires-in-None-clause-within : goal.due_between-requires-in-None-clause-within
@@ -19,3 +21,10 @@ returns-in-None-clause-looked g c =
     second_goes (g.C.Context.facts c.args.cx.now) st c.args.turn c.min-start.result c.args.sockets.now.slots.items c.due_between.new.sockets.slots.items c.due_between-in-None.new.sockets.slots.items least c.due_between-in-None.result
     (subst (λ n. LooksIn (g.C.Context.facts c.args.cx.now) st c.min-start.result n c.args.sockets.now.slots.items _ c.due_between.new.sockets.slots.items) many c.in-None.ensures.looked)
     (subst (λ t. LooksIn (g.C.Context.facts c.args.cx.now) t.guards 0 c.min-start.result c.due_between.new.sockets.slots.items c.due_between-in-None.result c.due_between-in-None.new.sockets.slots.items) c.due_between.ensures.terms c.due_between-in-None.ensures.looked)
+
+pub returns-then-are_after-clause-looked : goal.returns-then-are_after-clause-looked
+returns-then-are_after-clause-looked g c =
+    let now_is : to_z w64 (of_z w64 c.now.result.micros) ≡ c.now.result.micros = search rules in
+    all_rest (g.C.Context.facts c.args.cx.now) c.args.sockets.now.terms.guards c.args.turn c.args.sockets.now.slots.items
+    (λ k l. over_now (g.C.Context.facts c.args.cx.now) c.args.sockets.now.terms c.args.sockets.now.bounds c.args.sockets.now.slots.items c.now.ensures.lawful.0 c.requires c.args.sockets.now.asleep k
+    (subst (λ z. z <ℤ bound_at c.args.sockets.now.bounds k) (now_is ∙ c.now.ensures.value) (c.are_after.ensures c.if-are_after.true k (subst (λ n. k < n) (sym c.args.sockets.now.as_many) l))))

@@ -8,7 +8,7 @@ use Rattle.sock_tcp.specs.Replies.{Answers, IsReplyStamp, echoed}
 use Rattle.pair_core.specs.declared.outcome.Outcome.TheVariants as outcome
 use Rattle.pair_core.specs.declared.segment.Segment.{Segment as Owned}
 use Rattle.pair_core.specs.Holding.{stored_of, kept_at}
-use Rattle.pair_core.specs.PairSteps.{delivered_to, processed_by, refusal_of, reply_index}
+use Rattle.pair_core.specs.PairSteps.{delivered_to, processed_by, refusal_of, reply_index, reply_out}
 use Rattle.pair_core.specs.PairViews.{HostView}
 use Rattle.pair_core.proofs.Deliveries.{get_map, read_twice, delivers, refused_by, refuses, takes_room}
 use Rattle.pair_core.proofs.wire.deliver.Goals.{else-not-accepted-via-then-not-accepted+else-eq, else-not-accepted-via-else-not-accepted}
@@ -56,7 +56,7 @@ returns-then-accepted-clause-step g c =
     (sym c.too_old.ensures ∙ c.if-too_old.false)
     (c.accepts-accepted.ensures.0 c.if-accepted.true)
     (c.deliver-reply.ensures.view ∙ ap (λ (x : Owned). delivered_to h m (stored_of x)) same)
-    (subst (λ (x : Owned). Answers (IsReplyStamp g.G.TsvalSource.tells (delivered_to h m (stored_of x)).source (echoed (delivered_to h m (stored_of x)).control_block (stored_of x).segment.timestamp)) (stored_of x).ip (processed_by h m (stored_of x)).reply r) same (subst (λ (k : HostView _). Answers (IsReplyStamp g.G.TsvalSource.tells k.source (echoed k.control_block (stored_of c.index.result.now).segment.timestamp)) (stored_of c.index.result.now).ip (processed_by h m (stored_of c.index.result.now)).reply r) c.deliver-reply.ensures.view c.deliver-reply.ensures.reply))
+    (subst (λ (x : Owned). Answers (IsReplyStamp g.G.TsvalSource.tells (delivered_to h m (stored_of x)).source (echoed (delivered_to h m (stored_of x)).control_block (stored_of x).segment.timestamp)) (stored_of x).ip (reply_out h m (stored_of x)) r) same (subst (λ (k : HostView _). Answers (IsReplyStamp g.G.TsvalSource.tells k.source (echoed k.control_block (stored_of c.index.result.now).segment.timestamp)) (stored_of c.index.result.now).ip (reply_out h m (stored_of c.index.result.now)) r) c.deliver-reply.ensures.view c.deliver-reply.ensures.reply))
     (ap outcome.Delivered c.store_reply.ensures.answer ∙ ap (λ (xs : List Owned). outcome.Delivered (reply_index (length (map stored_of xs)) r)) c.reserve.ensures.items)
     (c.store_reply.ensures.stored ∙ ap (λ (xs : List Owned). map stored_of xs ++ kept_at c.args.side r c.counts.result.released c.counts.result.taken) c.reserve.ensures.items
     ∙ ap (λ n. map stored_of items ++ kept_at c.args.side r n c.counts.result.taken) c.counts.ensures.released ∙ ap (λ n. map stored_of items ++ kept_at c.args.side r c.deliver-reply.new.self.released n) c.counts.ensures.taken)

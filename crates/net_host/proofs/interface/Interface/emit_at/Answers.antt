@@ -16,4 +16,6 @@ returns-clause-table g c = record {
   errors = c.set_now.ensures.errors;
   counters = c.set_now.ensures.counters;
   guards = c.set_now.ensures.guards;
+  cookies = c.set_now.ensures.cookies;
+  groups = c.set_now.ensures.groups;
 }

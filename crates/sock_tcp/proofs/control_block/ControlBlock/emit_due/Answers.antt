@@ -11,4 +11,4 @@ returns-in-None-finish_packet-clause-table g c =
 pub returns-clause-table : goal.returns-clause-table
 returns-clause-table g c =
     let t : c.args.self.now.tuple ≡ Some c.in-Some.tuple = search rules in
-    emitted g.F.FnOnce _ (g.C.Context.facts c.args.cx.now) c.in-Some.tuple c.args.stamp c.args.self.now c.payload-payload.result.now (segment_of c.plain.result) c.in-Some-finish_packet.kind c.finish_packet.new.packet c.now-now.result c.of-emitted.result c.is_ok.result _ _ c.emit-result.result _ t c.payload-payload.ensures.lent c.requires.stamped c.plain.ensures.segment c.in-Some-finish_packet.ensures.packet c.now-now.ensures.value c.of-emitted.ensures c.is_ok.ensures.value c.after_emit.ensures.view c.emit-result.ensures c.sends_packets.ensures
+    emitted g.F.FnOnce _ (g.C.Context.facts c.args.cx.now) c.in-Some.tuple c.args.stamp c.args.self.now c.payload-payload.result.now (segment_of c.plain.result) c.in-Some-finish_packet.kind c.finish_packet.new.packet c.number_packet.new.packet c.now-now.result c.of-emitted.result c.is_ok.result _ _ c.emit-result.result _ t c.payload-payload.ensures.lent c.requires.stamped c.plain.ensures.segment c.in-Some-finish_packet.ensures.packet c.now-now.ensures.value c.of-emitted.ensures c.number_packet.ensures.header c.number_packet.ensures.segment c.is_ok.ensures.value c.after_emit.ensures.view c.emit-result.ensures c.sends_packets.ensures

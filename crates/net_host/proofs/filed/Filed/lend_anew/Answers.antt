@@ -3,11 +3,11 @@ use Rattle.std.proofs.lemmas.List.{length-set}
 use Rattle.host_bounds.specs.Bounding.{at_once, bound_at}
 use Rattle.net_host.specs.Sleeping.{AreAsleep}
 use Rattle.net_host.proofs.Sleepers.{marked_set, marked_there}
-use Rattle.std.proofs.Common.{◌∙◌, sym, subst, ap}
+use Rattle.std.proofs.Common.{◌≡◌, ◌∙◌, sym, subst, ap}
 use Rattle.std.specs.Prelude.{slice_get}
-use Rattle.net_host.specs.Indexing.{IsIndexed, lent_of}
-use Rattle.net_host.proofs.Places.{lent_at_place}
-use Rattle.net_host.proofs.filed.Filed.lend.Goals as goal
+use Rattle.net_host.specs.Indexing.{IsIndexed, IsLentAt, lent_of}
+use Rattle.net_host.proofs.Places.{lent_at_place, lent_there}
+use Rattle.net_host.proofs.filed.Filed.lend_anew.Goals as goal
 
 pub invariant_of-self : goal.invariant_of-self
 invariant_of-self g c = record {
@@ -19,3 +19,8 @@ invariant_of-self g c = record {
 
 pub returns-clause-marked : goal.returns-clause-marked
 returns-clause-marked g c = ap (λ bs. bound_at bs c.args.place) c.set.ensures ∙ marked_there c.settle.new.self.bounds c.args.place
+
+pub returns-clause-lent : goal.returns-clause-lent
+returns-clause-lent g c =
+    let is : c.lent_at-self.result ≡ lent_of g.T.Keyed.keys_of c.args.place (slice_get c.settle.new.self.slots.items c.args.place) = c.lent_at-self.ensures ∙ ap (λ xs. lent_of g.T.Keyed.keys_of c.args.place (slice_get xs c.args.place)) c.deref.ensures.value in
+    subst (λ l. IsLentAt c.args.place (slice_get c.settle.new.self.slots.items c.args.place) l) (sym is) (lent_there g.T.Keyed.keys_of c.args.place (slice_get c.settle.new.self.slots.items c.args.place))

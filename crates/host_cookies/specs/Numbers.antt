@@ -1,0 +1,50 @@
+-- The number of an answer to a SYN.
+use Rattle.std.specs.Prelude.{ℕ, ℤ, pos, ◌+◌, ◌-◌, ◌*◌, ◌/◌, ◌%◌, ◌^◌, ◌==◌, ◌||◌, ◌+ℤ◌, unsigned_abs, List, Option, Some, None}
+use Rattle.std.specs.Prelude.{if◌then◌else◌}
+use Rattle.std.specs.Int.{from_be_bytes, w32, w128}
+use Rattle.ip_wire.specs.declared.address.IpAddress.{IpAddress}
+use Rattle.ip_wire.specs.declared.address.IpAddress.TheVariants as address
+use Rattle.rand_chacha.specs.ChaCha.{word_at}
+use Rattle.host_cookies.specs.declared.call.Call.{Call}
+
+-- ---- the keyed function
+
+-- two words of the stream a, from the beginning of its block b on
+unfoldable pub mixed : List ℕ → ℕ → ℕ → ℕ
+mixed key a b = word_at 10 key a (b * 16 + 1) * 4294967296 + word_at 10 key a (b * 16)
+
+unfoldable pub number_of : IpAddress → ℕ
+number_of (address.Ipv4 a) = from_be_bytes w32 a.0 + 281470681743360
+number_of (address.Ipv6 a) = from_be_bytes w128 a.0
+
+abbrev pub addresses_of : List ℕ → (remote local : ℕ) → ℕ
+addresses_of key remote local =
+    mixed key (mixed key (mixed key (remote / 2 ^ 64) (remote % 2 ^ 64)) (local / 2 ^ 64)) (local % 2 ^ 64)
+
+abbrev pub tag_of : List ℕ → Call → ℕ
+tag_of key c =
+    mixed key (addresses_of key (number_of c.remote) (number_of c.local))
+    ((c.remote_port * 65536 + c.local_port) * 4294967296 + c.number)
+
+-- ---- the number
+
+-- the steps of 64 seconds before a moment
+abbrev pub step_of : ℤ → ℕ
+step_of micros = unsigned_abs (micros +ℤ pos 9223372036854775808) / 64000000
+
+-- a class in the three highest bits, and what the key makes of the call, the step and the class
+abbrev pub numbered : List ℕ → (tag step class : ℕ) → ℕ
+numbered key tag step class = class * 536870912 + mixed key tag (step * 8 + class) % 536870912
+
+abbrev pub number_at : List ℕ → Call → (step class : ℕ) → ℕ
+number_at key c step class = numbered key (tag_of key c) step class
+
+-- the class that a number tells, where it is of this step or of the last one
+abbrev pub recognised_by : List ℕ → (tag step n : ℕ) → Option ℕ
+recognised_by key tag step n =
+    if (n == numbered key tag step (n / 536870912)) || (n == numbered key tag (step - 1) (n / 536870912))
+    then Some (n / 536870912)
+    else None
+
+abbrev pub recognised : List ℕ → Call → (step n : ℕ) → Option ℕ
+recognised key c step n = recognised_by key (tag_of key c) step n

@@ -1,0 +1,17 @@
+//! What a cookie is made of.
+use ip_wire::IpAddress;
+
+/// A SYN, by its endpoints and its number.
+#[derive(Debug, Clone, Copy, PartialEq, Eq)]
+pub struct Call {
+    /// The sender's address.
+    pub remote: IpAddress,
+    /// The own address.
+    pub local: IpAddress,
+    /// The sender's port.
+    pub remote_port: u16,
+    /// The own port.
+    pub local_port: u16,
+    /// The number of the SYN.
+    pub number: u32,
+}

@@ -1,0 +1,11 @@
+//! SYN cookies: the number of an answer that stands for the SYN it answers (RFC 4987, section 3.6).
+#![tactic(auto)]
+
+pub mod call;
+pub mod class;
+pub mod cookies;
+pub mod mix;
+
+pub use call::Call;
+pub use class::{class_of, mss_of};
+pub use cookies::SynCookies;

@@ -1,0 +1,7 @@
+//! Tests alone: rows of a host's table that no clause speaks of as a whole, between two hosts.
+#![tactic(auto)]
+
+#[cfg(test)]
+mod cookies;
+#[cfg(test)]
+mod hosts;

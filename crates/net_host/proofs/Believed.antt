@@ -1,0 +1,50 @@
+-- The acknowledgement of an answer is believed.
+use Rattle.std.proofs.Common.{◌≡◌, ◌∙◌, ℕ, ◌+◌, ◌*◌, ◌%◌, ◌<◌, ◌≤◌, Bool, true, false, Option, Some, None, refl, sym, subst, ap, arith}
+use Rattle.std.specs.Prelude.{ℤ, ◌⊎◌, if◌then◌else◌, nat_le}
+use Rattle.ip_wire.specs.declared.address.IpAddress.{IpAddress}
+use Rattle.ip_wire.specs.declared.repr.IpRepr.{IpRepr}
+use Rattle.control_wire.specs.Segment.{Segment}
+use Rattle.control_wire.specs.Seq.{seq_add, seq_minus, seq_of}
+use Rattle.control_wire.specs.declared.seq_number.TcpSeqNumber.{TcpSeqNumber}
+use Rattle.rand_chacha.specs.ChaCha.{key_of}
+use Rattle.host_cookies.specs.Classes.{class_of, told_class}
+use Rattle.host_cookies.specs.Laws.{AnswersAreRecognised}
+use Rattle.host_cookies.specs.Numbers.{mixed, number_at, numbered, recognised, step_of, tag_of}
+use Rattle.host_cookies.specs.declared.call.Call.{Call}
+use Rattle.host_cookies.specs.declared.cookies.SynCookies.{SynCookies}
+use Rattle.net_host.specs.Cookies.{AnswersAreBelieved, AnswersCookie, answer_number, believed_if, call_of, class_told, course_under, doubted_by}
+use Rattle.net_host.specs.declared.cookies.Course.{Course}
+use Rattle.net_host.specs.declared.cookies.Course.TheVariants as course
+use Rattle.net_host.specs.declared.segments.Taker.TheVariants as taker
+
+either : (b : Bool) (x y n : ℕ) → x ≤ n → y ≤ n → (if b then x else y) ≤ n
+either true x y n h k = h
+either false x y n h k = k
+
+class_small : (o : Option ℕ) → class_of o ≤ 7
+class_small None = omega arith
+class_small (Some m) = either (nat_le 1460 m) 7 _ 7 (omega arith) (either (nat_le 1440 m) 6 _ 7 (omega arith) (either (nat_le 1360 m) 5 _ 7 (omega arith) (either (nat_le 1220 m) 4 _ 7 (omega arith) (either (nat_le 536 m) 3 _ 7 (omega arith) (either (nat_le 256 m) 2 1 7 (omega arith) (omega arith))))))
+
+number_small : (class m : ℕ) → class ≤ 7 → class * 536870912 + m % 536870912 < 4294967296
+number_small class m h = omega (arith, h)
+
+back : (n : ℕ) → n < 4294967296 → seq_minus (seq_add (seq_of n) 1) 1 ≡ seq_of n
+back n h = ap seq_of (omega (arith, h))
+
+abbrev made : IpAddress → IpAddress → ℕ → ℕ → ℕ → Call
+made r l p q n = record { remote = r; local = l; remote_port = p; local_port = q; number = n }
+
+same_call : (r r' l l' : IpAddress) (p p' q q' n n' : ℕ) → r' ≡ r → l' ≡ l → p' ≡ p → q' ≡ q → n' ≡ n → made r' l' p' q' n' ≡ made r l p q n
+same_call r r' l l' p p' q q' n n' a b c d e =
+    ap (λ x. made x l' p' q' n') a ∙ ap (λ x. made r x p' q' n') b ∙ ap (λ x. made r l x q' n') c ∙ ap (λ x. made r l p x n') d ∙ ap (λ x. made r l p q x) e
+
+pub believed : AnswersAreRecognised → AnswersAreBelieved
+believed law c sent heard ip ip' s a small ans step =
+    let within : answer_number c sent ip s < 4294967296 = number_small (class_of s.max_seg_size) (mixed (key_of c.key) (tag_of (key_of c.key) (call_of ip s s.seq_number)) (step_of sent * 8 + class_of s.max_seg_size)) (class_small s.max_seg_size) in
+    let first : seq_minus a.seq_number 1 ≡ s.seq_number = ap (λ x. seq_minus x 1) ans.number ∙ back s.seq_number.0 small in
+    let call : call_of ip' a (seq_minus a.seq_number 1) ≡ call_of ip s s.seq_number = same_call _ _ _ _ _ _ _ _ _ _ ans.remote ans.local ans.src_port ans.dst_port (ap (λ (x : TcpSeqNumber). x.0) first) in
+    let told : class_told c heard ip' a (seq_of (answer_number c sent ip s)) ≡ Some (class_of s.max_seg_size) = ap (λ k. recognised (key_of c.key) k (step_of heard) (answer_number c sent ip s)) call ∙ law (key_of c.key) (call_of ip s s.seq_number) s.max_seg_size (step_of sent) (step_of heard) step in
+    let known : believed_if (class_told c heard ip' a (seq_of (answer_number c sent ip s))) (answer_number c sent ip s) ≡ course.Believed (class_of s.max_seg_size) (answer_number c sent ip s) = ap (λ o. believed_if o (answer_number c sent ip s)) told in
+    ap (doubted_by c heard ip' a) ans.acked
+    ∙ ap (λ x. believed_if (class_told c heard ip' a x) x.0) (back (answer_number c sent ip s) within)
+    ∙ known

@@ -1,0 +1,296 @@
+//! A segment arrives at a set of sockets.
+ghost use Rattle.std.specs.Prelude.{◌≡◌, ◌<◌, ◌≤◌, IfSome, length, [], option_map, slice_get, true, false, None};
+ghost use Rattle.std.specs.Option.{ForSome};
+ghost use Rattle.control_wire.specs.Fits.{FitsPacket};
+ghost use Rattle.control_wire.specs.Segment.{segment_of};
+ghost use Rattle.sock_tcp.specs.Process.{reply_of};
+ghost use Rattle.net_host.specs.Cookies.{AnswersSegment, BelievedBy, HearsBoth, HearsIf, HearsSyn, IsAgain, TakenOn};
+ghost use Rattle.net_host.specs.Cookies.{course_of, syn_before};
+ghost use Rattle.net_host.specs.Resting.{Rests, anew, is_opening};
+ghost use Rattle.net_host.specs.Segments.{IsTaker, TakesSegment, as_is};
+
+use crate::cookies::{Course, Told, answer_of, course_of, room_at, syn_before};
+use crate::limit::Limit;
+use crate::replies::put_reply;
+use crate::segments::{Taker, hear_anew_at, hear_at, take_segment, who_takes};
+use crate::set::SocketSet;
+use crate::slot::Slot;
+use host_cookies::SynCookies;
+use smoltcp_socket::Context;
+use smoltcp_socket::wire::{IpRepr, TcpRepr};
+use sock_tcp::{Reply, TsvalSource};
+
+/// Who takes a segment, and what becomes of it.
+#[derive(Debug, Clone, Copy, PartialEq, Eq)]
+pub struct Heard {
+    pub course: Course,
+    pub taker: Taker,
+    /// Who takes the SYN before an acknowledgement that is believed.
+    pub again: Taker,
+}
+
+fn who_again<C: Context, G: TsvalSource>(
+    sockets: &SocketSet<'_, G>,
+    cx: &C,
+    course: Course,
+    ip: &IpRepr,
+    repr: &TcpRepr<'_>,
+) -> Taker
+    requires { sockets.now.lent ≡ None }
+    ensures { IsAgain course sockets.now.slots.items ip.now (segment_of repr.now) result }
+{
+    match course {
+        Course::Believed(class, _) => who_opens(sockets, cx, class, ip, repr),
+        _ => Taker::Nobody,
+    }
+}
+
+// Who takes the SYN before it.
+fn who_opens<C: Context, G: TsvalSource>(
+    sockets: &SocketSet<'_, G>,
+    cx: &C,
+    class: u8,
+    ip: &IpRepr,
+    repr: &TcpRepr<'_>,
+) -> Taker
+    requires { sockets.now.lent ≡ None }
+    ensures { IsTaker sockets.now.slots.items ip.now (syn_before (segment_of repr.now) class) result }
+{
+    let syn = syn_before(repr, class);
+    who_takes(sockets, cx, ip, &syn)
+}
+
+// The socket at this place hears the SYN, and draws this number.
+fn open_with<C: Context, G: TsvalSource>(
+    sockets: &mut SocketSet<'_, G>,
+    i: usize,
+    cx: &C,
+    number: u32,
+    ip: &IpRepr,
+    syn: &TcpRepr<'_>,
+)
+    requires within { i < length sockets.old.slots.items }
+    requires accepted { IfSome (slice_get sockets.old.slots.items i) (TakesSegment true ip.now (segment_of syn.now)) }
+    requires small { length syn.now.payload.now ≤ 65535 }
+    ensures len { length sockets.new.slots.items ≡ length sockets.old.slots.items }
+    ensures heard { HearsSyn C.facts C.word_at G.tells as_is sockets.old.slots.items i cx.now number ip.now
+        (segment_of syn.now) sockets.new.slots.items }
+{
+    let mut told = Told { cx, word: number };
+    hear_at(sockets, i, &mut told, true, ip, syn);
+}
+
+// The same of a socket in TIME-WAIT, which listens again.
+fn open_anew_with<C: Context, G: TsvalSource>(
+    sockets: &mut SocketSet<'_, G>,
+    i: usize,
+    cx: &C,
+    number: u32,
+    ip: &IpRepr,
+    syn: &TcpRepr<'_>,
+)
+    requires within { i < length sockets.old.slots.items }
+    requires opening { is_opening (segment_of syn.now) ≡ true }
+    requires rests { IfSome (slice_get sockets.old.slots.items i) (Rests ip.now (segment_of syn.now)) }
+    requires small { length syn.now.payload.now ≤ 65535 }
+    ensures len { length sockets.new.slots.items ≡ length sockets.old.slots.items }
+    ensures heard { HearsSyn C.facts C.word_at G.tells anew sockets.old.slots.items i cx.now number ip.now
+        (segment_of syn.now) sockets.new.slots.items }
+{
+    let mut told = Told { cx, word: number };
+    hear_anew_at(sockets, i, &mut told, ip, syn);
+}
+
+fn takes_there<C: Context, G: TsvalSource>(
+    slots: &[Slot<'_, G>],
+    i: usize,
+    cx: &C,
+    ip: &IpRepr,
+    repr: &TcpRepr<'_>,
+) -> bool
+    requires { i < length slots.now }
+    ensures yes { result ≡ true → IfSome (slice_get slots.now i) (TakesSegment false ip.now (segment_of repr.now)) }
+    ensures no { result ≡ false
+        → IfSome (slice_get slots.now i) (λ x. TakesSegment false ip.now (segment_of repr.now) x → ⊥) }
+{
+    slots[i].takes_segment(cx, false, ip, repr)
+}
+
+// The socket at this place hears the segment, if it takes it.
+fn hear_if<C: Context, G: TsvalSource>(
+    sockets: &mut SocketSet<'_, G>,
+    i: usize,
+    cx: &mut C,
+    ip: &IpRepr,
+    repr: &TcpRepr<'_>,
+) -> Option<Reply>
+    requires within { i < length sockets.old.slots.items }
+    requires small { length repr.now.payload.now ≤ 65535 }
+    ensures heard { HearsIf C.facts C.word_at G.tells sockets.old.slots.items i cx.old ip.now (segment_of repr.now)
+        result sockets.new.slots.items cx.new }
+    ensures bare { ForSome result (λ r. r.1.payload.now ≡ []) }
+    ensures fits { ForSome (option_map reply_of result) (λ r. FitsPacket r.0 r.1) }
+{
+    if takes_there(&sockets.slots, i, cx, ip, repr) {
+        hear_at(sockets, i, cx, false, ip, repr)
+    } else {
+        None
+    }
+}
+
+// The socket at this place hears the SYN before the segment, and then the segment.
+fn hear_both<C: Context, G: TsvalSource>(
+    sockets: &mut SocketSet<'_, G>,
+    i: usize,
+    cx: &mut C,
+    class: u8,
+    number: u32,
+    ip: &IpRepr,
+    repr: &TcpRepr<'_>,
+) -> Option<Reply>
+    requires within { i < length sockets.old.slots.items }
+    requires accepted { IfSome (slice_get sockets.old.slots.items i)
+        (TakesSegment true ip.now (syn_before (segment_of repr.now) class)) }
+    requires small { length repr.now.payload.now ≤ 65535 }
+    ensures heard { HearsBoth C.facts C.word_at G.tells as_is sockets.old.slots.items i cx.old class number ip.now
+        (segment_of repr.now) result sockets.new.slots.items cx.new }
+    ensures bare { ForSome result (λ r. r.1.payload.now ≡ []) }
+    ensures fits { ForSome (option_map reply_of result) (λ r. FitsPacket r.0 r.1) }
+{
+    let syn = syn_before(repr, class);
+    open_with(sockets, i, cx, number, ip, &syn);
+    hear_if(sockets, i, cx, ip, repr)
+}
+
+// The same of a socket in TIME-WAIT, which listens again.
+fn hear_both_anew<C: Context, G: TsvalSource>(
+    sockets: &mut SocketSet<'_, G>,
+    i: usize,
+    cx: &mut C,
+    class: u8,
+    number: u32,
+    ip: &IpRepr,
+    repr: &TcpRepr<'_>,
+) -> Option<Reply>
+    requires within { i < length sockets.old.slots.items }
+    requires rests { IfSome (slice_get sockets.old.slots.items i)
+        (Rests ip.now (syn_before (segment_of repr.now) class)) }
+    requires small { length repr.now.payload.now ≤ 65535 }
+    ensures heard { HearsBoth C.facts C.word_at G.tells anew sockets.old.slots.items i cx.old class number ip.now
+        (segment_of repr.now) result sockets.new.slots.items cx.new }
+    ensures bare { ForSome result (λ r. r.1.payload.now ≡ []) }
+    ensures fits { ForSome (option_map reply_of result) (λ r. FitsPacket r.0 r.1) }
+{
+    let syn = syn_before(repr, class);
+    open_anew_with(sockets, i, cx, number, ip, &syn);
+    hear_if(sockets, i, cx, ip, repr)
+}
+
+// An acknowledgement is believed.
+fn believe<C: Context, G: TsvalSource>(
+    sockets: &mut SocketSet<'_, G>,
+    cx: &mut C,
+    again: Taker,
+    class: u8,
+    number: u32,
+    ip: &IpRepr,
+    repr: &TcpRepr<'_>,
+) -> Option<Reply>
+    requires again { IsTaker sockets.old.slots.items ip.now (syn_before (segment_of repr.now) class) again }
+    requires small { length repr.now.payload.now ≤ 65535 }
+    ensures heard { BelievedBy C.facts C.word_at G.tells again class number sockets.old.slots.items cx.old ip.now
+        (segment_of repr.now) result sockets.new.slots.items cx.new }
+    ensures bare { ForSome result (λ r. r.1.payload.now ≡ []) }
+    ensures fits { ForSome (option_map reply_of result) (λ r. FitsPacket r.0 r.1) }
+{
+    match again {
+        Taker::Listener(i) => hear_both(sockets, i, cx, class, number, ip, repr),
+        Taker::Reused(i) => hear_both_anew(sockets, i, cx, class, number, ip, repr),
+        _ => None,
+    }
+}
+
+// The segment goes to its taker, is answered or believed.
+fn take_heard<C: Context, G: TsvalSource>(
+    sockets: &mut SocketSet<'_, G>,
+    cx: &mut C,
+    limit: &mut Limit,
+    heard: &Heard,
+    ip: &IpRepr,
+    repr: &TcpRepr<'_>,
+) -> Option<Reply>
+    requires taker { IsTaker sockets.old.slots.items ip.now (segment_of repr.now) heard.now.taker }
+    requires again { IsAgain heard.now.course sockets.old.slots.items ip.now (segment_of repr.now) heard.now.again }
+    requires small { length repr.now.payload.now ≤ 65535 }
+    ensures taken { TakenOn C.facts C.word_at G.tells heard.now.course heard.now.taker heard.now.again
+        sockets.old.slots.items cx.old limit.old ip.now (segment_of repr.now) result sockets.new.slots.items cx.new
+        limit.new }
+    ensures bare { ForSome result (λ r. r.1.payload.now ≡ []) }
+    ensures fits { ForSome (option_map reply_of result) (λ r. FitsPacket r.0 r.1) }
+{
+    match heard.course {
+        Course::Plain | Course::Doubted => {
+            take_segment(sockets, cx, limit, heard.taker, ip, repr)
+        }
+        Course::Answered(place, number) => {
+            let room = room_at(&sockets.slots, place);
+            Some(answer_of(cx, room, number, ip, repr))
+        }
+        Course::Believed(class, number) => {
+            believe(sockets, cx, heard.again, class, number, ip, repr)
+        }
+    }
+}
+
+// Who takes the segment, and what becomes of it.
+fn heard_by<C: Context, G: TsvalSource>(
+    sockets: &SocketSet<'_, G>,
+    cx: &C,
+    cookies: &Option<SynCookies>,
+    ip: &IpRepr,
+    repr: &TcpRepr<'_>,
+) -> Heard
+    requires { sockets.now.lent ≡ None }
+    ensures course { result.course ≡ course_of cookies.now result.taker (C.facts cx.now).now ip.now
+        (segment_of repr.now) }
+    ensures taker { IsTaker sockets.now.slots.items ip.now (segment_of repr.now) result.taker }
+    ensures again { IsAgain result.course sockets.now.slots.items ip.now (segment_of repr.now) result.again }
+{
+    let taker = who_takes(sockets, cx, ip, repr);
+    let course = course_of(cookies, taker, cx, ip, repr);
+    let again = who_again(sockets, cx, course, ip, repr);
+    Heard {
+        course,
+        taker,
+        again,
+    }
+}
+
+/// A segment arrives: who took it, and the length of the packet that answers it, at the beginning of `out`, or 0.
+pub(crate) fn hear_segment<C: Context, G: TsvalSource>(
+    sockets: &mut SocketSet<'_, G>,
+    cx: &mut C,
+    limit: &mut Limit,
+    cookies: &Option<SynCookies>,
+    ip: &IpRepr,
+    repr: &TcpRepr<'_>,
+    out: &mut [u8],
+) -> (Heard, usize)
+    requires small { length repr.now.payload.now ≤ 65535 }
+    requires room { 100 ≤ length out.old }
+    ensures within { result.1 ≤ length out.old }
+    ensures course { result.0.course ≡ course_of cookies.now result.0.taker (C.facts cx.old).now ip.now
+        (segment_of repr.now) }
+    ensures taker { IsTaker sockets.old.slots.items ip.now (segment_of repr.now) result.0.taker }
+    ensures again { IsAgain result.0.course sockets.old.slots.items ip.now (segment_of repr.now) result.0.again }
+    ensures heard { AnswersSegment C.facts C.word_at G.tells result.0.course result.0.taker result.0.again
+        sockets.old.slots.items cx.old limit.old ip.now (segment_of repr.now) out.old result.1 sockets.new.slots.items
+        cx.new limit.new out.new }
+{
+    let caps = cx.checksum_caps();
+    sockets.settle();
+    let heard = heard_by(sockets, cx, cookies, ip, repr);
+    let reply = take_heard(sockets, cx, limit, &heard, ip, repr);
+    let len = put_reply(&reply, out, &caps);
+    (heard, len)
+}

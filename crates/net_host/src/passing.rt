@@ -1,0 +1,40 @@
+//! A packet behind its extension headers.
+ghost use Rattle.std.specs.Prelude.{◌≡◌, option_map};
+ghost use Rattle.ip_wire.specs.Protocol.{number_of};
+ghost use Rattle.ip_extensions.specs.Headers.{behind_headers};
+ghost use Rattle.segment_wire.specs.Packet.{carried_of};
+ghost use Rattle.net_host.specs.Passing.{passed, passed_v6};
+
+use ip_extensions::{Behind, behind_headers};
+use smoltcp_socket::wire::{IpProtocol, IpRepr, Ipv6Repr};
+
+/// The packet without the extension headers of IPv6; none where it is a fragment, a routing header names further
+/// nodes, or a header is malformed (RFC 8200, section 4).
+#[tactic(auto, unfolding(crate::specs::Passing::passed))]
+pub(crate) fn passed<'p>(ip: &IpRepr, bytes: &'p [u8]) -> Option<(IpRepr, &'p [u8])>
+    ensures { option_map carried_of result ≡ passed ip.now bytes.now }
+{
+    match ip {
+        IpRepr::Ipv4(header) => Some((IpRepr::Ipv4(*header), bytes)),
+        IpRepr::Ipv6(header) => passed_v6(header, bytes),
+    }
+}
+
+fn passed_v6<'p>(header: &Ipv6Repr, bytes: &'p [u8]) -> Option<(IpRepr, &'p [u8])>
+    ensures { option_map carried_of result
+        ≡ passed_v6 header.now (behind_headers (number_of header.now.next_header) bytes.now) }
+{
+    match behind_headers(u8::from(header.next_header), bytes) {
+        Behind::Carried(next, bytes) => Some((
+            IpRepr::Ipv6(Ipv6Repr {
+                src_addr: header.src_addr,
+                dst_addr: header.dst_addr,
+                next_header: IpProtocol::from(next),
+                payload_len: bytes.len(),
+                hop_limit: header.hop_limit,
+            }),
+            bytes,
+        )),
+        _ => None,
+    }
+}
