@@ -10,7 +10,7 @@ use Rattle.sock_core.specs.Congestion.{post_transmitted, recovery_window}
 use Rattle.sock_core.specs.Estimator.{sent}
 use Rattle.sock_core.specs.Seq.{later_of}
 use Rattle.sock_tcp.specs.Rfc.Idle.{idle_by, restarted_by}
-use Rattle.sock_tcp.specs.Content.{carries_data, data_control, emission_kind, is_probing, offset_of, plain_segment, sent_as, next_hole}
+use Rattle.sock_tcp.specs.Content.{carries_data, data_control, emission_kind, is_probing, offset_of, plain_segment, sent_as, next_hole, hole_of}
 use Rattle.sock_tcp.specs.Due.{is_closed, is_closing, window_field, flight}
 use Rattle.sock_tcp.specs.Sent.{after_any, after_probe, after_sending, emitted_as, left_by, sending_timed, snd_nxt_moved, goes_on}
 use Rattle.sock_tcp.specs.Rfc.Pipe.{counts, has_room}
@@ -75,7 +75,7 @@ module _ (u : View) (p : Tuple) (now : Instant) (s : Segment) (not_closed : is_c
   plain_sent smoltcp = go (segment_len s == 0)
     where
       unmarked : goes_on x ≡ false
-      unmarked = ap (λ r. counts r x.recovery (is_blank x.sacked) && (is_some (next_hole x.recovery x.sacked x.local_seq_no) && has_room x.recovery x.sacked x.local_seq_no (flight x) (recovery_window x.congestion_controller) x.remote_mss)) smoltcp
+      unmarked = ap (λ r. counts r x.recovery (is_blank x.sacked) && (is_some (hole_of x) && has_room x.recovery x.sacked x.local_seq_no (flight x) (recovery_window x.congestion_controller) x.remote_mss)) smoltcp
 
       pending : (x.pending_fast_retransmit || goes_on x) ≡ x.pending_fast_retransmit
       pending = ap (λ b. x.pending_fast_retransmit || b) unmarked ∙ or_none x.pending_fast_retransmit

@@ -7,7 +7,7 @@ use Rattle.control_wire.specs.declared.seq_number.TcpSeqNumber.{TcpSeqNumber}
 use Rattle.sock_core.specs.Congestion.{post_transmitted, recovery_window}
 use Rattle.sock_core.specs.Estimator.{sent}
 use Rattle.sock_core.specs.Seq.{is_before, later_of}
-use Rattle.sock_tcp.specs.Content.{carries_data, Sending, next_hole}
+use Rattle.sock_tcp.specs.Content.{carries_data, Sending, next_hole, hole_of}
 use Rattle.sock_tcp.specs.Due.{is_closed, flight, is_counted}
 use Rattle.sock_tcp.specs.Rfc.Idle.{idle_by, restarted_by}
 use Rattle.sock_tcp.specs.Rfc.Pipe.{has_room}
@@ -64,11 +64,11 @@ snd_nxt_moved v s =
       tuple = if is_closed v.state then None else v.tuple;
     }
 
--- in a recovery that counts what is in the network, the next hole goes out at once while there is room (RFC 6675,
--- section 5)
+-- in a recovery that counts what is in the network, the next hole that the peer's window takes goes out at once while
+-- there is room (RFC 6675, section 5)
 abbrev pub goes_on : View → Bool
 goes_on v =
-    is_counted v && (is_some (next_hole v.recovery v.sacked v.local_seq_no)
+    is_counted v && (is_some (hole_of v)
     && has_room v.recovery v.sacked v.local_seq_no (flight v) (recovery_window v.congestion_controller) v.remote_mss)
 
 -- what takes sequence numbers is timed, and waited for

@@ -64,7 +64,7 @@ impl<'a> ControlBlock<'a> {
     }
 
     // What a fast retransmission sends again; where there is none, the segment at SND.UNA.
-    fn hole(&self) -> Option<Hole>
+    pub(crate) fn hole(&self) -> Option<Hole>
         ensures { result ≡ hole_of self.now }
     {
         match self.rules {

@@ -121,7 +121,7 @@ impl<'a> ControlBlock<'a> {
             .pipe(&self.sacked, self.local_seq_no, self.flight())
     }
 
-    // The next hole goes out at once while there is room.
+    // The next hole that the peer's window takes goes out at once while there is room.
     pub(crate) fn goes_on(&self) -> bool
         ensures { result ≡ goes_on self.now }
     {
@@ -130,7 +130,7 @@ impl<'a> ControlBlock<'a> {
         }
         let window = self.congestion_controller.recovery_window();
         let (una, mss) = (self.local_seq_no, self.remote_mss);
-        self.recovery.next_hole(&self.sacked, una).is_some()
+        self.hole().is_some()
             && self
                 .recovery
                 .has_room(&self.sacked, una, self.flight(), window, mss)
