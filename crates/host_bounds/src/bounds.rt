@@ -3,7 +3,7 @@ ghost use Rattle.std.specs.Prelude.{ℕ, ◌≡◌, ◌≤◌, ◌<◌, ◌<ℤ�
 ghost use Rattle.std.specs.List.{All};
 ghost use Rattle.host_bounds.specs.Bounding.{FindsReached, IsBelowAll, IsLayered, at_once, bound_at};
 
-use crate::levels::{FAN_OUT, least_between, least_bounds, lower_all, mend};
+use crate::levels::{FAN_OUT, first_between, least_between, least_bounds, lower_all, mend};
 use std::alloc::{AllocError, Global};
 use std::marker::Model;
 
@@ -96,11 +96,10 @@ impl Bounds {
         now < self.least()
     }
 
-    // The next place that may want to be asked by now: this one, or one before which none does.
+    // The next place whose block may have one that wants to be asked by now: this one, or one before which none does.
     fn skip(&self, place: usize, now: i64) -> usize
         requires { place < length self.now }
         ensures behind { place ≤ result }
-        ensures reached { result ≡ place → bound_at self.now place ≤ℤ now }
         ensures before { (k : ℕ) → place ≤ k → k < result → k < length self.now → now <ℤ bound_at self.now k }
     {
         let block = place / FAN_OUT;
@@ -111,11 +110,7 @@ impl Bounds {
         if now < self.blocks[block] {
             return (block + 1) * FAN_OUT;
         }
-        if now < self.places[place] {
-            place + 1
-        } else {
-            place
-        }
+        place
     }
 
     /// The first place that may want to be asked by now, from one on and before another.
@@ -127,9 +122,14 @@ impl Bounds {
         while place < end {
             let next = self.skip(place, now);
             if next == place {
-                return Some(place);
+                let stop = end.min((place / FAN_OUT + 1) * FAN_OUT);
+                if let Some(found) = first_between(&self.places, place, stop, now) {
+                    return Some(found);
+                }
+                place = stop;
+            } else {
+                place = next;
             }
-            place = next;
         }
         None
     }

@@ -1,7 +1,7 @@
 //! Bounds of 32 places each, above those of the places.
 ghost use Rattle.std.specs.Prelude.{ℕ, ◌≡◌, ◌≤◌, ◌≤ℤ◌, ◌<◌, ◌/◌, IfOk, length};
 ghost use Rattle.std.specs.List.{All};
-ghost use Rattle.host_bounds.specs.Bounding.{Covers, CoversBut, IsBelow, KeepsBut, Reaches, at_once, bound_at};
+ghost use Rattle.host_bounds.specs.Bounding.{Covers, CoversBut, FindsReached, IsBelow, KeepsBut, Reaches, at_once, bound_at};
 
 use std::alloc::{AllocError, Global};
 
@@ -40,6 +40,19 @@ pub(crate) fn least_between(bounds: &[i64], start: usize, end: usize) -> i64
         }
     }
     least
+}
+
+/// The first of these bounds that is reached by now.
+pub(crate) fn first_between(bounds: &[i64], start: usize, end: usize, now: i64) -> Option<usize>
+    requires { end ≤ length bounds.now }
+    ensures { FindsReached bounds.now start end now result }
+{
+    for i in start..end {
+        if bounds[i] <= now {
+            return Some(i);
+        }
+    }
+    None
 }
 
 // The least bound of the 32 places that this one is among.

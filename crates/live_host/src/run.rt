@@ -129,8 +129,10 @@ fn host<'a>(
         handshake: Some(HANDSHAKE),
         ..GuardSettings::new()
     });
-    let kept_from = kept_from(setup.sockets);
-    interface.set_syn_cookies(Some(SynCookies::new(cookie_key(setup.seed), kept_from)));
+    let kept_from = kept_from(setup.sockets, setup.rules);
+    if setup.rules == Rules::Rfc {
+        interface.set_syn_cookies(Some(SynCookies::new(cookie_key(setup.seed), kept_from)));
+    }
     let outbox = Outbox::new(alloc)?;
     Ok(Host::new(alloc, interface, sockets, slots, udp, kept_from, outbox))
 }
@@ -189,11 +191,13 @@ fn cookie_key(seed: u64) -> [u8; 32] {
     key(seed, 1)
 }
 
-// The last quarter of the TCP sockets is kept for peers that answer a SYN cookie.
-fn kept_from(sockets: usize) -> usize
-    ensures { result ≤ sockets }
-{
-    sockets - sockets / 4
+// By the RFCs' rules the last quarter of the TCP sockets is kept for peers that answer a SYN cookie.
+fn kept_from(sockets: usize, rules: Rules) -> usize {
+    if rules == Rules::Rfc {
+        sockets - sockets / 4
+    } else {
+        sockets
+    }
 }
 
 // Each record is answered before the next is read.

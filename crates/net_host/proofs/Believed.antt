@@ -1,21 +1,16 @@
 -- The acknowledgement of an answer is believed.
-use Rattle.std.proofs.Common.{◌≡◌, ◌∙◌, ℕ, ◌+◌, ◌*◌, ◌%◌, ◌<◌, ◌≤◌, Bool, true, false, Option, Some, None, refl, sym, subst, ap, arith}
-use Rattle.std.specs.Prelude.{ℤ, ◌⊎◌, if◌then◌else◌, nat_le}
+use Rattle.std.proofs.Common.{◌≡◌, ◌∙◌, ℕ, ◌+◌, ◌*◌, ◌%◌, ◌<◌, ◌≤◌, Bool, true, false, Option, Some, None, ap, arith}
+use Rattle.std.specs.Prelude.{if◌then◌else◌, nat_le}
 use Rattle.ip_wire.specs.declared.address.IpAddress.{IpAddress}
-use Rattle.ip_wire.specs.declared.repr.IpRepr.{IpRepr}
-use Rattle.control_wire.specs.Segment.{Segment}
 use Rattle.control_wire.specs.Seq.{seq_add, seq_minus, seq_of}
 use Rattle.control_wire.specs.declared.seq_number.TcpSeqNumber.{TcpSeqNumber}
 use Rattle.rand_chacha.specs.ChaCha.{key_of}
-use Rattle.host_cookies.specs.Classes.{class_of, told_class}
+use Rattle.host_cookies.specs.Classes.{class_of}
 use Rattle.host_cookies.specs.Laws.{AnswersAreRecognised}
-use Rattle.host_cookies.specs.Numbers.{mixed, number_at, numbered, recognised, step_of, tag_of}
+use Rattle.host_cookies.specs.Numbers.{mixed, recognised, step_of, tag_of}
 use Rattle.host_cookies.specs.declared.call.Call.{Call}
-use Rattle.host_cookies.specs.declared.cookies.SynCookies.{SynCookies}
-use Rattle.net_host.specs.Cookies.{AnswersAreBelieved, AnswersCookie, answer_number, believed_if, call_of, class_told, course_under, doubted_by}
-use Rattle.net_host.specs.declared.cookies.Course.{Course}
+use Rattle.net_host.specs.Cookies.{AnswersAreBelieved, answer_number, believed_if, call_of, class_told, doubted_by}
 use Rattle.net_host.specs.declared.cookies.Course.TheVariants as course
-use Rattle.net_host.specs.declared.segments.Taker.TheVariants as taker
 
 either : (b : Bool) (x y n : ℕ) → x ≤ n → y ≤ n → (if b then x else y) ≤ n
 either true x y n h k = h

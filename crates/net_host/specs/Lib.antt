@@ -12,6 +12,7 @@ pub mod Guards
 pub mod HostCalls
 pub mod Indexing
 pub mod Limits
+pub mod Listing
 pub mod Looking
 pub mod Messages
 pub mod Moments
