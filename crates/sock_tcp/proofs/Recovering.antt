@@ -7,7 +7,7 @@ use Rattle.net_base.specs.declared.time.Instant.{Instant}
 use Rattle.control_wire.specs.Segment.{Segment}
 use Rattle.ip_wire.specs.declared.repr.IpRepr.{IpRepr}
 use Rattle.sock_tcp.specs.Arrival.{arrival}
-use Rattle.sock_tcp.specs.Process.{Outcome, ack_sent, answered, by_verdict, processed_by, tuple_of}
+use Rattle.sock_tcp.specs.Process.{Outcome, answered, by_verdict, processed_by, tuple_of}
 use Rattle.sock_tcp.specs.Replies.{ack_kept, ack_segment, sack_range}
 use Rattle.sock_tcp.specs.Rfc.Recovery.{before_of, begun_by, gone_on_from, has_timer, is_called, recovered, recovered_by, resends, running, timer_after, waited_for, marked_by, waits_tail}
 use Rattle.sock_tcp.specs.Due.{flight}

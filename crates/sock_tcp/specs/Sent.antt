@@ -7,7 +7,7 @@ use Rattle.control_wire.specs.declared.seq_number.TcpSeqNumber.{TcpSeqNumber}
 use Rattle.sock_core.specs.Congestion.{post_transmitted, recovery_window}
 use Rattle.sock_core.specs.Estimator.{sent}
 use Rattle.sock_core.specs.Seq.{is_before, later_of}
-use Rattle.sock_tcp.specs.Content.{carries_data, Sending, next_hole, hole_of}
+use Rattle.sock_tcp.specs.Content.{carries_data, Sending, hole_of}
 use Rattle.sock_tcp.specs.Due.{is_closed, flight, is_counted}
 use Rattle.sock_tcp.specs.Rfc.Idle.{idle_by, restarted_by}
 use Rattle.sock_tcp.specs.Rfc.Pipe.{has_room}

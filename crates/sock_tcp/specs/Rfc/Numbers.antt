@@ -1,6 +1,6 @@
 -- The number of what is sent without bytes: by the RFCs' rules SND.MAX, the highest that was sent, where SND.NXT went
 -- back (RFC 9293, sections 3.4 and 3.10.7.4).
-use Rattle.std.specs.Prelude.{ℕ, ◌+◌, length, min, Option, Some, None, Bool, true, false, not, ◌==◌, ◌&&◌}
+use Rattle.std.specs.Prelude.{◌+◌, length, min, Option, Some, None, Bool, true, false, not, ◌==◌, ◌&&◌}
 use Rattle.control_wire.specs.Segment.{Segment, is_empty_segment, segment_len}
 use Rattle.control_wire.specs.Seq.{seq_add}
 use Rattle.control_wire.specs.declared.seq_number.TcpSeqNumber.{TcpSeqNumber}

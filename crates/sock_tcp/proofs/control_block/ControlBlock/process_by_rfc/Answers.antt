@@ -1,9 +1,8 @@
-use Rattle.std.proofs.Common.{◌≡◌, ◌∙◌}
-use Rattle.control_wire.specs.Segment.{Segment, segment_of}
+use Rattle.std.proofs.Common.{◌∙◌}
+use Rattle.control_wire.specs.Segment.{segment_of}
 use Rattle.sock_tcp.specs.Arrival.{arrival}
 use Rattle.sock_tcp.specs.Process.{has_window, tested, tuple_of}
 use Rattle.sock_tcp.specs.Rfc.Recovery.{recovered_by}
-use Rattle.sock_tcp.specs.Rfc.Windows.{windowed}
 use Rattle.sock_tcp.specs.View.{View}
 use Rattle.sock_tcp.specs.declared.rules.Rules.TheVariants as rules
 use Rattle.sock_tcp.proofs.Windowing.{answers_so}
