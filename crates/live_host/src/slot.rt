@@ -24,6 +24,8 @@ pub struct Slot {
     service: Service,
     http: Http,
     traffic: Traffic,
+    // it was last seen without a connection
+    rested: bool,
 }
 
 impl Slot {
@@ -37,6 +39,7 @@ impl Slot {
                 received: 0,
                 sent: 0,
             },
+            rested: true,
         }
     }
 
@@ -44,12 +47,14 @@ impl Slot {
     pub fn listen(&mut self, socket: &mut tcp::Socket<'_, Clock>, service: Service) {
         socket.abort();
         self.service = service;
+        self.rested = true;
         socket.set_keep_alive(Some(KEEP_ALIVE));
         let _ = socket.listen(service.endpoint());
     }
 
     // Nothing has come and nothing has gone.
     fn renew(&mut self, alloc: Global) {
+        self.rested = false;
         self.http = Http::new(alloc);
         self.traffic = Traffic {
             received: 0,
@@ -57,8 +62,8 @@ impl Slot {
         };
     }
 
-    /// Lets the service read and write. A connection begins anew with SYN-RECEIVED: also of a socket in TIME-WAIT that
-    /// was taken for it.
+    /// Lets the service read and write. A connection begins anew with SYN-RECEIVED, also of a socket in TIME-WAIT that
+    /// was taken for it; with a cookie it is ESTABLISHED at once.
     pub fn serve(
         &mut self,
         alloc: Global,
@@ -70,7 +75,11 @@ impl Slot {
                 self.renew(alloc);
                 return Ok(());
             }
-            State::Closed | State::Listen | State::TimeWait => return Ok(()),
+            State::Closed | State::Listen | State::TimeWait => {
+                self.rested = true;
+                return Ok(());
+            }
+            _ if self.rested => self.renew(alloc),
             _ => {}
         }
         match self.service {
