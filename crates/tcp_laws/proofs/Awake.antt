@@ -24,6 +24,7 @@ use Rattle.sock_tcp.specs.Poll.{poll_moment, poll_moment_to}
 use Rattle.sock_tcp.specs.Process.{processed_by}
 use Rattle.sock_tcp.specs.Queue.{queue_of}
 use Rattle.sock_tcp.specs.Queues.{first_probe, fitting, may_recv, may_send, queued, read_off, readable}
+use Rattle.sock_tcp.specs.Rfc.Idle.{idle_by, restarted_by}
 use Rattle.sock_tcp.specs.Rfc.Recovery.{begun_by, marked_by}
 use Rattle.sock_tcp.specs.Rfc.TailLoss.{tail_probed}
 use Rattle.sock_tcp.specs.Sent.{goes_on, after_any, after_probe, after_sending, emitted_as, left_by, sending_timed, snd_nxt_moved}
@@ -180,7 +181,7 @@ module _ (u : View) (now : Instant) (o : IsOrdered u) (h : IsAwakeByRfc u) where
       row (inl c) = closed_row u.state _ _ _ _ c.0
       row (inr a) = subst (λ k. AwakeIn u.state (keep_alive_renewed u.timer now u.keep_alive) (seq_sub k u.local_seq_no) u.remote_win_len (length u.tx_buffer.bytes)) (sym (nxt_stays u now b a o)) (any_row u.state refl)
 
-      go : (z : Bool) → (segment_len b == 0) ≡ z → IsAwakeByRfc (if z then moved else record moved { rtte = sent moved.rtte now end; timer = retransmit_unless_set moved.timer now moved.rtte; congestion_controller = post_transmitted moved.congestion_controller now (segment_len b); pending_fast_retransmit = moved.pending_fast_retransmit || goes_on moved })
+      go : (z : Bool) → (segment_len b == 0) ≡ z → IsAwakeByRfc (if z then moved else record moved { rtte = sent moved.rtte now end; timer = retransmit_unless_set moved.timer now moved.rtte; congestion_controller = post_transmitted (restarted_by moved.rules moved.idle_at now moved.congestion_controller) now (segment_len b); idle_at = idle_by moved.rules moved.idle_at now moved.rtte; pending_fast_retransmit = moved.pending_fast_retransmit || goes_on moved })
       go true e = record { rfc = h.rfc; row = row (empty (eqb-true (segment_len b) 0 e)) }
       go false e = record { rfc = h.rfc; row = rests_row u.state _ _ _ _ (timed_rests moved.timer now moved.rtte (seq_sub (later_of u.remote_last_seq end) u.local_seq_no) u.remote_win_len (length u.tx_buffer.bytes)) }
 

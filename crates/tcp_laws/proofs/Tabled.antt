@@ -1,5 +1,5 @@
 -- A segment by the RFCs' rules: what the tables leave, and then what is done of loss, keeps a timer running.
-use Rattle.std.proofs.Common.{◌≡◌, ℕ, Bool, true, false, true≢false, not, ◌&&◌, ◌||◌, refl, sym, ap, ◌∙◌, List, [], length, Option, Some, None, arith, zero, suc, ◌-◌, ◌<◌, ◌^◌, ◌⊎◌, inl, inr, subst}
+use Rattle.std.proofs.Common.{◌≡◌, ℕ, Bool, true, false, true≢false, not, ◌&&◌, ◌||◌, refl, sym, ap, ◌∙◌, List, [], length, Option, Some, None, arith}
 use Rattle.std.specs.Prelude.{if◌then◌else◌, ◌==◌, nat_le}
 use Rattle.std.proofs.lemmas.Bool.{eq-eqb, eqb-true, leb-true}
 use Rattle.ip_wire.specs.declared.repr.IpRepr.{IpRepr}
@@ -8,7 +8,7 @@ use Rattle.net_base.specs.declared.time.Instant.{Instant}
 use Rattle.control_wire.specs.Segment.{Segment}
 use Rattle.control_wire.specs.declared.tcp.TcpControl.{TcpControl}
 use Rattle.control_wire.specs.declared.tcp.TcpControl.TheVariants as control
-use Rattle.sock_tcp.specs.Acked.{acked_of, acked_at, is_fin_acked, syn_place}
+use Rattle.sock_tcp.specs.Acked.{acked_of}
 use Rattle.sock_tcp.specs.Advance.{advance_in, advanced, counted_control, fallen_back, fin_counted, nothing_new_by, options_taken, syn_answered, syn_received}
 use Rattle.sock_tcp.specs.Arrival.{Arrival, arrival}
 use Rattle.sock_tcp.specs.Due.{flight}
@@ -19,7 +19,7 @@ use Rattle.sock_tcp.specs.Rfc.Recovery.{before_of, gone_on_from, has_timer, is_c
 use Rattle.sock_tcp.specs.Rfc.Refused.{refused}
 use Rattle.sock_tcp.specs.Rfc.TailLoss.{is_alone, tail_waits}
 use Rattle.sock_tcp.specs.Rfc.Windows.{windowed}
-use Rattle.sock_tcp.specs.Steps.{ack_counted, ack_delayed, ack_heard, begins_probe, duplicate_counted, heard, joined, probe_ended, probe_set, released, timer_acked, timer_set, timestamp_taken, una_advanced, window_taken, acknowledged, is_duplicate, is_window_changed}
+use Rattle.sock_tcp.specs.Steps.{ack_counted, ack_delayed, ack_heard, begins_probe, duplicate_counted, heard, joined, probe_ended, probe_set, released, timer_acked, timer_set, timestamp_taken, una_advanced, window_taken}
 use Rattle.sock_tcp.specs.Timers.{idle_from, probe_from, retransmit_from}
 use Rattle.sock_tcp.specs.View.{View}
 use Rattle.sock_tcp.specs.Window.{cut_of, is_inside, receive_window}
