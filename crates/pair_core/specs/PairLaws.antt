@@ -16,8 +16,8 @@ pub record IsBounded (v : View) : Type 0 where
   pub sending : HasIss (phase_of v.state) → HasSendingBounds (shown v)
   pub unread : IsNonSynchronized (phase_of v.state) → v.rx_buffer.bytes ≡ []
 
--- the socket may emit the segment of the sending c, with its number by the socket's rules, and an emit that succeeds at now leaves no more than a dispatch may
--- change
+-- the socket may emit the segment of the sending c, with its number by the socket's rules, and an emit that succeeds at
+-- now leaves no more than a dispatch may change
 pub record MayEmit (v : View) (c : Sending) (now : Instant) (released taken : ℕ) : Type 0 where
   pub sends : EmitEffect (shown v) (stream_segment (numbered v c.segment) released taken)
   pub leaves : DispatchEffect (shown v) (shown (left_by (Some c) v now true))

@@ -9,7 +9,8 @@ ghost use Rattle.control_wire.specs.Segment.{segment_of};
 ghost use Rattle.sock_core.specs.Facts.{IsLawful};
 ghost use Rattle.sock_tcp.specs.Queue.{IsLent};
 ghost use Rattle.sock_tcp.specs.Due.{flight, window_field};
-ghost use Rattle.sock_tcp.specs.Content.{window_left, is_probing, hole_of, hole_within, resent_size, size_of, offset_of, number_of, asked};
+ghost use Rattle.sock_tcp.specs.Content.{window_left, is_probing, hole_of, hole_within, resent_size, size_of};
+ghost use Rattle.sock_tcp.specs.Content.{offset_of, number_of, asked};
 ghost use Rattle.sock_tcp.specs.Content.{timestamp_of, plain_segment, with_syn, syn, syn_ack, data_control, with_data};
 ghost use Rattle.sock_tcp.specs.Content.{filled, emission_kind, of_kind, hop_limit_of, sending, finished, content};
 

@@ -46,8 +46,8 @@ PayloadKeepsToWindows = (v : View) (t : Tuple) (f : Facts) (stamp : Option ℕ) 
     → 0 < length s.segment.payload
     → (flight v + length s.segment.payload ≤ v.remote_win_len) × (length s.segment.payload ≤ congestion_left v)
 
--- by the RFCs' rules also that of a fast retransmission ends at or before SND.UNA plus the peer's window, or is one byte
--- at SND.UNA (RFC 9293, section 3.8.6)
+-- by the RFCs' rules also that of a fast retransmission ends at or before SND.UNA plus the peer's window, or is one
+-- byte at SND.UNA (RFC 9293, section 3.8.6)
 abbrev pub RetransmissionKeepsToWindow : Type 0
 RetransmissionKeepsToWindow = (v : View) (t : Tuple) (f : Facts) (stamp : Option ℕ) (bytes : List ℕ) (s : Sending)
     → v.rules ≡ rules.Rfc

@@ -72,7 +72,7 @@ hears_window state.CloseWait = true
 hears_window state.Closing = true
 hears_window _ = false
 
--- a segment that passes, lies in the receive window, counts as one without a control bit, and counts as telling a window
+-- a segment that passes, lies in the receive window, counts as one without a control bit, and as telling a window
 pub record TellsWindow (v : View) (now : Instant) (s : Segment) : Type 0 where
   pub hears : hears_window v.state ≡ true
   pub passes : verdict_by v.rules v now s ≡ verdicts.Pass

@@ -11,7 +11,8 @@ ghost use Rattle.tcp_laws.specs.Clocks.{KeepAliveIsBounded, WakeUpIsBounded};
 ghost use Rattle.tcp_laws.specs.Repeating.{AcksRepeatOnlySo};
 ghost use Rattle.tcp_laws.specs.Speaking.{DueDataGoesOut, RetransmissionBegins};
 ghost use Rattle.tcp_laws.specs.Waking.{IsClosed, IsTimedOut, LastAckHearsNothing, ThirdDuplicateWakes, WindowWakes};
-ghost use Rattle.tcp_laws.specs.Polling.{KeepAliveWakes, NoWorkNoBytes, PayloadKeepsToWindows, PollHidesNothing, RetransmissionKeepsToWindow};
+ghost use Rattle.tcp_laws.specs.Polling.{KeepAliveWakes, NoWorkNoBytes, PayloadKeepsToWindows};
+ghost use Rattle.tcp_laws.specs.Polling.{PollHidesNothing, RetransmissionKeepsToWindow};
 ghost use Rattle.tcp_laws.specs.Polling.{SleepsOnlySo, TimeoutWakes};
 
 use control_wire::TcpRepr;
