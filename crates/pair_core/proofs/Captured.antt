@@ -14,7 +14,6 @@ use Rattle.sock_core.specs.Facts.{Facts}
 use Rattle.sock_tcp.proofs.Lending.{lent_at_most}
 use Rattle.sock_tcp.specs.Rfc.Numbers.{numbered, outgoing}
 use Rattle.sock_tcp.specs.Queue.{IsLent}
-use Rattle.sock_tcp.specs.Rfc.Scoreboard.{hole_size}
 use Rattle.sock_tcp.specs.Rfc.TailLoss.{tail_probed}
 use Rattle.sock_tcp.specs.View.{View, fresh, moment_of}
 use Rattle.sock_tcp.specs.Begin.{before_emit, fast_retransmission_marked, retransmission_begun, peer_of}

@@ -9,7 +9,7 @@ use Rattle.control_wire.specs.declared.tcp.TcpControl.TheVariants as control
 use Rattle.sock_tcp.specs.Replies.{Answers, IsReplyStamp, echoed}
 use Rattle.pair_core.specs.Aging.{DeliversAt, TakesRoomAt}
 use Rattle.pair_core.specs.Holding.{kept_at}
-use Rattle.pair_core.specs.PairSteps.{is_too_old, processed_by, delivered_to, refusal_of, refusal_reply, reply_index, DeliversTo, reply_out}
+use Rattle.pair_core.specs.PairSteps.{is_too_old, delivered_to, refusal_of, refusal_reply, reply_index, DeliversTo, reply_out}
 use Rattle.pair_core.specs.PairViews.{HostView, StoredView}
 use Rattle.pair_core.specs.declared.moment.Moment.{Moment}
 use Rattle.pair_core.specs.declared.outcome.Outcome.{Outcome}

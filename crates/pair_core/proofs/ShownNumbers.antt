@@ -1,5 +1,5 @@
 -- A segment without bytes, SYN, FIN and RST may be sent with the highest number that was sent.
-use Rattle.std.proofs.Common.{◌≡◌, ℕ, ◌+◌, ◌≤◌, ◌⊎◌, Bool, true, false, true≢false, not, ◌&&◌, List, [], ◌∷◌, length, min, Option, Some, None, refl, sym, ap, subst, ◌∙◌, arith, inl, inr, ⊎_elim}
+use Rattle.std.proofs.Common.{◌≡◌, ℕ, ◌+◌, Bool, true, false, true≢false, not, ◌&&◌, List, [], ◌∷◌, length, min, Option, Some, None, refl, sym, subst, ◌∙◌, arith, inl, ⊎_elim}
 use Rattle.std.specs.Prelude.{◌==◌, option_map}
 use Rattle.std.proofs.lemmas.Bool.{and_parts, eqb-true}
 use Rattle.std.proofs.lemmas.Option.{none-some}
@@ -8,7 +8,7 @@ use Rattle.control_wire.specs.declared.tcp.TcpControl.{TcpControl}
 use Rattle.control_wire.specs.declared.tcp.TcpControl.TheVariants as control
 use Rattle.sock_core.specs.Streams.{ByteAt}
 use Rattle.sock_tcp.specs.Due.{is_closed}
-use Rattle.sock_tcp.specs.Rfc.Numbers.{highest_number, number_out_by, numbered, renumbered, reply_numbered}
+use Rattle.sock_tcp.specs.Rfc.Numbers.{highest_number, number_out_by, numbered, reply_numbered}
 use Rattle.sock_tcp.specs.Rfc.Recovery.{sent_of}
 use Rattle.sock_tcp.specs.View.{View}
 use Rattle.sock_tcp.specs.declared.rules.Rules.{Rules}
@@ -16,7 +16,7 @@ use Rattle.sock_tcp.specs.declared.rules.Rules.TheVariants as rules
 use Rattle.sock_tcp.specs.declared.state.State.{State}
 use Rattle.sock_tcp.specs.declared.state.State.TheVariants as state
 use Rattle.pair_core.specs.PairNetwork.{phase_of, shown, stream_segment, is_syn, is_rst, is_fin}
-use Rattle.pair_core.specs.StreamCalls.{Answers, EmitEffect, EmitsReset, EmitsSegment, EndsWithQueues, ProcessEffect, ReplyEffect, ResetReply, Segment as MayAnswer}
+use Rattle.pair_core.specs.StreamCalls.{EmitEffect, EmitsReset, EmitsSegment, EndsWithQueues, ProcessEffect, ReplyEffect, ResetReply, Segment as MayAnswer}
 use Rattle.pair_core.specs.StreamEffects.{MaySend}
 use Rattle.pair_core.specs.StreamViews.{Dead, SocketView, StreamSegment}
 

@@ -8,7 +8,7 @@ use Rattle.sock_tcp.specs.Replies.{Answers, IsReplyStamp, echoed}
 use Rattle.pair_core.specs.declared.outcome.Outcome.TheVariants as outcome
 use Rattle.pair_core.specs.declared.segment.Segment.{Segment as Owned}
 use Rattle.pair_core.specs.Holding.{stored_of, kept_at}
-use Rattle.pair_core.specs.PairSteps.{delivered_to, processed_by, refusal_of, reply_index, reply_out}
+use Rattle.pair_core.specs.PairSteps.{delivered_to, refusal_of, reply_index, reply_out}
 use Rattle.pair_core.specs.PairViews.{HostView}
 use Rattle.pair_core.proofs.Deliveries.{get_map, read_twice, delivers, refused_by, refuses, takes_room}
 use Rattle.pair_core.proofs.wire.deliver.Goals.{else-not-accepted-via-then-not-accepted+else-eq, else-not-accepted-via-else-not-accepted}
