@@ -272,7 +272,6 @@ module _ (v : View) (now : Instant) (word : ℕ) (ip : IpRepr) (s : Segment) (aw
         half true = tt
         half false = tt
 
-
     rows_end : (st : State) (c : TcpControl) (fin : Bool) → u.state ≡ st → Ends (advance_in st c fin u come a.len).next (advance_in st c fin u come a.len).view
     unfolding syn_received syn_answered options_taken fin_counted
     rows_end state.SynReceived control.Rst fin is = fallen
