@@ -83,8 +83,6 @@ impl Talk {
         digest: &mut Digest,
     ) {
         match (self.role, socket.state()) {
-            // a socket in TIME-WAIT may have been taken for another connection
-            (Role::Server, State::SynReceived) => self.begin(0, 0),
             (_, State::Closed | State::Listen | State::SynSent | State::SynReceived) => {}
             (Role::Server, _) => self.answer(socket, scratch, source, random, digest),
             (Role::Client, _) => self.ask(socket, scratch, source, random, digest),

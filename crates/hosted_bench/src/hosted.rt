@@ -168,6 +168,10 @@ impl Host<SocketSet<'_, Clock>> {
                 continue;
             };
             if let Some(socket) = self.sockets.tcp_mut(*handle) {
+                // a socket in TIME-WAIT may have been taken for another connection
+                if talk.role == Role::Server && socket.state() == State::SynReceived {
+                    talk.begin(0, 0);
+                }
                 talk.serve(socket, scratch, source, random, digest);
             }
             self.look_at(place, digest)?;
