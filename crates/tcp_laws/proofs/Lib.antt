@@ -32,3 +32,5 @@ pub mod Timed
 pub mod Clocks
 pub mod Speaking
 pub mod LossSaid
+pub mod Telling
+pub mod LossFollows

@@ -1,0 +1,275 @@
+-- What a socket tells by SACK is what it holds.
+use Rattle.std.proofs.Common.{◌≡◌, ℕ, ◌+◌, ◌-◌, ◌<◌, ◌≤◌, Bool, true, false, refl, sym, ap, ◌∙◌, arith, List, [], ◌∷◌, length, Option, Some, None, is_some, ◌||◌, ◌&&◌}
+use Rattle.std.specs.Prelude.{int_lt, ◌==◌, if◌then◌else◌, slice_get, option_map, zero, suc}
+use Rattle.std.proofs.lemmas.Bool.Decides.{nat_tests}
+use Rattle.std.proofs.lemmas.Option.{none-some}
+use Rattle.ip_wire.specs.declared.repr.IpRepr.{IpRepr}
+use Rattle.net_base.specs.Ranges.{Apart, edges, is_held, is_within}
+use Rattle.net_base.specs.declared.assembler.Range.{Range}
+use Rattle.net_base.specs.declared.time.Instant.{Instant}
+use Rattle.control_wire.specs.Segment.{Segment}
+use Rattle.control_wire.specs.Seq.{seq_add, seq_sub}
+use Rattle.control_wire.specs.declared.seq_number.TcpSeqNumber.{TcpSeqNumber}
+use Rattle.control_wire.specs.declared.tcp.TcpControl.{TcpControl}
+use Rattle.control_wire.specs.declared.tcp.TcpControl.TheVariants as control
+use Rattle.sock_core.specs.Facts.{Facts}
+use Rattle.sock_core.specs.Received.{byte_at, holds_nothing, lies_around, makes_fifth_range, range_around, ranges_of}
+use Rattle.sock_core.proofs.Receiving.{ranges_are}
+use Rattle.sock_tcp.specs.Acked.{acked_of}
+use Rattle.sock_tcp.specs.Advance.{advance_in, advanced, counted_control}
+use Rattle.sock_tcp.specs.Arrival.{Arrival, arrival}
+use Rattle.sock_tcp.specs.Begin.{before_emit, peer_of}
+use Rattle.sock_tcp.specs.Content.{Sending, content, emission_kind, filled, of_kind, plain_segment, sent_as}
+use Rattle.sock_tcp.specs.Process.{Outcome, ack_sent, after_advance, by_verdict, bytes_taken, challenged, close_restarted, cut_inside, gap_answered, has_window, outside, outside_by, processed_by, processed_inside, stopped, tested_by, tuple_of}
+use Rattle.sock_tcp.specs.Replies.{ack_kept, ack_segment, chosen_range, first_of, sack_range, wire_edges}
+use Rattle.sock_tcp.specs.Rfc.Checks.{verdict_by}
+use Rattle.sock_tcp.specs.Rfc.Recovery.{before_of, recovered}
+use Rattle.sock_tcp.specs.Rfc.Refused.{refused}
+use Rattle.sock_tcp.specs.Rfc.Windows.{windowed}
+use Rattle.sock_tcp.specs.Steps.{ack_delayed, heard, joined}
+use Rattle.sock_tcp.specs.Timers.{after, challenge_interval}
+use Rattle.sock_tcp.specs.View.{View, moment_of}
+use Rattle.sock_tcp.specs.Window.{cut_of, is_inside, next_ack, receive_window}
+use Rattle.sock_tcp.specs.declared.acked.Acked.{Acked}
+use Rattle.sock_tcp.specs.declared.advance.Next.{Next}
+use Rattle.sock_tcp.specs.declared.advance.Next.TheVariants as next
+use Rattle.sock_tcp.specs.declared.emission.Kind.{Kind}
+use Rattle.sock_tcp.specs.declared.emission.Kind.TheVariants as kind
+use Rattle.sock_tcp.specs.declared.rules.Rules.{Rules}
+use Rattle.sock_tcp.specs.declared.state.State.{State}
+use Rattle.sock_tcp.specs.declared.state.State.TheVariants as state
+use Rattle.sock_tcp.specs.declared.tuple.Tuple.{Tuple}
+use Rattle.sock_tcp.specs.declared.verdict.Verdict.{Verdict}
+use Rattle.sock_tcp.specs.declared.verdict.Verdict.TheVariants as verdicts
+use Rattle.sock_tcp.proofs.Recovering.{recovered_as}
+use Rattle.sock_tcp.proofs.Refusing.{heard_alone, refused_as}
+use Rattle.tcp_laws.specs.SocketRun.{Dispatched, SendsTo}
+use Rattle.tcp_laws.specs.Telling.{AllHeld, TellsHeld}
+
+-- ---- one range of those that are held
+
+-- it is not empty, and all of its offsets are held
+record IsOf (hs : List (Option ℕ)) (r : ℕ × ℕ) : Type 0 where
+  some : r.0 < r.1
+  held : (k : ℕ) → r.0 ≤ k → k < r.1 → is_some (byte_at hs k) ≡ true
+
+abbrev AllOf : List (Option ℕ) → List (ℕ × ℕ) → Type 0
+AllOf hs [] = Unit {0}
+AllOf hs (r ∷ rs) = IsOf hs r × AllOf hs rs
+
+abbrev AnyOf : List (Option ℕ) → Option (ℕ × ℕ) → Type 0
+AnyOf hs None = Unit {0}
+AnyOf hs (Some r) = IsOf hs r
+
+all_of : (hs : List (Option ℕ)) (b : ℕ) (rs : List Range) → Apart b rs → ((k : ℕ) → is_held rs k ≡ true → is_some (byte_at hs k) ≡ true) → AllOf hs (edges rs)
+all_of hs b [] a h = tt
+all_of hs b (r ∷ rs) a h = (
+  record { some = a.1; held = λ k from to. h k (ap (λ t. t || is_held rs k) (let here : is_within r.start r.end k ≡ true = grind (arith, nat_tests, from, to) in here)) },
+  all_of hs (r.end + 1) rs a.2 (λ k e. h k (or_second (is_within r.start r.end k) (is_held rs k) e)),
+)
+  where
+    or_second : (a b : Bool) → b ≡ true → (a || b) ≡ true
+    or_second true b e = refl
+    or_second false b e = e
+
+got_of : (hs : List (Option ℕ)) (rs : List (ℕ × ℕ)) (i : ℕ) → AllOf hs rs → AnyOf hs (slice_get rs i)
+got_of hs [] i a = tt
+got_of hs (r ∷ rs) zero a = a.0
+got_of hs (r ∷ rs) (suc i) a = got_of hs rs i a.1
+
+around_of : (hs : List (Option ℕ)) (rs : List (ℕ × ℕ)) (d : ℕ) → AllOf hs rs → AnyOf hs (range_around rs d)
+around_of hs [] d a = tt
+around_of hs (r ∷ rs) d a = go (lies_around r d) (around_of hs rs d a.1)
+  where
+    go : (b : Bool) → AnyOf hs (range_around rs d) → AnyOf hs (if b then Some r else range_around rs d)
+    go true later = a.0
+    go false later = later
+
+first_of_them : (hs : List (Option ℕ)) (r s : Option (ℕ × ℕ)) → AnyOf hs r → AnyOf hs s → AnyOf hs (first_of r s)
+first_of_them hs None s a b = b
+first_of_them hs (Some r) s a b = a
+
+chosen_of : (hs : List (Option ℕ)) (rs : List (ℕ × ℕ)) (nxt : TcpSeqNumber) (last : Option TcpSeqNumber) → AllOf hs rs → AnyOf hs (chosen_range rs nxt last)
+chosen_of hs rs nxt None a = got_of hs rs 0 a
+chosen_of hs rs nxt (Some n) a = first_of_them hs (range_around rs (seq_sub n nxt)) (slice_get rs 0) (around_of hs rs (seq_sub n nxt) a) (got_of hs rs 0 a)
+
+-- ---- an acknowledgement tells it
+
+abbrev Says : Outcome → Type 0
+Says o = TellsHeld o.view o.reply
+
+module _ (s : Segment) where
+  acknowledges_held : (v : View) → AllHeld v (ack_segment v s).sack_ranges
+  unfolding ack_segment sack_range
+  acknowledges_held v = go v.remote_has_sack
+    where
+      hs : List (Option ℕ)
+      hs = v.rx_buffer.held
+
+      told : (o : Option (ℕ × ℕ)) → AnyOf hs o → AllHeld v (option_map (wire_edges (next_ack v)) o ∷ None ∷ None ∷ [])
+      told None a = tt
+      told (Some r) a = (
+        record {
+          start = r.0;
+          len = r.1 - r.0;
+          some = omega (arith, a.some);
+          begins = refl;
+          ends = ap (λ n. (seq_add (next_ack v) n).0) {x = r.1} {y = r.0 + (r.1 - r.0)} (omega (arith, a.some));
+          all = λ k less. a.held (r.0 + k) (omega arith) (omega (arith, a.some, less));
+        },
+        tt,
+      )
+
+      go : (b : Bool) → AllHeld v ((if b then option_map (wire_edges (next_ack v)) (chosen_range (edges (ranges_of hs)) (next_ack v) v.local_rx_last_seq) else None) ∷ None ∷ None ∷ [])
+      go true = let a = ranges_are hs in told _ (chosen_of hs (edges (ranges_of hs)) (next_ack v) v.local_rx_last_seq (all_of hs 0 (ranges_of hs) a.0 (λ k e. sym (a.1 k) ∙ e)))
+      go false = tt
+
+  acked_says : (w : View) → Says (ack_sent w s)
+  unfolding ack_kept
+  acked_says w = acknowledges_held w
+
+  module _ (now : Instant) where
+    challenged_says : (w : View) → Says (challenged w now s)
+    unfolding challenged
+    challenged_says w = go (int_lt now.micros w.challenge_ack_timer.micros)
+      where
+        go : (b : Bool) → Says (if b then stopped w else ack_sent (record w { challenge_ack_timer = after now challenge_interval }) s)
+        go true = tt
+        go false = acked_says (record w { challenge_ack_timer = after now challenge_interval })
+
+    outside_says : (w : View) → Says (outside w now s)
+    unfolding outside
+    outside_says w = by s.control
+      where
+        bytes_or_none : (b : Bool) → Says (if b then challenged (close_restarted w now) now s else ack_sent (close_restarted w now) s)
+        bytes_or_none true = challenged_says (close_restarted w now)
+        bytes_or_none false = acked_says (close_restarted w now)
+
+        by : (c : TcpControl) → Says (outside_by c (length s.payload) w now s)
+        by control.Rst = tt
+        by control.Syn = challenged_says (close_restarted w now)
+        by control.None = bytes_or_none (length s.payload == 0)
+        by control.Psh = bytes_or_none (length s.payload == 0)
+        by control.Fin = bytes_or_none (length s.payload == 0)
+
+    bytes_say : (w : View) (o : ℕ) (bs : List ℕ) → Says (bytes_taken w now o bs s)
+    unfolding bytes_taken
+    bytes_say w o bs = go (length bs == 0)
+      where
+        u : View
+        u = ack_delayed (joined w o bs) now
+
+        gap : (b : Bool) → Says (if b then stopped u else ack_sent u s)
+        gap true = tt
+        gap false = acked_says u
+
+        away : (b : Bool) → Says (if b then stopped w else gap_answered w u s)
+        away true = tt
+        away false = gap (holds_nothing w.rx_buffer.held && holds_nothing u.rx_buffer.held)
+
+        go : (b : Bool) → Says (if b then stopped w else (if makes_fifth_range w.rx_buffer o bs then stopped w else gap_answered w u s))
+        go true = tt
+        go false = away (makes_fifth_range w.rx_buffer o bs)
+
+    after_says : (a : Arrival) → a.now ≡ now → a.segment ≡ s → (x : Next) (u : View) (k : Acked) (o : ℕ) (bs : List ℕ) → Says (after_advance x u (record a { now = now; segment = s }) k o bs)
+    after_says a n e next.Stop u k o bs = tt
+    after_says a n e next.Challenge u k o bs = challenged_says u
+    after_says a n e next.Continue u k o bs = bytes_say (heard u now k s) o bs
+
+-- ---- the whole
+
+module _ (now : Instant) (word : ℕ) (ip : IpRepr) (s : Segment) where
+  abbrev come : Arrival
+  come = arrival now (tuple_of ip s) word s
+
+  inside_says : (u : View) (c : TcpControl) (o : ℕ) (bs : List ℕ) → Says (processed_inside u come c o bs)
+  unfolding processed_inside advanced
+  inside_says u c o bs =
+      let a = acked_of u s.control s.ack_number in
+      let x = advance_in u.state c a.fin u come a.len in
+      after_says s now come refl refl x.next x.view a o bs
+
+  refused_says : (r : Rules) (v : View) → Says (refused r v come)
+  refused_says r v = refused_as Says r v come (record {
+    answers = outside_says s now v;
+    counts = λ e. inside_says v control.Fin 0 [];
+    hears = λ e. inside_says v control.None 0 [];
+    ends = λ e. tt;
+    goes_on = λ e. outside_says s now (heard_alone v come).view;
+  })
+
+  tested_says : (r : Rules) (v : View) (b : Bool) → Says (tested_by r b v come)
+  tested_says r v false = inside_says v s.control 0 []
+  tested_says r v true = go (is_inside (receive_window v) s.seq_number (length s.payload))
+    where
+      go : (b : Bool) → Says (if b then cut_inside (receive_window v) (cut_of (receive_window v) s.seq_number (length s.payload)) v come else refused r v come)
+      go false = refused_says r v
+      go true = inside_says (record v { local_rx_last_seq = Some s.seq_number }) (counted_control s.control (receive_window v) s.seq_number (length s.payload)) _ _
+
+  -- what is done of loss changes neither what is held nor what is answered
+  recovered_says : (v : View) (o : Outcome) → Says o → Says (record { view = recovered (before_of v s) o.view now; reply = o.reply })
+  unfolding recovered
+  recovered_says v o h = go o.reply h
+    where
+      go : (r : Option Segment) → TellsHeld o.view r → TellsHeld (recovered (before_of v s) o.view now) r
+      go None h = tt
+      go (Some x) h = h
+
+  verdict_says : (r : Rules) (v : View) (x : Verdict) → Says (by_verdict r x v come)
+  verdict_says r v verdicts.Drop = tt
+  verdict_says r v verdicts.Reset = tt
+  verdict_says r v verdicts.Challenge = challenged_says s now v
+  verdict_says r v verdicts.Pass = let o = tested_by r (has_window v.state) v come in let h = tested_says r v (has_window v.state) in recovered_as Says r v now s o h (recovered_says v o h)
+
+pub process_says : (r : Rules) (v : View) (now : Instant) (word : ℕ) (ip : IpRepr) (s : Segment) → TellsHeld (processed_by r v now word ip s).view (processed_by r v now word ip s).reply
+unfolding processed_by
+process_says r v now word ip s = verdict_says now word ip (windowed r v s) r v (verdict_by r v now s)
+
+-- ---- what a dispatch sends
+
+abbrev none_told : List (Option (ℕ × ℕ))
+none_told = None ∷ None ∷ None ∷ []
+
+abbrev SaysNothing : Option Segment → Type 0
+SaysNothing None = Unit {0}
+SaysNothing (Some s) = s.sack_ranges ≡ none_told
+
+the_sending : {a b : Sending} → Some a ≡ Some b → a ≡ b
+the_sending e = cc
+
+module _ (v : View) (t : Tuple) (f : Facts) (bytes : List ℕ) where
+  filled_says : (st : State) (s : Segment) → s.sack_ranges ≡ none_told → SaysNothing (filled st v t f bytes s)
+  filled_says state.Closed s e = e
+  filled_says state.Listen s e = tt
+  filled_says state.SynSent s e = e
+  filled_says state.SynReceived s e = e
+  filled_says state.Established s e = e
+  filled_says state.FinWait1 s e = e
+  filled_says state.FinWait2 s e = e
+  filled_says state.CloseWait s e = e
+  filled_says state.Closing s e = e
+  filled_says state.LastAck s e = e
+  filled_says state.TimeWait s e = e
+
+  kind_says : (k : Kind) (s : Segment) → s.sack_ranges ≡ none_told → (of_kind k v s).sack_ranges ≡ none_told
+  kind_says kind.KeepAlive s e = e
+  kind_says kind.Probe s e = e
+  kind_says kind.Plain s e = e
+
+  content_says : (stamp : Option ℕ) (c : Sending) → Some c ≡ content v t f stamp bytes → c.segment.sack_ranges ≡ none_told
+  unfolding content plain_segment
+  content_says stamp c e = go (filled v.state v t f bytes (plain_segment v t stamp)) (filled_says v.state (plain_segment v t stamp) refl) e
+    where
+      sent : Segment → Sending
+      sent s = sent_as v t (emission_kind v (moment_of f) s) s
+
+      go : (o : Option Segment) → SaysNothing o → Some c ≡ option_map sent o → c.segment.sack_ranges ≡ none_told
+      go None h e = absurd (none-some c (sym e))
+      go (Some s) h e = ap (λ (x : Sending). x.segment.sack_ranges) (the_sending e) ∙ kind_says (emission_kind v (moment_of f) s) s h
+
+pub dispatch_tells_nothing : (v w : View) (f : Facts) (out : Sending) → Dispatched f v (Some out) w → out.segment.sack_ranges ≡ none_told
+dispatch_tells_nothing v w f out h = go (peer_of (before_emit v f)) h
+  where
+    go : (o : Option Tuple) → SendsTo o f (before_emit v f).view (Some out) w → out.segment.sack_ranges ≡ none_told
+    go None d = absurd (none-some out (sym d.0))
+    go (Some t) d = content_says (before_emit v f).view t f d.bytes d.stamp out d.sends
