@@ -22,6 +22,7 @@ pub mod NetworkReaches
 pub mod NetworkExample
 pub mod PairListeners
 pub mod DispatchKeeps
+pub mod DispatchTells
 pub mod Addresses
 pub mod SocketCalls
 pub mod PairHosts

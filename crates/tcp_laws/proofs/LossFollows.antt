@@ -35,7 +35,7 @@ moved_tells k n x (inr (inl h)) = inr (inl (block_covers n x k.second h))
 moved_tells k n x (inr (inr (inl h))) = inr (inr (inl (block_covers n x k.third h)))
 moved_tells k n x (inr (inr (inr h))) = inr (inr (inr (block_covers n x k.oldest h)))
 
-tells_nothing : (x : ℕ) → Tells nothing_told x → ⊥
+pub tells_nothing : (x : ℕ) → Tells nothing_told x → ⊥
 tells_nothing x (inl h) = omega (arith, h.1)
 tells_nothing x (inr (inl h)) = omega (arith, h.1)
 tells_nothing x (inr (inr (inl h))) = omega (arith, h.1)

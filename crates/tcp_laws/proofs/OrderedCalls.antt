@@ -361,7 +361,7 @@ kept_ordered = record {
   sendings = λ o f u w out h i. sends_ordered o f u out w h i;
 }
 
-fresh_ordered : (rx tx : Ring ℕ) → length tx.queue + length tx.spare ≤ 2 ^ 30 → IsOrdered (fresh (receiving rx) (queue_of tx))
+pub fresh_ordered : (rx tx : Ring ℕ) → length tx.queue + length tx.spare ≤ 2 ^ 30 → IsOrdered (fresh (receiving rx) (queue_of tx))
 unfolding fresh
 fresh_ordered rx tx room = record { una_small = omega arith; nxt_small = omega arith; room = room; congestion = kind_open kinds.Reno; peered = tt; row = tt }
 

@@ -227,7 +227,7 @@ process_says r v now word ip s = verdict_says now word ip (windowed r v s) r v (
 
 -- ---- what a dispatch sends
 
-abbrev none_told : List (Option (ℕ × ℕ))
+abbrev pub none_told : List (Option (ℕ × ℕ))
 none_told = None ∷ None ∷ None ∷ []
 
 abbrev SaysNothing : Option Segment → Type 0
@@ -256,7 +256,7 @@ module _ (v : View) (t : Tuple) (f : Facts) (bytes : List ℕ) where
   kind_says kind.Probe s e = e
   kind_says kind.Plain s e = e
 
-  content_says : (stamp : Option ℕ) (c : Sending) → Some c ≡ content v t f stamp bytes → c.segment.sack_ranges ≡ none_told
+  pub content_says : (stamp : Option ℕ) (c : Sending) → Some c ≡ content v t f stamp bytes → c.segment.sack_ranges ≡ none_told
   unfolding content plain_segment
   content_says stamp c e = go (filled v.state v t f bytes (plain_segment v t stamp)) (filled_says v.state (plain_segment v t stamp) refl) e
     where
