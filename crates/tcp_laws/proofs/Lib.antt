@@ -32,3 +32,4 @@ pub mod Timed
 pub mod Clocks
 pub mod Speaking
 pub mod LossSaid
+pub mod OwnWindows

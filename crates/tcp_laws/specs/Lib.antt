@@ -9,3 +9,4 @@ pub mod Repeating
 pub mod Clocks
 pub mod Speaking
 pub mod Loss
+pub mod Windows
