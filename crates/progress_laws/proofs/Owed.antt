@@ -17,7 +17,7 @@ use Rattle.sock_core.specs.declared.context.PollAt.TheVariants as poll
 use Rattle.sock_tcp.proofs.Lending.{lent_at_most}
 use Rattle.sock_tcp.specs.Begin.{after_timer, is_paused, readied}
 use Rattle.sock_tcp.specs.Content.{Sending, asked, carries_data, content, emission_kind, is_probing, offset_of, plain_segment, sent_as}
-use Rattle.sock_tcp.specs.Due.{ack_due, ack_poll, data_due, is_ack_after, is_closed, is_due, window_doubled}
+use Rattle.sock_tcp.specs.Due.{ack_due, ack_poll, data_due, is_ack_after, is_closed, is_due, window_doubled, window_field}
 use Rattle.sock_tcp.specs.Rfc.OwnWindow.{space_field}
 use Rattle.sock_tcp.specs.Polls.{delay_poll, is_reached}
 use Rattle.sock_tcp.specs.Queue.{Queue}
