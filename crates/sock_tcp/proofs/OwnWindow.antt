@@ -70,7 +70,7 @@ up_covers n shift = let h = lt-div-mul-add {a = n + (2 ^ shift - 1)} (pow_pos sh
 pub told_edge : (start : TcpSeqNumber) (room n : ℕ) → start.0 < 2 ^ 32 → n ≤ room → room ≤ 2 ^ 30 → seq_sub (kept_between start (seq_add start room) (seq_add start n)) start ≡ n
 told_edge start room n small fits narrow = rw (is_not_before (seq_add start n) start (omega (arith, small, fits, narrow)), is_not_before (seq_add start room) (seq_add start n) (omega (arith, small, fits, narrow))) (omega (arith, small, fits, narrow))
 
--- once w told the field that u had, it has none that is larger
+-- w told the field that u had
 module _ (u w : View) (rx : w.rx_buffer ≡ u.rx_buffer) (shift : w.remote_win_shift ≡ u.remote_win_shift) (mss : w.remote_mss ≡ u.remote_mss) (ack : w.remote_last_ack ≡ Some (next_ack w)) (win : w.remote_last_win ≡ window_field u) (room : length u.rx_buffer.held ≤ 2 ^ 30) where
   told_now : told_left w ≡ window_field u * 2 ^ u.remote_win_shift
   unfolding receive_window
@@ -91,10 +91,6 @@ module _ (u w : View) (rx : w.rx_buffer ≡ u.rx_buffer) (shift : w.remote_win_s
   same_least : least w ≡ least u
   same_least = λ i. min (room_of (rx i) / 2) (mss i)
 
-  at_most : (grown : Bool) → (if grown then space_field w else kept_field w) ≤ space_field u
-  at_most true = omega (arith, same_space)
-  at_most false = omega (arith, same_space)
-
   -- where the edge was kept, it is kept on
   keeps_on : is_grown u ≡ false → is_grown w ≡ true → window_field u ≡ field_up (told_left u) u.remote_win_shift → ⊥
   unfolding is_grown
@@ -105,16 +101,17 @@ module _ (u w : View) (rx : w.rx_buffer ≡ u.rx_buffer) (shift : w.remote_win_s
       let more = leb-true (least w) (length w.rx_buffer.held - told_left w) growth in
       omega (arith, told, covered, less, more, same_held, same_least)
 
-  pub no_larger : (r : Rules) → window_field u ≡ field_by r u → may_grow r w ≡ true → field_by r w ≤ window_field u
+  -- where it may grow, it tells no more
+  pub no_larger : (r : Rules) → window_field u ≡ field_by r u → may_grow r w ≡ true → space_field w ≤ window_field u
   no_larger rules.Smoltcp is growth = omega (arith, is, same_space)
   no_larger rules.Rfc is growth = by (is_grown u) refl is
     where
-      by : (grown : Bool) → is_grown u ≡ grown → window_field u ≡ (if grown then space_field u else kept_field u) → field_by rules.Rfc w ≤ window_field u
-      by true g e = let a = at_most (is_grown w) in omega (arith, a, e)
-      by false g e = let a = at_most (is_grown w) in kept (nat_le (space_field u) (field_up (told_left u) u.remote_win_shift)) refl
+      by : (grown : Bool) → is_grown u ≡ grown → window_field u ≡ (if grown then space_field u else kept_field u) → space_field w ≤ window_field u
+      by true g e = omega (arith, same_space, e)
+      by false g e = kept (nat_le (space_field u) (field_up (told_left u) u.remote_win_shift)) refl
         where
-          kept : (b : Bool) → nat_le (space_field u) (field_up (told_left u) u.remote_win_shift) ≡ b → field_by rules.Rfc w ≤ window_field u
-          kept true h = let n = leb-true (space_field u) (field_up (told_left u) u.remote_win_shift) h in let a = at_most (is_grown w) in omega (arith, a, e, n)
+          kept : (b : Bool) → nat_le (space_field u) (field_up (told_left u) u.remote_win_shift) ≡ b → space_field w ≤ window_field u
+          kept true h = let n = leb-true (space_field u) (field_up (told_left u) u.remote_win_shift) h in omega (arith, same_space, e, n)
           kept false h =
               let n = leb-false (space_field u) (field_up (told_left u) u.remote_win_shift) h in
               let is_up : window_field u ≡ field_up (told_left u) u.remote_win_shift = omega (arith, e, n) in

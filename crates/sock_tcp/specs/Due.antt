@@ -11,7 +11,7 @@ use Rattle.sock_core.specs.Seq.{is_before}
 use Rattle.sock_core.specs.declared.context.PollAt.{PollAt}
 use Rattle.sock_core.specs.declared.context.PollAt.TheVariants as poll
 use Rattle.sock_tcp.specs.Polls.{is_reached, delay_poll}
-use Rattle.sock_tcp.specs.Rfc.OwnWindow.{field_by, may_grow}
+use Rattle.sock_tcp.specs.Rfc.OwnWindow.{field_by, may_grow, space_field}
 use Rattle.sock_tcp.specs.Rfc.Pipe.{counts, pipe}
 use Rattle.sock_tcp.specs.Rfc.Scoreboard.{is_blank}
 use Rattle.sock_tcp.specs.Rfc.SmallSegments.{is_cut_by}
@@ -116,8 +116,8 @@ waits_by_nagle v mss = v.nagle && not (flight v == 0) && nat_lt (sendable v) mss
 -- and by the RFCs' rules what the peer's window makes small
 abbrev pub is_held_back : View → ℕ → Bool
 is_held_back v mss =
-    is_cut_by v.rules (flight v) v.remote_win_len (length v.tx_buffer.bytes) (congestion_left v) mss
-    || waits_by_nagle v mss
+    waits_by_nagle v mss
+    || is_cut_by v.rules (flight v) v.remote_win_len (length v.tx_buffer.bytes) (congestion_left v) mss
 
 -- a SYN or a FIN
 abbrev pub control_due : View → Bool
@@ -162,11 +162,11 @@ edge_sent v ack = seq_add ack (v.remote_last_win * 2 ^ v.remote_win_shift)
 
 abbrev pub is_doubled : View → Option TcpSeqNumber → Bool
 is_doubled v None = false
-is_doubled v (Some ack) = not (window_field v == 0) && nat_le (field_left v (edge_sent v ack)) (window_field v / 2)
+is_doubled v (Some ack) = not (space_field v == 0) && nat_le (field_left v (edge_sent v ack)) (space_field v / 2)
 
 -- the window has at least doubled since it was sent; by the RFCs' rules its right edge may move on, too
 unfoldable pub window_doubled : View → Bool
-window_doubled v = tells_window v.state && (may_grow v.rules v && is_doubled v v.remote_last_ack)
+window_doubled v = tells_window v.state && (is_doubled v v.remote_last_ack && may_grow v.rules v)
 
 -- ---- the reasons in their order
 

@@ -102,7 +102,7 @@ impl<'a> ControlBlock<'a> {
     fn is_held_back(&self, mss: usize) -> bool
         ensures { result ≡ is_held_back self.now mss }
     {
-        self.is_cut_short(mss) || self.waits_by_nagle(mss)
+        self.waits_by_nagle(mss) || self.is_cut_short(mss)
     }
 
     #[inline(always)]
@@ -169,7 +169,7 @@ impl<'a> ControlBlock<'a> {
             Some(ack) => ack,
         };
         let edge = ack.plus((self.remote_last_win as usize) << self.remote_win_shift);
-        let field = self.window_field() as usize;
+        let field = self.space_field() as usize;
         field != 0 && field / 2 >= self.field_left(edge)
     }
 
@@ -178,7 +178,7 @@ impl<'a> ControlBlock<'a> {
     pub(crate) fn window_doubled(&self) -> bool
         ensures { result ≡ window_doubled self.now }
     {
-        self.state.tells_window() && self.may_grow() && self.is_doubled()
+        self.state.tells_window() && self.is_doubled() && self.may_grow()
     }
 
     // The reasons to send, in their order.

@@ -120,7 +120,7 @@ module _ (v : View) where
 
 pub no_window_by_bytes : NoWindowByBytes
 unfolding window_doubled
-no_window_by_bytes v is small = (moves, and_right (tells_window v.state) (may_grow v.rules v && is_doubled v v.remote_last_ack) (and_left (may_grow v.rules v) (is_doubled v v.remote_last_ack) still))
+no_window_by_bytes v is small = (moves, and_right (tells_window v.state) (is_doubled v v.remote_last_ack && may_grow v.rules v) (and_right (is_doubled v v.remote_last_ack) (may_grow v.rules v) still))
   where
     still : may_grow v.rules v ≡ false
     still = ap (λ r. may_grow r v) is ∙ no_growth v small
@@ -140,15 +140,13 @@ half_at_least left field none some = grind (arith, nat_tests, none, some)
 
 pub opened_window_is_told : OpenedWindowIsTold
 unfolding window_doubled
-opened_window_is_told v ack is large tells last none some = all_three (tells_window v.state) (may_grow v.rules v) (is_doubled v v.remote_last_ack) tells grows doubled
+opened_window_is_told v ack is large tells last none some = all_three (tells_window v.state) (is_doubled v v.remote_last_ack) (may_grow v.rules v) tells doubled grows
   where
     grows : may_grow v.rules v ≡ true
     grows = ap (λ r. may_grow r v) is ∙ growth v large
 
     doubled : is_doubled v v.remote_last_ack ≡ true
-    doubled =
-        let whole = grown_or_not v true (growth v large) is in
-        ap (is_doubled v) last ∙ half_at_least (field_left v (edge_sent v ack)) (window_field v) none (omega (arith, whole, some))
+    doubled = ap (is_doubled v) last ∙ half_at_least (field_left v (edge_sent v ack)) (space_field v) none some
 
 -- ---- the peer's window
 

@@ -22,7 +22,7 @@ use Rattle.sock_tcp.proofs.Windows.{far, left_is_told}
 use Rattle.sock_tcp.specs.Begin.{Begun, readied, after_timers, peer_of}
 use Rattle.sock_tcp.specs.Content.{Sending, asked, carries_data, content, emission_kind, filled, is_probing, of_kind, offset_of, plain_segment, sent_as, window_left}
 use Rattle.sock_tcp.specs.Due.{ack_due, ack_poll, data_due, edge_sent, effective_mss, field_left, flight, is_ack_after, is_closed, is_closing, is_doubled, is_held_back, is_opening, congestion_left, sendable, tells_window, window_doubled, window_field}
-use Rattle.sock_tcp.specs.Rfc.OwnWindow.{may_grow}
+use Rattle.sock_tcp.specs.Rfc.OwnWindow.{may_grow, space_field}
 use Rattle.sock_tcp.specs.Poll.{is_due_now, poll_moment, poll_moment_to}
 use Rattle.sock_tcp.specs.Polls.{delay_poll, earlier, is_reached, timer_poll, timeout_poll}
 use Rattle.sock_tcp.specs.Queue.{IsLent, Queue}
@@ -285,12 +285,12 @@ module _ (u : View) (now : Instant) (b : Segment) (a : AckOf u b) (o : IsOrdered
   not_doubled : length u.rx_buffer.held ≤ 2 ^ 30 → window_doubled plain_left ≡ true → ⊥
   unfolding window_doubled snd_nxt_moved after_any
   not_doubled room e =
-      let m = and_parts (tells_window u.state) (may_grow u.rules plain_left && is_doubled plain_left b.ack_number) e in
-      let g = and_parts (may_grow u.rules plain_left) (is_doubled plain_left b.ack_number) m.1 in
-      let h : is_doubled plain_left (Some (next_ack u)) ≡ true = subst (λ k. is_doubled plain_left k ≡ true) a.tells.ack g.1 in
-      let p = and_parts (not (window_field plain_left == 0)) (nat_le (field_left plain_left (edge_sent plain_left (next_ack u))) (window_field plain_left / 2)) h in
-      let no_more : window_field plain_left ≤ window_field u = no_larger u plain_left refl refl refl a.tells.ack a.tells.window room u.rules refl g.0 in
-      half_less (window_field plain_left) (field_left plain_left (edge_sent plain_left (next_ack u))) (omega (arith, whole, no_more)) p.0 p.1
+      let m = and_parts (tells_window u.state) (is_doubled plain_left b.ack_number && may_grow u.rules plain_left) e in
+      let g = and_parts (is_doubled plain_left b.ack_number) (may_grow u.rules plain_left) m.1 in
+      let h : is_doubled plain_left (Some (next_ack u)) ≡ true = subst (λ k. is_doubled plain_left k ≡ true) a.tells.ack g.0 in
+      let p = and_parts (not (space_field u == 0)) (nat_le (field_left plain_left (edge_sent plain_left (next_ack u))) (space_field u / 2)) h in
+      let no_more : space_field u ≤ window_field u = no_larger u plain_left refl refl refl a.tells.ack a.tells.window room u.rules refl g.1 in
+      half_less (space_field u) (field_left plain_left (edge_sent plain_left (next_ack u))) (omega (arith, whole, no_more)) p.0 p.1
     where
       whole : field_left plain_left (edge_sent plain_left (next_ack u)) ≡ window_field u
       whole = rw a.tells.window (left_whole u room)
