@@ -33,3 +33,4 @@ pub mod Clocks
 pub mod Speaking
 pub mod LossSaid
 pub mod OwnWindows
+pub mod OlderWindows

@@ -8,21 +8,14 @@ use Rattle.std.proofs.lemmas.Nat.{pow_pos}
 use Rattle.control_wire.specs.Segment.{Segment, segment_len}
 use Rattle.control_wire.specs.Seq.{seq_add, seq_sub}
 use Rattle.control_wire.specs.declared.seq_number.TcpSeqNumber.{TcpSeqNumber}
-use Rattle.control_wire.specs.declared.tcp.TcpControl.{TcpControl}
-use Rattle.control_wire.specs.declared.tcp.TcpControl.TheVariants as control
 use Rattle.sock_core.specs.Received.{room_of}
 use Rattle.sock_core.specs.Seq.{is_before, later_of}
-use Rattle.sock_tcp.proofs.KeptSegments.{heard_kept}
 use Rattle.sock_tcp.proofs.OwnWindow.{up_covers}
 use Rattle.sock_tcp.proofs.Windows.{far, is_not_before, window_width}
-use Rattle.sock_tcp.specs.Acked.{acked_of}
 use Rattle.sock_tcp.specs.Due.{edge_sent, field_left, flight, is_closed, is_doubled, tells_window, window_doubled, window_field}
 use Rattle.sock_tcp.specs.Rfc.Numbers.{highest_number, number_out_by, numbered}
 use Rattle.sock_tcp.specs.Rfc.OwnWindow.{field_by, field_up, is_grown, kept_field, may_grow, space_field, told_left}
 use Rattle.sock_tcp.specs.Rfc.Recovery.{highest_of, sent_of}
-use Rattle.sock_tcp.specs.Rfc.Windows.{field_kept, is_newer_by, told_by, windowed}
-use Rattle.sock_tcp.specs.Scale.{scale_of}
-use Rattle.sock_tcp.specs.Steps.{ack_counted, duplicate_counted, released, timer_set, timestamp_taken, una_advanced, window_of, window_taken}
 use Rattle.sock_tcp.specs.View.{View}
 use Rattle.sock_tcp.specs.Window.{has_window}
 use Rattle.sock_tcp.specs.declared.recovery.Recovery.{Recovery}
@@ -35,7 +28,7 @@ use Rattle.sock_tcp.specs.declared.timer.Timer.TheVariants as timer
 use Rattle.net_base.specs.declared.time.Duration.{Duration}
 use Rattle.std.specs.Prelude.{Option}
 use Rattle.tcp_laws.specs.Polling.{IsReached}
-use Rattle.tcp_laws.specs.Windows.{IsNumbered, IsSmallGrowth, NoWindowByBytes, NumberIsNotBehind, OlderWindowIsNotTaken, OpenedWindowIsTold, RightEdgeStays}
+use Rattle.tcp_laws.specs.Windows.{IsNumbered, IsSmallGrowth, NoWindowByBytes, NumberIsNotBehind, OpenedWindowIsTold, RightEdgeStays}
 use Rattle.tcp_laws.proofs.Ordered.{IsOrdered, Row}
 use Rattle.tcp_laws.proofs.OrderedCalls.{reached_ordered}
 use Rattle.tcp_laws.proofs.SocketSteps.{holds_after}
@@ -147,31 +140,6 @@ opened_window_is_told v ack is large tells last none some = all_three (tells_win
 
     doubled : is_doubled v v.remote_last_ack ≡ true
     doubled = ap (is_doubled v) last ∙ half_at_least (field_left v (edge_sent v ack)) (space_field v) none some
-
--- ---- the peer's window
-
-pub older_window_is_not_taken : OlderWindowIsNotTaken
-unfolding window_taken released duplicate_counted ack_counted una_advanced timestamp_taken timer_set
-older_window_is_not_taken v now a s is old = heard_kept (λ w. w.remote_win_len ≤ left) now (windowed v.rules v s) v a told (λ k. told) (λ k. told)
-  where
-    left : ℕ
-    left = v.remote_win_len - (acked_of v s.control s.ack_number).len
-
-    kept : told_by v.rules v s ≡ field_kept v s
-    kept = ap (λ r. told_by r v s) is ∙ ap (λ b. if b then s.window_len else field_kept v s) old
-
-    within : field_kept v s * 2 ^ scale_of v.remote_win_scale ≤ left
-    within =
-        let a = mul-le-mul_right {m = field_kept v s} {n = left / 2 ^ scale_of v.remote_win_scale} (2 ^ scale_of v.remote_win_scale) (omega arith) in
-        let b = div-mul-le_self left (2 ^ scale_of v.remote_win_scale) in
-        omega (arith, a, b)
-
-    by : (c : TcpControl) → is_newer_by c v.snd_wl1 v.snd_wl2 s.seq_number s.ack_number ≡ false → window_of c (field_kept v s) v.remote_win_scale ≤ left
-    by control.Syn e = absurd (true≢false e)
-    by _ e = within
-
-    told : window_of s.control (told_by v.rules v s) v.remote_win_scale ≤ left
-    told = subst (λ n. window_of s.control n v.remote_win_scale ≤ left) (sym kept) (by s.control old)
 
 -- ---- numbers
 

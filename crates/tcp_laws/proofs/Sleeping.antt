@@ -124,7 +124,7 @@ data_goes v t f e z = go (sendable v == 0) refl
     by_window rules.Rfc = rw z refl
 
     not_held : is_held_back v (effective_mss v t f) ≡ false
-    not_held = rw (by_window v.rules) (by_nagle v.nagle)
+    not_held = λ i. by_nagle v.nagle i || by_window v.rules i
 
     go : (b : Bool) → (sendable v == 0) ≡ b → sendable v ≡ 0
     go true i = eqb-true (sendable v) 0 i

@@ -1,5 +1,6 @@
 -- Which window a socket tells, and which number it sends, by the RFCs' rules.
 use Rattle.std.specs.Prelude.{ℕ, ◌≡◌, ◌+◌, ◌-◌, ◌*◌, ◌/◌, ◌^◌, ◌<◌, ◌≤◌, length, min, Some, true, false}
+use Rattle.ip_wire.specs.declared.repr.IpRepr.{IpRepr}
 use Rattle.net_base.specs.declared.time.Instant.{Instant}
 use Rattle.control_wire.specs.Segment.{Segment, segment_len}
 use Rattle.control_wire.specs.declared.seq_number.TcpSeqNumber.{TcpSeqNumber}
@@ -7,6 +8,7 @@ use Rattle.sock_core.specs.Received.{room_of}
 use Rattle.sock_core.specs.Seq.{is_before}
 use Rattle.sock_tcp.specs.Acked.{acked_of}
 use Rattle.sock_tcp.specs.Due.{edge_sent, field_left, is_closed, tells_window, window_doubled, window_field}
+use Rattle.sock_tcp.specs.Process.{processed}
 use Rattle.sock_tcp.specs.Rfc.Numbers.{numbered}
 use Rattle.sock_tcp.specs.Rfc.OwnWindow.{space_field, told_left}
 use Rattle.sock_tcp.specs.Rfc.Windows.{is_newer, windowed}
@@ -51,14 +53,15 @@ OpenedWindowIsTold = (v : View) (ack : TcpSeqNumber)
     → 0 < space_field v
     → window_doubled v ≡ true
 
--- A segment that is older than the one that told the peer's window, where it is heard, leaves at most what is left of
--- that window behind what it acknowledges
+-- A segment that is older than the one that told the peer's window leaves, where it is heard, at most what is left of
+-- that window behind what it acknowledges; and whatever is done with it, the window is not larger then
 abbrev pub OlderWindowIsNotTaken : Type 0
-OlderWindowIsNotTaken = (v : View) (now : Instant) (a : Acked) (s : Segment)
+OlderWindowIsNotTaken = (v : View) (now : Instant) (word : ℕ) (ip : IpRepr) (s : Segment)
     → v.rules ≡ rules.Rfc
     → is_newer v.snd_wl1 v.snd_wl2 s ≡ false
-    → (heard v now a (windowed v.rules v s)).remote_win_len
-    ≤ v.remote_win_len - (acked_of v s.control s.ack_number).len
+    → ((a : Acked) → (heard v now a (windowed v.rules v s)).remote_win_len
+    ≤ v.remote_win_len - (acked_of v s.control s.ack_number).len)
+    × ((processed v now word ip s).view.remote_win_len ≤ v.remote_win_len)
 
 -- the recovery point is a number of 32 bits, as in each socket
 abbrev pub IsNumbered : Recovery → Type 0

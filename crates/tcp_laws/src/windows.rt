@@ -20,8 +20,9 @@ pub fn opened_window_is_told()
     ensures { OpenedWindowIsTold }
 {}
 
-/// Where a segment is heard that is older than the one that told the peer's window, by SND.WL1 and SND.WL2, at most what
-/// is left of that window counts (RFC 9293, section 3.10.7.4).
+/// A segment that is older than the one that told the peer's window, by SND.WL1 and SND.WL2, makes the window no larger,
+/// whatever the socket does with it; where it is heard, at most what is left of that window counts (RFC 9293, section
+/// 3.10.7.4).
 pub fn older_window_is_not_taken()
     ensures { OlderWindowIsNotTaken }
 {}

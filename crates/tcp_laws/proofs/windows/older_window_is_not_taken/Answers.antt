@@ -1,4 +1,4 @@
-use Rattle.tcp_laws.proofs.OwnWindows.{older_window_is_not_taken}
+use Rattle.tcp_laws.proofs.OlderWindows.{older_window_is_not_taken}
 use Rattle.tcp_laws.proofs.windows.older_window_is_not_taken.Goals as goal
 
 pub returns : goal.returns
