@@ -25,6 +25,7 @@ impl<'a> ControlBlock<'a> {
     }
 
     // Whether half of the receive buffer, or a segment of the connection, lies behind its right edge.
+    #[inline(never)]
     #[tactic(auto, unfolding(crate::specs::Rfc::OwnWindow::is_grown))]
     fn is_grown(&self) -> bool
         ensures { result ≡ is_grown self.now }
@@ -65,6 +66,7 @@ impl<'a> ControlBlock<'a> {
     }
 
     // Whether the right edge that is told may move on.
+    #[inline(always)]
     pub(crate) fn may_grow(&self) -> bool
         ensures { result ≡ may_grow self.now.rules self.now }
     {
