@@ -20,7 +20,7 @@ pub fn opened_window_is_told()
     ensures { OpenedWindowIsTold }
 {}
 
-/// A segment that is older than the one that told the peer's window, by SND.WL1 and SND.WL2, makes the window no larger,
+/// A segment that is older than the one that told the peer's window (SND.WL1 and SND.WL2) makes the window no larger,
 /// whatever the socket does with it; where it is heard, at most what is left of that window counts (RFC 9293, section
 /// 3.10.7.4).
 pub fn older_window_is_not_taken()
