@@ -47,6 +47,7 @@ use Rattle.progress_laws.proofs.Spoken.{ack, bit, fin_alone, is_fin, queued}
 use Rattle.progress_laws.proofs.Taken.{Rest, counted_carries}
 use Rattle.progress_laws.proofs.Talks.{AsksOnly, StartsAtUna}
 use Rattle.progress_laws.proofs.Utters.{Utters, onward, utters}
+use Rattle.sock_tcp.specs.declared.rules.Rules.TheVariants as rules
 
 no_listen : (st : State) → has_counted st ≡ true → st ≡ state.Listen → ⊥
 no_listen state.CloseWait c e = absurd cc
@@ -83,6 +84,7 @@ pub record FinAcked (f : Facts) (at : Instant) (u z : View) (got : List ℕ) : T
   pub receiver : View
   pub exchanges : Exchanges f at u z got end sender receiver got
   pub reached : IsReached sender
+  pub smoltcp : sender.rules ≡ rules.Smoltcp
   pub state : sender.state ≡ state.FinWait2
   pub rx : sender.rx_buffer ≡ u.rx_buffer
   pub own : next_ack sender ≡ next_ack u
@@ -214,6 +216,7 @@ module _ (d : Duration) (t : Tuple) (f : Facts) (mtu : IsMtu f.mtu) (here : f.ha
       receiver = o.view;
       exchanges = onward at p.mid p.now v z x z v' o.view got got got p.before (NextOne p.mid p.now p.now x z v' o.view v' o.view got got got p.since (IsMove (IsAnswered p.out u (ack_segment z s) (answer_stamp o.view s) p.dispatch (ap (λ r. record { view = o.view; reply = r }) reply) (ack_stamped z o.view s) hears refl)) (NoMore p.now v' o.view got));
       reached = segment_reached u v' p.now 0 ip g None u_reached (omega arith) (numbered_as g (next_ack z) number (subst (λ (m : TcpSeqNumber). m.0 < 2 ^ 32) (sym seq) z_small) (omega arith)) (omega (arith, empty)) (λ e. absurd (carries_listens x.state p.speaker.carries (sym p.left.same.state ∙ e))) hears;
+      smoltcp = h_as.same_rules ∙ p.left.same.same_rules ∙ p.earlier.same.same_rules ∙ sp.smoltcp;
       state = h_as.state;
       rx = h_as.rx ∙ p.left.same.rx ∙ p.earlier.same.rx;
       own = (λ i. seq_add (h_as.rcv i) (length ((h_as.rx i).bytes))) ∙ (λ i. seq_add (p.left.same.rcv i) (length ((p.left.same.rx i).bytes))) ∙ own;

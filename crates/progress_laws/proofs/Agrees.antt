@@ -15,7 +15,7 @@ use Rattle.sock_core.specs.Seq.{is_not_after, later_of}
 use Rattle.sock_tcp.proofs.Windows.{end_small, start_small, window_width}
 use Rattle.sock_tcp.specs.Acked.{acked_of}
 use Rattle.sock_tcp.specs.Content.{carries_data}
-use Rattle.sock_tcp.specs.Due.{window_field}
+use Rattle.sock_tcp.specs.Rfc.OwnWindow.{space_field}
 use Rattle.sock_tcp.specs.Process.{ack_sent}
 use Rattle.progress_laws.specs.Smoltcp.{processed}
 use Rattle.sock_tcp.specs.Queue.{Queue}
@@ -41,7 +41,7 @@ use Rattle.progress_laws.proofs.Edges.{empty_inside_so, is_not_before, later_sta
 use Rattle.progress_laws.proofs.Heeds.{waits_on}
 use Rattle.progress_laws.proofs.Hears.{HeardAs, IsSaid, heard_as}
 use Rattle.progress_laws.proofs.Matches.{get_drop}
-use Rattle.progress_laws.proofs.Sends.{HasTold, Untold}
+use Rattle.progress_laws.proofs.Sends.{HasTold, Untold, smoltcp_field}
 use Rattle.progress_laws.proofs.Talks.{Left}
 use Rattle.progress_laws.proofs.Widths.{same_width, told_alike, width_told}
 use Rattle.progress_laws.proofs.Arrives.{reads_reached, receives_may}
@@ -139,7 +139,7 @@ module _ (d : Duration) (t : Tuple) (v w : View) (n h : ℕ) (i : Agreement d t 
   unfolding read_off
   reads_agree = record {
     speaker = i.speaker;
-    taker = record { reached = reads_reached w (length w.rx_buffer.bytes) (receives_may w i.taker.state) (omega arith) i.taker.reached; state = i.taker.state; room = omega (arith, i.taker.room, room_handed_out w.rx_buffer (length w.rx_buffer.bytes) (omega arith)) };
+    taker = record { reached = reads_reached w (length w.rx_buffer.bytes) (receives_may w i.taker.state) (omega arith) i.taker.reached; state = i.taker.state; smoltcp = i.taker.smoltcp; room = omega (arith, i.taker.room, room_handed_out w.rx_buffer (length w.rx_buffer.bytes) (omega arith)) };
     taken_within = i.taken_within;
     there = same_seq (next_ack all_read) (next_ack w) (omega (arith, ap (λ (l : List ℕ). length l) nothing_left)) ∙ i.there;
     held = λ k b e. i.held k b (sym (held_stays w.rx_buffer (length w.rx_buffer.bytes) k) ∙ e);
@@ -156,7 +156,7 @@ module _ (d : Duration) (t : Tuple) (v w : View) (n h : ℕ) (i : Agreement d t 
     unfolding ack_kept
     answers_agree = record {
       speaker = i.speaker;
-      taker = record { reached = segment_reached w (ack_kept w) now 0 ip s (Some (ack_segment w s)) i.taker.reached (omega arith) (numbered_as s (next_ack v) ack small (omega arith)) short (λ e. absurd (no_listener w.state i.taker.state e)) answers; state = i.taker.state; room = i.taker.room };
+      taker = record { reached = segment_reached w (ack_kept w) now 0 ip s (Some (ack_segment w s)) i.taker.reached (omega arith) (numbered_as s (next_ack v) ack small (omega arith)) short (λ e. absurd (no_listener w.state i.taker.state e)) answers; state = i.taker.state; smoltcp = i.taker.smoltcp; room = i.taker.room };
       taken_within = i.taken_within;
       there = i.there;
       held = i.held;
@@ -169,11 +169,11 @@ module _ (d : Duration) (t : Tuple) (v w : View) (n h : ℕ) (i : Agreement d t 
   -- its window has a place then
   pub answers_open : 2 ^ w.remote_win_shift ≤ length w.rx_buffer.held → HasWindow (ack_kept w)
   unfolding ack_kept
-  answers_open room = omega (arith, width_told w (ack_kept w) (length w.rx_buffer.held) refl (omega (arith, reached_room w i.taker.reached)) refl refl refl refl refl, mul-pos (field_some w room) (pow_pos w.remote_win_shift))
+  answers_open room = omega (arith, width_told w (ack_kept w) (length w.rx_buffer.held) refl (omega (arith, reached_room w i.taker.reached)) refl refl refl refl (smoltcp_field w i.taker.smoltcp), mul-pos (field_some w room) (pow_pos w.remote_win_shift))
 
   -- ---- the answer is heard
 
-  module _ (room : 2 ^ w.remote_win_shift ≤ length w.rx_buffer.held) (some : v.state ≡ state.LastAck → 0 < n) (now : Instant) (ip : IpRepr) (g : Segment) (bit : g.control ≡ control.None) (number : g.seq_number ≡ w.remote_last_seq) (ack : g.ack_number ≡ Some (next_ack w)) (field : g.window_len ≡ window_field w) (empty : length g.payload ≡ 0) where
+  module _ (room : 2 ^ w.remote_win_shift ≤ length w.rx_buffer.held) (some : v.state ≡ state.LastAck → 0 < n) (now : Instant) (ip : IpRepr) (g : Segment) (bit : g.control ≡ control.None) (number : g.seq_number ≡ w.remote_last_seq) (ack : g.ack_number ≡ Some (next_ack w)) (field : g.window_len ≡ space_field w) (empty : length g.payload ≡ 0) where
     abbrev x : View
     x = record v { local_rx_last_seq = Some g.seq_number }
 

@@ -16,7 +16,7 @@ use Rattle.sock_tcp.specs.Arrival.{arrival}
 use Rattle.sock_tcp.specs.Acked.{acked_at, acked_of, acked_places, is_fin_acked, syn_place}
 use Rattle.sock_tcp.specs.Advance.{advance_in, advanced, continues, counted_control}
 use Rattle.sock_tcp.specs.Content.{Sending, carries_data}
-use Rattle.sock_tcp.specs.Due.{window_field}
+use Rattle.sock_tcp.specs.Rfc.OwnWindow.{space_field}
 use Rattle.sock_tcp.specs.Process.{Outcome, ack_sent, after_table, bytes_taken, processed_inside, stopped, tuple_of, processed_by}
 use Rattle.progress_laws.specs.Smoltcp.{processed}
 use Rattle.sock_tcp.specs.Queue.{Queue}
@@ -39,6 +39,7 @@ use Rattle.progress_laws.specs.Delivery.{CountsFin, DeliveryMoves, HasSaid, HasW
 use Rattle.progress_laws.proofs.Arrives.{CountsIt, Faces, HeardSo, away, cut_at_edge, cut_some, edge_inside, fin_counts, heard_so, is_synchronized, joins, passes_so, receives_so, synchronized_has, wide}
 use Rattle.progress_laws.proofs.Begins.{and_no, not_zero, some_or_none}
 use Rattle.progress_laws.proofs.Spoken.{FinAlone, Stands, Still, WithBytes, ack, bit, reached_then, short, stands, still}
+use Rattle.progress_laws.proofs.Sends.{smoltcp_field}
 
 pub carries_so : (st : State) → carries_data st ≡ true → is_synchronized st ≡ true
 carries_so state.Established e = refl
@@ -134,7 +135,7 @@ module _ (u : View) (reached : IsReached u) (carries : carries_data u.state ≡ 
       window : window_of g.control g.window_len u.remote_win_scale ≡ g.window_len * 2 ^ scale_of u.remote_win_scale
       window = rw bit refl
 
-pub field_some : (w : View) → 2 ^ w.remote_win_shift ≤ length w.rx_buffer.held → 0 < window_field w
+pub field_some : (w : View) → 2 ^ w.remote_win_shift ≤ length w.rx_buffer.held → 0 < space_field w
 field_some w room = omega (arith, one)
   where
     one : 1 ≤ length w.rx_buffer.held / 2 ^ w.remote_win_shift
@@ -177,7 +178,7 @@ module _ (t : Tuple) (f : Facts) (v u w : View) (out : Sending) (n : ℕ) (now :
       some_then e = some (sym k.state ∙ e)
 
       by : (n ≡ 0) ⊎ (0 < n) → Moved v u w out n now word
-      by (inl z) = TellsWindow (ack_segment w out.segment) (ap (λ (o : Outcome). o.reply) is) z (λ ip stamp. told u (reached_then t f v out u said) goes_on (next_ack w) n next taken some_then now word ip (record (ack_segment w out.segment) { timestamp = stamp }) refl refl refl in_reach (field_some w r.room))
+      by (inl z) = TellsWindow (ack_segment w out.segment) (ap (λ (o : Outcome). o.reply) is) z (λ ip stamp. told u (reached_then t f v out u said) goes_on (next_ack w) n next taken some_then now word ip (record (ack_segment w out.segment) { timestamp = stamp }) refl refl refl in_reach (subst (λ m. 0 < m) (sym (smoltcp_field w r.smoltcp)) (field_some w r.room)))
       by (inr p) = Releases (ack_segment w out.segment) (ap (λ (o : Outcome). o.reply) is) p (λ ip stamp. released u (reached_then t f v out u said) goes_on (next_ack w) n next taken some_then now word ip (record (ack_segment w out.segment) { timestamp = stamp }) refl refl refl in_reach ∙ ap (λ (q : Queue). drop n q.bytes) k.tx)
 
   -- with a byte

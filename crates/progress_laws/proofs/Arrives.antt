@@ -42,6 +42,9 @@ use Rattle.progress_laws.proofs.Widths.{start_is}
 use Rattle.progress_laws.proofs.Begins.{not_zero, step_reached}
 use Rattle.progress_laws.proofs.Edges.{empty_inside_so, is_earlier, is_not_before, same_seq, old_outside}
 use Rattle.progress_laws.proofs.Spoken.{IsSaid}
+use Rattle.sock_tcp.specs.Timers.{after, challenge_interval}
+use Rattle.sock_tcp.specs.Due.{window_field}
+use Rattle.sock_tcp.proofs.OwnWindow.{field_is}
 
 -- ---- synchronized states
 
@@ -347,10 +350,19 @@ module _ (w : View) (k : TcpSeqNumber) (r : Faces w k) (now : Instant) (word : �
   unfolding processed_by outside challenged close_restarted ack_segment sack_range
   away_empty e none over = rw (passes, has, e) (by s.control bit)
     where
+      later : View
+      later = record (close_restarted w now) { challenge_ack_timer = after now challenge_interval }
+
+      same_field : window_field later ≡ window_field w
+      same_field = field_is later ∙ sym (field_is w)
+
+      same : Some (ack_segment later s) ≡ Some (ack_segment w s)
+      same = λ i. Some (record (ack_segment w s) { window_len = same_field i })
+
       by : (c : TcpControl) → IsSaid c → (outside_by c (length s.payload) w now s).reply ≡ Some (ack_segment w s)
-      by control.None d = rw (none, over) refl
-      by control.Psh d = rw (none, over) refl
-      by control.Fin d = rw (none, over) refl
+      by control.None d = rw (none, over) same
+      by control.Psh d = rw (none, over) same
+      by control.Fin d = rw (none, over) same
       by _ d = absurd d
 
   -- inside of it, with bytes in order

@@ -106,7 +106,7 @@ module _ (d e : Duration) (t s : Tuple) (f : Facts) (at : Instant) (v w : View) 
     swapped : Agreement e s y x 0 0
     swapped = record {
       speaker = speaker;
-      taker = record { reached = q.reached; state = ap receives q.state; room = some_room };
+      taker = record { reached = q.reached; state = ap receives q.state; smoltcp = q.smoltcp; room = some_room };
       taken_within = omega arith;
       there = next_is ∙ same_seq y.local_seq_no (seq_add y.local_seq_no 0) (omega (arith, (reached_ordered y q.reached_there).una_small));
       held = held_then;

@@ -15,7 +15,8 @@ use Rattle.sock_tcp.proofs.Lending.{lent_at_most}
 use Rattle.sock_tcp.specs.Begin.{is_paused}
 use Rattle.sock_tcp.specs.Closing.{closed}
 use Rattle.sock_tcp.specs.Content.{Sending, asked, carries_data, emission_kind, offset_of, plain_segment, sent_as}
-use Rattle.sock_tcp.specs.Due.{data_due, effective_mss, flight, is_closing, is_due, is_held_back, is_opening, sendable, window_field}
+use Rattle.sock_tcp.specs.Due.{data_due, effective_mss, flight, is_closing, is_due, is_held_back, is_opening, sendable}
+use Rattle.sock_tcp.specs.Rfc.OwnWindow.{space_field}
 use Rattle.sock_tcp.specs.Process.{Outcome}
 use Rattle.progress_laws.specs.Smoltcp.{processed}
 use Rattle.sock_tcp.specs.Queue.{Queue}
@@ -40,6 +41,7 @@ use Rattle.progress_laws.proofs.Arrives.{CountsIt, Faces, fin_counts, receives_s
 use Rattle.progress_laws.proofs.Spoken.{IsSaid, Still, sent_still, then_still}
 use Rattle.progress_laws.proofs.States.{closing_carries, sends_closing, takes_receives}
 use Rattle.progress_laws.proofs.Speaks.{Begins, Front, IsNoProbe, begins, wakes}
+use Rattle.progress_laws.proofs.Sends.{smoltcp_field}
 
 -- ---- the FIN goes out
 
@@ -52,7 +54,7 @@ pub record SaysFin (f : Facts) (v : View) : Type 0 where
   pub number : out.segment.seq_number ≡ v.local_seq_no
   pub ack : out.segment.ack_number ≡ Some (next_ack v)
   pub empty : length out.segment.payload ≡ 0
-  pub field : out.segment.window_len ≡ window_field v
+  pub field : out.segment.window_len ≡ space_field v
   pub still : Still v after
 
 pub closed_rests : (v : View) → Rests v → Rests (closed v)
@@ -167,8 +169,8 @@ module _ (d : Option Duration) (t : Tuple) (c : View) (f : Facts) (now : Instant
     number = rw nothing_marked fr.nxt;
     ack = (λ i. Some (seq_add (fr.same.rcv i) (length ((fr.same.rx i).bytes))));
     empty = none;
-    field = (λ i. min (length ((fr.same.rx i).held) / 2 ^ fr.same.shift i) 65535);
-    still = then_still c u (left_by (Some (sent_as u t kind.Plain b)) u now true) (record { state = fr.same.state; una = fr.same.una; tx = fr.same.tx; rx = fr.same.rx; rcv = fr.same.rcv; shift = fr.same.shift }) (sent_still u now (emitted_as kind.Plain b));
+    field = smoltcp_field u (fr.same.same_rules ∙ s.smoltcp) ∙ (λ i. min (length ((fr.same.rx i).held) / 2 ^ fr.same.shift i) 65535);
+    still = then_still c u (left_by (Some (sent_as u t kind.Plain b)) u now true) (record { state = fr.same.state; same_rules = fr.same.same_rules; una = fr.same.una; tx = fr.same.tx; rx = fr.same.rx; rcv = fr.same.rcv; shift = fr.same.shift }) (sent_still u now (emitted_as kind.Plain b));
   }
 
 -- ---- and is counted

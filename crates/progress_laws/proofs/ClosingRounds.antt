@@ -15,7 +15,8 @@ use Rattle.sock_core.specs.Seq.{is_not_after}
 use Rattle.sock_tcp.proofs.Windows.{end_small, start_small, window_width}
 use Rattle.sock_tcp.specs.Acked.{acked_of}
 use Rattle.sock_tcp.specs.Content.{Sending, carries_data}
-use Rattle.sock_tcp.specs.Due.{is_closing, window_field}
+use Rattle.sock_tcp.specs.Due.{is_closing}
+use Rattle.sock_tcp.specs.Rfc.OwnWindow.{space_field}
 use Rattle.sock_tcp.specs.Process.{Outcome}
 use Rattle.progress_laws.specs.Smoltcp.{processed}
 use Rattle.sock_tcp.specs.Queue.{Queue}
@@ -57,6 +58,7 @@ use Rattle.progress_laws.proofs.Takes.{IsCaughtUp, Took, fresh_bytes, takes, too
 use Rattle.progress_laws.proofs.Taking.{read_out, take_all}
 use Rattle.progress_laws.proofs.Widths.{told_alike, unit, unit_within, width_told}
 use Rattle.sock_tcp.specs.declared.rules.Rules.TheVariants as rules
+use Rattle.progress_laws.proofs.Sends.{smoltcp_field}
 
 -- ---- one step further
 
@@ -239,7 +241,7 @@ module _ (d : Option Duration) (t : Tuple) (f : Facts) (at now : Instant) (since
 
       window_is : g.window_len * 2 ^ scale_of x.remote_win_scale ≡ window_told w
       unfolding ack_segment
-      window_is = ap (λ m. window_field w * 2 ^ m) (ap scale_of p.scale ∙ i.over.scale)
+      window_is = λ j. smoltcp_field w i.receiver.smoltcp j * 2 ^ (ap scale_of p.scale ∙ i.over.scale) j
 
       told_back : 0 < g.window_len * 2 ^ scale_of x.remote_win_scale
       told_back = subst (λ m. 0 < m) (sym window_is) (told_some w i.receiver.room i.receiver.nothing_held i.receiver.room_at_least)
@@ -297,6 +299,7 @@ module _ (d : Option Duration) (t : Tuple) (f : Facts) (at now : Instant) (since
           };
           receiver = record {
             reached = step_reached w (ack_kept w) (after_segment i.receiver.reached.counts w (ack_kept w)) i.receiver.reached (Process rules.Smoltcp now 0 out.ip out.segment (omega arith) numbered p.short (λ l. absurd (not_listening l)) (sym (ap (λ (o : Outcome). o.view) answer)) refl);
+            smoltcp = i.receiver.smoltcp;
             state = i.receiver.state;
             timer = i.receiver.timer;
             read = i.receiver.read;
@@ -310,7 +313,7 @@ module _ (d : Option Duration) (t : Tuple) (f : Facts) (at now : Instant) (since
             there = same_seq (next_ack w) (seq_add (next_ack w) 0) (omega arith) ∙ ap (λ m. seq_add m 0) (sym h.una);
             scale = ap scale_of (h.scale ∙ p.scale) ∙ i.over.scale;
             some = window_then;
-            window = omega (arith, h.window, window_is, width_told w (ack_kept w) i.receiver.room (wide_so w i.receiver.room i.receiver.nothing_held) narrow refl refl refl refl refl);
+            window = omega (arith, h.window, window_is, width_told w (ack_kept w) i.receiver.room (wide_so w i.receiver.room i.receiver.nothing_held) narrow refl refl refl refl (smoltcp_field w i.receiver.smoltcp));
             at_most = omega (arith, h.window, window_is);
           };
           heard = i.heard;
@@ -420,6 +423,7 @@ module _ (d : Option Duration) (t : Tuple) (f : Facts) (at now : Instant) (since
             sender = p.closer;
             receiver = record {
               reached = reached_w;
+              smoltcp = k.same_rules ∙ i.receiver.smoltcp;
               state = ap receives k.state ∙ i.receiver.state;
               timer = λ at e. subst IsOpenTimer e not_close;
               read = k.read;

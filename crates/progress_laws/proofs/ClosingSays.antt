@@ -12,7 +12,8 @@ use Rattle.sock_core.specs.Facts.{Facts}
 use Rattle.sock_tcp.proofs.Lending.{lent_beginning}
 use Rattle.sock_tcp.specs.Begin.{is_paused}
 use Rattle.sock_tcp.specs.Content.{Sending, asked, carries_data, data_control, emission_kind, offset_of, plain_segment, sent_as, window_left}
-use Rattle.sock_tcp.specs.Due.{congestion_left, effective_mss, is_closed, is_closing, is_due, window_field}
+use Rattle.sock_tcp.specs.Due.{congestion_left, effective_mss, is_closed, is_closing, is_due}
+use Rattle.sock_tcp.specs.Rfc.OwnWindow.{space_field}
 use Rattle.sock_tcp.specs.Queue.{Queue}
 use Rattle.sock_tcp.specs.Timers.{after as moment_after, idle_from, is_keep_alive_over, is_over, keep_alive_renewed, retransmit_unless_set, rto_of}
 use Rattle.sock_tcp.specs.View.{View}
@@ -27,7 +28,7 @@ use Rattle.progress_laws.specs.Speech.{DispatchesOk, GoesOn}
 use Rattle.progress_laws.proofs.Begins.{and_no, carries_runs, dispatch_reached, lent_for, not_zero, segment_for, sends_as, stamp_for}
 use Rattle.progress_laws.proofs.Hears.{IsData}
 use Rattle.progress_laws.proofs.Lends.{lent_some, mss_short, mss_some}
-use Rattle.progress_laws.proofs.Sends.{left, plain_sent, plain_timer, plain_told}
+use Rattle.progress_laws.proofs.Sends.{left, plain_sent, plain_timer, plain_told, smoltcp_field}
 use Rattle.progress_laws.proofs.Speaks.{Begins, FromFront, Front, IsNoProbe, asked_so, begins, from_front, lent_few, wakes}
 use Rattle.progress_laws.proofs.Spoken.{IsSaid, data_said}
 use Rattle.progress_laws.proofs.States.{closing_carries, closing_open}
@@ -57,7 +58,7 @@ pub record SaysOn (d : Option Duration) (t : Tuple) (f : Facts) (v : View) : Typ
   pub window : after.remote_win_len ≡ v.remote_win_len
   pub shift : after.remote_win_shift ≡ v.remote_win_shift
   pub last_ack : after.remote_last_ack ≡ Some (next_ack v)
-  pub last_win : after.remote_last_win ≡ window_field v
+  pub last_win : after.remote_last_win ≡ space_field v
 
 module _ (d : Option Duration) (t : Tuple) (v : View) (f : Facts) (now : Instant) (mtu : IsMtu f.mtu) (here : f.has_address t.local.addr ≡ true) (s : IsCloser d t v) (other : IsNoProbe s.rests) (over : is_over (wakes s.rests) now ≡ true) (win : 0 < v.remote_win_len) (queue : 0 < length v.tx_buffer.bytes) where
   abbrev fa : Facts
@@ -172,7 +173,7 @@ module _ (d : Option Duration) (t : Tuple) (v : View) (f : Facts) (now : Instant
         window = l.same.window ∙ fr.same.window;
         shift = l.same.shift ∙ fr.same.shift;
         last_ack = (plain_told u t now b not_closed).ack ∙ (λ i. Some (seq_add (fr.same.rcv i) (length ((fr.same.rx i).bytes))));
-        last_win = (plain_told u t now b not_closed).window ∙ (λ i. min (length ((fr.same.rx i).held) / 2 ^ fr.same.shift i) 65535);
+        last_win = (plain_told u t now b not_closed).window ∙ smoltcp_field u (fr.same.same_rules ∙ s.smoltcp) ∙ (λ i. min (length ((fr.same.rx i).held) / 2 ^ fr.same.shift i) 65535);
       }
     where
       before_end : (e : Bool) → (offset_of u + length bytes == length u.tx_buffer.bytes) ≡ e → length bytes < length v.tx_buffer.bytes → IsData (data_control u (length bytes))

@@ -10,7 +10,8 @@ use Rattle.control_wire.specs.Seq.{seq_add, seq_minus}
 use Rattle.control_wire.specs.declared.seq_number.TcpSeqNumber.{TcpSeqNumber}
 use Rattle.sock_core.specs.Facts.{Facts}
 use Rattle.sock_core.specs.Received.{handed_out}
-use Rattle.sock_tcp.specs.Due.{is_closing, window_field}
+use Rattle.sock_tcp.specs.Due.{is_closing}
+use Rattle.sock_tcp.specs.Rfc.OwnWindow.{space_field}
 use Rattle.sock_tcp.specs.Process.{Outcome, ack_sent}
 use Rattle.progress_laws.specs.Smoltcp.{processed}
 use Rattle.sock_tcp.specs.Queue.{Queue}
@@ -40,6 +41,7 @@ use Rattle.progress_laws.proofs.Taking.{take_all}
 use Rattle.progress_laws.proofs.Talks.{AsksOnly, StartsAtUna}
 use Rattle.tcp_laws.proofs.Scaled.{unit_fits}
 use Rattle.progress_laws.proofs.Utters.{Utters, onward}
+use Rattle.progress_laws.proofs.Sends.{smoltcp_field}
 
 may : (w : View) → 0 < length w.rx_buffer.bytes → may_recv w ≡ true
 may w some = by (receives w.state)
@@ -65,7 +67,7 @@ pub record Onward (d : Duration) (t : Tuple) (f : Facts) (at : Instant) (v w : V
   pub nothing_taken : sender.rx_buffer ≡ v.rx_buffer
   pub shift : sender.remote_win_shift ≡ v.remote_win_shift
   pub fewer : length receiver.tx_buffer.bytes ≤ length w.tx_buffer.bytes
-  pub speaks : (e : Duration) (r : Tuple) → IsSpeaker e r w → h ≤ length w.tx_buffer.bytes → 0 < window_field v → IsSpeaker e r receiver × (heard ≤ length receiver.tx_buffer.bytes) × (receiver.state ≡ w.state)
+  pub speaks : (e : Duration) (r : Tuple) → IsSpeaker e r w → h ≤ length w.tx_buffer.bytes → 0 < space_field v → IsSpeaker e r receiver × (heard ≤ length receiver.tx_buffer.bytes) × (receiver.state ≡ w.state)
   pub whole : more ++ drop taken sender.tx_buffer.bytes ≡ got ++ drop n v.tx_buffer.bytes
   pub nothing_lost : drop heard receiver.tx_buffer.bytes ≡ drop h w.tx_buffer.bytes
 
@@ -85,7 +87,7 @@ pub record Ends (d : Duration) (t : Tuple) (f : Facts) (at : Instant) (v w : Vie
   pub next : next_ack receiver ≡ seq_add sender.local_seq_no (length sender.tx_buffer.bytes + 1)
   pub una : receiver.local_seq_no ≡ next_ack sender
   pub rest : receiver.tx_buffer.bytes ≡ drop h w.tx_buffer.bytes
-  pub speaks : (e : Duration) (r : Tuple) → IsSpeaker e r w → h ≤ length w.tx_buffer.bytes → 0 < window_field v → IsSpeaker e r receiver × (has_counted receiver.state ≡ true) × (is_closing receiver.state ≡ is_closing w.state) × (receiver.state ≡ states.LastAck → ⊥)
+  pub speaks : (e : Duration) (r : Tuple) → IsSpeaker e r w → h ≤ length w.tx_buffer.bytes → 0 < space_field v → IsSpeaker e r receiver × (has_counted receiver.state ≡ true) × (is_closing receiver.state ≡ is_closing w.state) × (receiver.state ≡ states.LastAck → ⊥)
 
 -- why nothing joined: w had it; or its window had no place; or it was a keep-alive, as v knew no window
 pub data Reason (v w u : View) (n : ℕ) : Type 0 where
@@ -138,7 +140,7 @@ module _ (d : Duration) (t : Tuple) (f : Facts) (at : Instant) (v w : View) (got
   same_win : u.remote_win_len ≡ v.remote_win_len
   same_win = p.left.same.window ∙ p.earlier.same.window
 
-  same_field : window_field x ≡ window_field v
+  same_field : space_field x ≡ space_field v
   same_field = λ i. min (length ((p.earlier.same.rx i).held) / 2 ^ p.earlier.same.shift i) 65535
 
   said : Speech x p.out → HasSaid t fa x p.out u
@@ -302,24 +304,25 @@ module _ (d : Duration) (t : Tuple) (f : Facts) (at : Instant) (v w : View) (got
         let g : Segment = stamped_ack w y s in
         let some : u.state ≡ states.LastAck → 0 < n = λ e. last (sym p.left.same.state ∙ e) in
         let ip = reply_ip p.out.ip g in
+        let told : g.window_len ≡ space_field y = smoltcp_field w agreed.taker.smoltcp in
         Opened (record {
           end = p.now;
-          sender = then_heard d t u y n h j room some p.now ip g refl refl refl refl refl;
+          sender = then_heard d t u y n h j room some p.now ip g refl refl refl told refl;
           receiver = y;
           more = got;
           taken = 0;
           heard = h;
-          exchanges = heard_so last (then_heard d t u y n h j room some p.now ip g refl refl refl refl refl) (hears d t u y n h j room some p.now ip g refl refl refl refl refl);
-          agrees = hears_agrees d t u y n h j room some p.now ip g refl refl refl refl refl;
+          exchanges = heard_so last (then_heard d t u y n h j room some p.now ip g refl refl refl told refl) (hears d t u y n h j room some p.now ip g refl refl refl told refl);
+          agrees = hears_agrees d t u y n h j room some p.now ip g refl refl refl told refl;
           read = read;
-          state = same_state d t u y n h j room some p.now ip g refl refl refl refl refl ∙ p.left.same.state ∙ p.earlier.same.state;
-          nothing_taken = same_rx d t u y n h j room some p.now ip g refl refl refl refl refl ∙ p.left.same.rx ∙ p.earlier.same.rx;
-          shift = same_shift d t u y n h j room some p.now ip g refl refl refl refl refl ∙ p.left.same.shift ∙ p.earlier.same.shift;
+          state = same_state d t u y n h j room some p.now ip g refl refl refl told refl ∙ p.left.same.state ∙ p.earlier.same.state;
+          nothing_taken = same_rx d t u y n h j room some p.now ip g refl refl refl told refl ∙ p.left.same.rx ∙ p.earlier.same.rx;
+          shift = same_shift d t u y n h j room some p.now ip g refl refl refl told refl ∙ p.left.same.shift ∙ p.earlier.same.shift;
           fewer = omega arith;
           speaks = λ e r sp within field. y_speaks e r sp within;
-          whole = ap (λ (l : List ℕ). got ++ l) (queue_left d t u y n h j room some p.now ip g refl refl refl refl refl ∙ ap (drop n) same_tx);
+          whole = ap (λ (l : List ℕ). got ++ l) (queue_left d t u y n h j room some p.now ip g refl refl refl told refl ∙ ap (drop n) same_tx);
           nothing_lost = refl;
-        }) refl (queue_left d t u y n h j room some p.now ip g refl refl refl refl refl ∙ ap (drop n) same_tx) open_ (why (then_heard d t u y n h j room some p.now ip g refl refl refl refl refl) (window_open d t u y n h j room some p.now ip g refl refl refl refl refl))
+        }) refl (queue_left d t u y n h j room some p.now ip g refl refl refl told refl ∙ ap (drop n) same_tx) open_ (why (then_heard d t u y n h j room some p.now ip g refl refl refl told refl) (window_open d t u y n h j room some p.now ip g refl refl refl told refl))
 
     -- or it is lost
     loses_it : n ≡ 0 → width w ≡ 0 → Round d t f at v w got n h
@@ -360,7 +363,7 @@ module _ (d : Duration) (t : Tuple) (f : Facts) (at : Instant) (v w : View) (got
         ack = ack t fa x p.out u sp;
         number = q.number;
         first = first_bytes t fa x p.out u sp q.kind q.number;
-        field = field t fa x p.out u sp;
+        field = field t fa x p.out u sp p.speaker.smoltcp;
         fin = fin_ends t fa x p.out u sp q.kind q.number;
         closing = fin_of_closing t fa x p.out u sp q.kind q.number;
         some = q.some;

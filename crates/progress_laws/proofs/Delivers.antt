@@ -19,7 +19,8 @@ use Rattle.sock_tcp.specs.Arrival.{arrival}
 use Rattle.sock_tcp.specs.Acked.{acked_at, acked_of, acked_places, is_fin_acked, syn_place}
 use Rattle.sock_tcp.specs.Advance.{advance_in, counted_control, fin_counted, moved_to, waiting}
 use Rattle.sock_tcp.specs.Content.{carries_data}
-use Rattle.sock_tcp.specs.Due.{is_closing, window_field}
+use Rattle.sock_tcp.specs.Due.{is_closing}
+use Rattle.sock_tcp.specs.Rfc.OwnWindow.{space_field}
 use Rattle.sock_tcp.specs.Process.{Outcome, ack_sent, after_table, bytes_taken, tuple_of}
 use Rattle.progress_laws.specs.Smoltcp.{processed}
 use Rattle.sock_tcp.specs.Queue.{Queue}
@@ -193,13 +194,13 @@ module _ (d : Duration) (t : Tuple) (v w : View) (n h : ℕ) (i : Agreement d t 
 
   -- no FIN counts
   abbrev WaitsOn : View → Type 0
-  WaitsOn z = Waits w → h ≤ length w.tx_buffer.bytes → 0 < window_field v → (z.state ≡ w.state) × Waits z
+  WaitsOn z = Waits w → h ≤ length w.tx_buffer.bytes → 0 < space_field v → (z.state ≡ w.state) × Waits z
 
   abbrev Goes : View → Type 0
   Goes z = (st : State) × (receives st ≡ true) × Took w k h z st w.remote_seq_no w.rx_fin_received × WaitsOn z
 
   -- it waits as it may
-  waits_from : (y : View) → Waits y → y.remote_last_seq ≡ w.remote_last_seq → y.local_seq_no ≡ w.local_seq_no → h ≤ length w.tx_buffer.bytes → 0 < window_field v → Waits (bytes_taken (heard y now a s) now cut.offset bs s).view
+  waits_from : (y : View) → Waits y → y.remote_last_seq ≡ w.remote_last_seq → y.local_seq_no ≡ w.local_seq_no → h ≤ length w.tx_buffer.bytes → 0 < space_field v → Waits (bytes_taken (heard y now a s) now cut.offset bs s).view
   waits_from y waits nxt una within field = rest_waits (heard y now a s) (bytes_taken (heard y now a s) now cut.offset bs s).view (bytes_rest now s (heard y now a s) cut.offset bs) (waits_on y now a s k q.ack q.bit window waits (λ e. ap (λ m. is_not_after m k) nxt ∙ ap (λ (m : Acked). m.all) (sym places) ∙ e) (subst (λ (m : TcpSeqNumber). m.0 < 2 ^ 32) (sym una) w_small) (omega arith) (omega (arith, ap (λ m. seq_sub k m) una, ap (λ (m : TcpSeqNumber). m.0) i.back, w_small, w_short, within)))
     where
       window : 0 < s.window_len * 2 ^ scale_of y.remote_win_scale
@@ -229,7 +230,7 @@ module _ (d : Duration) (t : Tuple) (v w : View) (n h : ℕ) (i : Agreement d t 
 
   -- the FIN counts
   abbrev StopsOn : View → Type 0
-  StopsOn z = carries_data w.state ≡ true → Waits w → h ≤ length w.tx_buffer.bytes → 0 < window_field v → Waits z × (has_counted z.state ≡ true) × (is_closing z.state ≡ is_closing w.state) × (z.state ≡ state.LastAck → ⊥)
+  StopsOn z = carries_data w.state ≡ true → Waits w → h ≤ length w.tx_buffer.bytes → 0 < space_field v → Waits z × (has_counted z.state ≡ true) × (is_closing z.state ≡ is_closing w.state) × (z.state ≡ state.LastAck → ⊥)
 
   abbrev Stops : View → Type 0
   Stops z = (st : State) × (receives st ≡ false) × Took w k h z st (seq_add w.remote_seq_no 1) true × StopsOn z
@@ -334,7 +335,7 @@ module _ (d : Duration) (t : Tuple) (v w : View) (n h : ℕ) (i : Agreement d t 
       agrees : Goes u → Agreement d t v u (n + length grown.run) 0
       agrees g = record {
         speaker = i.speaker;
-        taker = record { reached = reached_then; state = ap receives g.2.state ∙ g.1; room = omega (arith, i.taker.room, grown.room) };
+        taker = record { reached = reached_then; state = ap receives g.2.state ∙ g.1; smoltcp = g.2.same_rules ∙ i.taker.smoltcp; room = omega (arith, i.taker.room, grown.room) };
         taken_within = grown.within;
         there = next_is g.2.rcv;
         held = grown.held;

@@ -18,6 +18,7 @@ use Rattle.sock_tcp.proofs.Lending.{lent_at_most}
 use Rattle.sock_tcp.specs.Begin.{after_timer, is_paused, readied}
 use Rattle.sock_tcp.specs.Content.{Sending, asked, carries_data, content, emission_kind, is_probing, offset_of, plain_segment, sent_as}
 use Rattle.sock_tcp.specs.Due.{ack_due, ack_poll, data_due, is_ack_after, is_closed, is_due, window_doubled, window_field}
+use Rattle.sock_tcp.specs.Rfc.OwnWindow.{space_field}
 use Rattle.sock_tcp.specs.Polls.{delay_poll, is_reached}
 use Rattle.sock_tcp.specs.Queue.{Queue}
 use Rattle.sock_tcp.specs.Timers.{after as moment_after, idle_from, is_keep_alive_over, is_over, is_probe_over, keep_alive_renewed}
@@ -34,7 +35,7 @@ use Rattle.progress_laws.proofs.Begins.{smoltcp_begins, Alike, beginning, conten
 use Rattle.progress_laws.proofs.Edges.{is_earlier, is_not_before, later_stays}
 use Rattle.progress_laws.proofs.Hears.{idle_is, idle_moment}
 use Rattle.progress_laws.proofs.Says.{keep_alive_due, no_probe}
-use Rattle.progress_laws.proofs.Sends.{kept_delay, kept_nxt, kept_sent, kept_timer, kept_untold, left, plain_sent, plain_timer, plain_told, segment_ack, segment_bit, segment_length, segment_number, segment_window, without_bytes}
+use Rattle.progress_laws.proofs.Sends.{kept_delay, kept_nxt, kept_sent, kept_timer, kept_untold, left, plain_sent, plain_timer, plain_told, segment_ack, segment_bit, segment_length, segment_number, segment_window, smoltcp_field, without_bytes}
 use Rattle.progress_laws.proofs.States.{flat_on, flat_open, is_flat, takes_flat, takes_runs}
 use Rattle.progress_laws.proofs.Taking.{blank}
 use Rattle.progress_laws.proofs.Receives.{Owes, Tells}
@@ -238,7 +239,7 @@ module _ (s : Tuple) (w : View) (room n : ℕ) (y : View) (f : Facts) (now : Ins
     number = segment_number u s (stamp_for u) bytes sends nothing_marked ∙ al.nxt ∙ o.nxt
 
     field : window_field u ≡ min (room / 2 ^ w.remote_win_shift) 65535
-    field = (λ i. min (wide i / 2 ^ (al.same.shift ∙ o.shift) i) 65535)
+    field = smoltcp_field u (al.same.same_rules ∙ o.smoltcp) ∙ (λ i. min (wide i / 2 ^ (al.same.shift ∙ o.shift) i) 65535)
       where
         wide : length u.rx_buffer.held ≡ room
         wide = ap (λ (q : Received). length q.held) al.same.rx ∙ ap (λ (l : List (Option ℕ)). length l) o.nothing_held ∙ length-replicate room None

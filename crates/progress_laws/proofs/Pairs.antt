@@ -65,7 +65,7 @@ module _ {G : Type 0} (h o : HostView G) (i : IsHost h) (peer : HasPeer h o.endp
   speaker d s = record { reached = reached_by_own h.control_block i.reached; carries = s.carries; peer = peered h.control_block.state h.control_block.tuple (tuple_to h o.endpoint) s.carries peer; no_timeout = s.no_timeout; smoltcp = s.smoltcp; keep_alive = s.keep_alive; waits = s.waits }
 
   taker : MayTake h → IsTaking h.control_block
-  taker s = record { reached = reached_by_own h.control_block i.reached; state = s.receives; room = s.place }
+  taker s = record { reached = reached_by_own h.control_block i.reached; state = s.receives; smoltcp = s.smoltcp; room = s.place }
 
 module _ {G : Type 0} (h o : HostView G) (i : IsHost h) (j : IsHost o) (agree : SynchronizedSidesAgree h o) (d : Duration) (s : MaySpeak d h) (m : MayTake o) where
   abbrev v : View
@@ -108,7 +108,7 @@ module _ {G : Type 0} (h o : HostView G) (i : IsHost h) (j : IsHost o) (peer : H
   agreement : (heard : ℕ) → heard ≤ length o.control_block.tx_buffer.bytes + fin_place o.control_block.state → next_ack h.control_block ≡ seq_add o.control_block.local_seq_no heard → Agreement d (tuple_to h o.endpoint) h.control_block o.control_block q.taken heard
   agreement heard within back = record {
     speaker = speaker h o i peer d c.speaks;
-    taker = record { reached = reached_by_own o.control_block j.reached; state = c.takes.receives; room = c.takes.place };
+    taker = record { reached = reached_by_own o.control_block j.reached; state = c.takes.receives; smoltcp = c.takes.smoltcp; room = c.takes.place };
     taken_within = q.taken_within;
     there = taken_to h o i j agree d c.speaks c.takes;
     held = q.held;

@@ -201,11 +201,11 @@ across_speaks = record { reached = across_reached; carries = refl; peer = refl; 
 
 here_takes : IsTaking here
 unfolding connected renewed fresh processed_by verdict_at processed_inside advanced syn_answered options_taken acked_at heard window_taken released duplicate_counted ack_counted una_advanced acknowledged timestamp_taken timer_set bytes_taken later_of is_before number_is_before number_distance cleared
-here_takes = record { reached = here_reached; state = refl; room = omega arith }
+here_takes = record { reached = here_reached; state = refl; smoltcp = refl; room = omega arith }
 
 across_takes : IsTaking across
 unfolding connected renewed fresh processed_by verdict_at processed_inside advanced syn_answered options_taken acked_at heard window_taken released duplicate_counted ack_counted una_advanced acknowledged timestamp_taken timer_set bytes_taken later_of is_before number_is_before number_distance cleared
-across_takes = record { reached = across_reached; state = refl; room = omega arith }
+across_takes = record { reached = across_reached; state = refl; smoltcp = refl; room = omega arith }
 
 agree : AgreeBothWays interval interval ends (mirrored ends) here across 0 0
 unfolding connected renewed fresh processed_by verdict_at processed_inside advanced syn_answered options_taken acked_at heard window_taken released duplicate_counted ack_counted una_advanced acknowledged timestamp_taken timer_set bytes_taken later_of is_before number_is_before number_distance cleared is_inside receive_window counted_control cut_of fin_counted
@@ -242,11 +242,11 @@ across_may_speak = record { carries = refl; closed = λ e. absurd (true≢false 
 
 here_may_take : MayTake (side here ends.local)
 unfolding connected renewed fresh processed_by verdict_at processed_inside advanced syn_answered options_taken acked_at heard window_taken released duplicate_counted ack_counted una_advanced acknowledged timestamp_taken timer_set bytes_taken later_of is_before number_is_before number_distance cleared
-here_may_take = record { receives = refl; types = record { receive = omega arith; transmit = omega arith; fin = refl }; place = omega arith }
+here_may_take = record { receives = refl; smoltcp = refl; types = record { receive = omega arith; transmit = omega arith; fin = refl }; place = omega arith }
 
 across_may_take : MayTake (side across ends.remote)
 unfolding connected renewed fresh processed_by verdict_at processed_inside advanced syn_answered options_taken acked_at heard window_taken released duplicate_counted ack_counted una_advanced acknowledged timestamp_taken timer_set bytes_taken later_of is_before number_is_before number_distance cleared
-across_may_take = record { receives = refl; types = record { receive = omega arith; transmit = omega arith; fin = refl }; place = omega arith }
+across_may_take = record { receives = refl; smoltcp = refl; types = record { receive = omega arith; transmit = omega arith; fin = refl }; place = omega arith }
 
 over : BothCanComeOver interval interval (side here ends.local) (side across ends.remote)
 unfolding connected renewed fresh processed_by verdict_at processed_inside advanced syn_answered options_taken acked_at heard window_taken released duplicate_counted ack_counted una_advanced acknowledged timestamp_taken timer_set bytes_taken later_of is_before number_is_before number_distance cleared
@@ -260,7 +260,7 @@ over = record {
 
 hears_of : HearsOf here across 0
 unfolding connected renewed fresh processed_by verdict_at processed_inside advanced syn_answered options_taken acked_at heard window_taken released duplicate_counted ack_counted una_advanced acknowledged timestamp_taken timer_set bytes_taken later_of is_before number_is_before number_distance cleared
-hears_of = record { reached = across_reached; receives = refl; room = omega arith; taken_within = omega arith; there = refl; heard = 0; heard_within = omega arith; back = refl }
+hears_of = record { reached = across_reached; receives = refl; smoltcp = refl; room = omega arith; taken_within = omega arith; there = refl; heard = 0; heard_within = omega arith; back = refl }
 
 has_counted : HasCounted across counts
 unfolding connected renewed fresh processed_by verdict_at processed_inside advanced syn_answered options_taken acked_at heard window_taken released duplicate_counted ack_counted una_advanced acknowledged timestamp_taken timer_set bytes_taken later_of is_before number_is_before number_distance cleared is_inside receive_window counted_control cut_of fin_counted

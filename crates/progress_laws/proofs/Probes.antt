@@ -10,7 +10,8 @@ use Rattle.sock_core.specs.Facts.{Facts}
 use Rattle.sock_tcp.proofs.Lending.{lent_beginning}
 use Rattle.sock_tcp.specs.Begin.{after_timer, is_paused, readied}
 use Rattle.sock_tcp.specs.Content.{asked, carries_data, emission_kind, is_probing, offset_of, sent_as, window_left}
-use Rattle.sock_tcp.specs.Due.{flight, is_closed, is_due, window_field}
+use Rattle.sock_tcp.specs.Due.{flight, is_closed, is_due}
+use Rattle.sock_tcp.specs.Rfc.OwnWindow.{space_field}
 use Rattle.sock_tcp.specs.Queue.{Queue}
 use Rattle.sock_tcp.specs.Queues.{may_send}
 use Rattle.sock_tcp.specs.Timers.{after as moment_after, is_over, is_probe_over, keep_alive_renewed, probe_doubled, twice}
@@ -28,7 +29,7 @@ use Rattle.progress_laws.proofs.Edges.{same_seq}
 use Rattle.progress_laws.proofs.Hears.{IsOpenTimer}
 use Rattle.progress_laws.proofs.Lends.{probe_byte}
 use Rattle.progress_laws.proofs.Says.{probe_due}
-use Rattle.progress_laws.proofs.Sends.{Untold, left, segment_ack, segment_bit, segment_number, segment_window, probe_nxt, probe_sent, probe_timer, probe_untold}
+use Rattle.progress_laws.proofs.Sends.{Untold, left, probe_nxt, probe_sent, probe_timer, probe_untold, segment_ack, segment_bit, segment_number, segment_window, smoltcp_field}
 use Rattle.progress_laws.proofs.Speaks.{SpeaksBytes}
 use Rattle.progress_laws.proofs.States.{flat_open, is_flat, sends_data, sends_flat}
 
@@ -136,9 +137,9 @@ module _ (d : Option Duration) (t : Tuple) (v : View) (f : Facts) (now at : Inst
   probe_one = one_byte
 
   -- it tells the own window, which does not count as told
-  pub probe_field : says_probe.out.segment.window_len ≡ window_field v
+  pub probe_field : says_probe.out.segment.window_len ≡ space_field v
   unfolding says_probe
-  probe_field = segment_window p t (stamp_for p) probe_bytes probe_sends unmarked ∙ (λ i. min (length ((al.same.rx i).held) / 2 ^ al.same.shift i) 65535)
+  probe_field = segment_window p t (stamp_for p) probe_bytes probe_sends unmarked ∙ smoltcp_field p (al.same.same_rules ∙ s.smoltcp) ∙ (λ i. min (length ((al.same.rx i).held) / 2 ^ al.same.shift i) 65535)
 
   pub probe_shift : says_probe.after.remote_win_shift ≡ v.remote_win_shift
   unfolding says_probe

@@ -29,6 +29,7 @@ use Rattle.progress_laws.proofs.States.{flat_steady, is_steady, takes_flat}
 use Rattle.progress_laws.proofs.Taking.{at_once, blank, blank_holds_nothing, read_bytes, read_held, take_all, taken_bytes, taken_held}
 use Rattle.progress_laws.proofs.Widths.{start_is, told_window, unit_some}
 use Rattle.sock_tcp.specs.declared.rules.Rules.TheVariants as rules
+use Rattle.progress_laws.proofs.Sends.{smoltcp_field}
 
 -- ---- what is told
 
@@ -149,8 +150,8 @@ module _ (s : Tuple) (w : View) (r : IsReceiver s w) where
           number = r.nothing_in_flight;
           ack = refl;
           empty = refl;
-          some = subst (λ n. 0 < min (n / 2 ^ w.remote_win_shift) 65535 * 2 ^ w.remote_win_shift) (sym wide) (unit_some r.room w.remote_win_shift r.room_at_least);
-          window = told_window (ack_kept w) r.room wide r.room_at_most refl (ap (λ n. min (n / 2 ^ w.remote_win_shift) 65535) wide) ∙ ap (λ n. min (n / 2 ^ w.remote_win_shift) 65535 * 2 ^ w.remote_win_shift) (sym wide);
+          some = subst (λ m. 0 < m * 2 ^ w.remote_win_shift) (sym (smoltcp_field w r.smoltcp)) (subst (λ n. 0 < min (n / 2 ^ w.remote_win_shift) 65535 * 2 ^ w.remote_win_shift) (sym wide) (unit_some r.room w.remote_win_shift r.room_at_least));
+          window = told_window (ack_kept w) r.room wide r.room_at_most refl (smoltcp_field w r.smoltcp ∙ ap (λ n. min (n / 2 ^ w.remote_win_shift) 65535) wide) ∙ ap (λ n. min (n / 2 ^ w.remote_win_shift) 65535 * 2 ^ w.remote_win_shift) (sym wide) ∙ ap (λ m. m * 2 ^ w.remote_win_shift) (sym (smoltcp_field w r.smoltcp));
         }
 
     -- ---- bytes in order are taken

@@ -12,6 +12,7 @@ use Rattle.sock_core.specs.Seq.{later_of}
 use Rattle.sock_tcp.specs.Rfc.Idle.{idle_by, restarted_by}
 use Rattle.sock_tcp.specs.Content.{carries_data, data_control, emission_kind, is_probing, offset_of, plain_segment, sent_as, next_hole, hole_of}
 use Rattle.sock_tcp.specs.Due.{is_closed, is_closing, window_field, flight}
+use Rattle.sock_tcp.specs.Rfc.OwnWindow.{field_by, space_field}
 use Rattle.sock_tcp.specs.Sent.{after_any, after_probe, after_sending, emitted_as, left_by, sending_timed, snd_nxt_moved, goes_on}
 use Rattle.sock_tcp.specs.Rfc.Pipe.{counts, has_room}
 use Rattle.sock_tcp.specs.Rfc.Scoreboard.{is_blank}
@@ -42,6 +43,10 @@ pub record TellsAs (u : View) (s : Segment) (w : View) : Type 0 where
   pub window : w.remote_last_win ≡ s.window_len
   pub delay : w.ack_delay_timer ≡ ack_delay.Idle
 
+-- by smoltcp's rules a window field tells the free space
+pub smoltcp_field : (v : View) → v.rules ≡ rules.Smoltcp → window_field v ≡ space_field v
+smoltcp_field v smoltcp = ap (λ r. field_by r v) smoltcp
+
 -- what was acknowledged and told last counts as before
 pub record Untold (u w : View) : Type 0 where
   pub last_ack : w.remote_last_ack ≡ u.remote_last_ack
@@ -50,7 +55,7 @@ pub record Untold (u w : View) : Type 0 where
 -- the own window is told, with RCV.NXT
 pub record HasTold (v x : View) : Type 0 where
   pub last_ack : x.remote_last_ack ≡ Some (next_ack v)
-  pub last_win : x.remote_last_win ≡ window_field v
+  pub last_win : x.remote_last_win ≡ space_field v
 
 module _ (u : View) (p : Tuple) (now : Instant) (s : Segment) (not_closed : is_closed u.state ≡ false) where
   abbrev pub left : Kind → View

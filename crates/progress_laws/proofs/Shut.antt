@@ -10,7 +10,7 @@ use Rattle.sock_core.specs.Facts.{Facts}
 use Rattle.sock_core.specs.Received.{Received}
 use Rattle.sock_tcp.proofs.Windows.{end_small, start_small, window_width}
 use Rattle.sock_tcp.specs.Content.{Sending}
-use Rattle.sock_tcp.specs.Due.{window_field}
+use Rattle.sock_tcp.specs.Rfc.OwnWindow.{space_field}
 use Rattle.progress_laws.specs.Smoltcp.{processed}
 use Rattle.sock_tcp.specs.Queue.{Queue}
 use Rattle.sock_tcp.specs.Queues.{may_send}
@@ -30,7 +30,7 @@ use Rattle.progress_laws.proofs.Edges.{empty_inside_so, reach_inside, same_seq, 
 use Rattle.progress_laws.proofs.Hears.{answered_outside}
 use Rattle.progress_laws.proofs.Probes.{probe_again, probe_field, probe_one, probe_shift, probe_tells_nothing, probe_unsent, probe_window_known, says_probe}
 use Rattle.progress_laws.proofs.Rounds.{cut_and_rest, joined}
-use Rattle.progress_laws.proofs.Sends.{HasTold, Untold}
+use Rattle.progress_laws.proofs.Sends.{HasTold, Untold, smoltcp_field}
 use Rattle.progress_laws.proofs.Sides.{Brought, HearsAnswer, brings_side, caught_side, hears_answer, side_narrow, told_some, wide_so}
 use Rattle.progress_laws.proofs.Speaks.{FallsSilent, Speaks, SpeaksBytes, SpeaksNothing, falls_silent, says_nothing, wakes}
 use Rattle.progress_laws.proofs.Takes.{IsCaughtUp, Took, old_answered}
@@ -157,7 +157,7 @@ module _ (d e : Option Duration) (t s : Tuple) (f : Facts) (at now : Instant) (s
         where
           by : (0 < w.remote_win_len) ⊎ (((at : Instant) → w.timer ≡ timer.Retransmit at → is_some w.keep_alive ≡ true) × (window_told w ≤ width w)) → CanHear (ack_kept w) r.view
           by (inl h) = KnowsOne h
-          by (inr h) = WillAsk h.0 (inl r.nxt) (omega (arith, width_told w (ack_kept w) i.across.room (wide_so w i.across.room i.across.nothing_held) (side_narrow i.across) refl refl refl refl refl))
+          by (inr h) = WillAsk h.0 (inl r.nxt) (omega (arith, width_told w (ack_kept w) i.across.room (wide_so w i.across.room i.across.nothing_held) (side_narrow i.across) refl refl refl refl (smoltcp_field w i.across.sender.smoltcp)))
 
   -- ---- a keep-alive
 
@@ -199,7 +199,7 @@ module _ (d e : Option Duration) (t s : Tuple) (f : Facts) (at now : Instant) (s
         away = rw (not_zero (length p.out.segment.payload) p.some) (shut_outside (receive_window w) (start_small w) (end_small w) width_w p.out.segment.seq_number (seq_add p.out.segment.seq_number (length p.out.segment.payload)) z)
 
     -- of a byte that w takes: v goes on probing, and w knows a window
-    module _ (field : p.out.segment.window_len ≡ window_field v) (window : p.after.remote_win_len ≡ v.remote_win_len) (shut : v.remote_win_len ≡ 0) (later : Instant) (delay : Duration) (again : p.after.timer ≡ timer.ZeroWindowProbe later delay) (none : i.over.taken ≡ 0) (fits : 1 ≤ seq_sub (receive_window w).end (receive_window w).start) where
+    module _ (field : p.out.segment.window_len ≡ space_field v) (window : p.after.remote_win_len ≡ v.remote_win_len) (shut : v.remote_win_len ≡ 0) (later : Instant) (delay : Duration) (again : p.after.timer ≡ timer.ZeroWindowProbe later delay) (none : i.over.taken ≡ 0) (fits : 1 ≤ seq_sub (receive_window w).end (receive_window w).start) where
       told_is : p.out.segment.window_len * 2 ^ scale_of w.remote_win_scale ≡ window_told v
       told_is = (λ j. field j * 2 ^ i.back.scale j)
 

@@ -12,7 +12,7 @@ use Rattle.control_wire.specs.declared.seq_number.TcpSeqNumber.{TcpSeqNumber}
 use Rattle.sock_core.specs.Facts.{Facts}
 use Rattle.sock_core.specs.Received.{Received}
 use Rattle.sock_tcp.specs.Content.{Sending}
-use Rattle.sock_tcp.specs.Due.{window_field}
+use Rattle.sock_tcp.specs.Rfc.OwnWindow.{space_field}
 use Rattle.progress_laws.specs.Smoltcp.{processed}
 use Rattle.sock_tcp.specs.Queues.{may_send, read_off, receives}
 use Rattle.sock_tcp.specs.Replies.{ack_kept, ack_segment, reply_ip}
@@ -37,6 +37,7 @@ use Rattle.progress_laws.proofs.States.{is_steady, not_listening, sends_flat}
 use Rattle.progress_laws.proofs.Takes.{IsCaughtUp, Took, fresh_bytes, takes, took, took_bytes, took_reached, took_rests, took_so}
 use Rattle.progress_laws.proofs.Taking.{blank, read_out}
 use Rattle.progress_laws.proofs.Widths.{unit_some, width_told}
+use Rattle.progress_laws.proofs.Sends.{smoltcp_field}
 
 -- ---- what a side tells
 
@@ -93,7 +94,7 @@ module _ (d e : Option Duration) (t s : Tuple) (f : Facts) (now : Instant) (v w 
 
   told_back : g.window_len * 2 ^ scale_of v.remote_win_scale ≡ window_told w
   unfolding ack_segment
-  told_back = ap (λ m. window_field w * 2 ^ m) scale
+  told_back = λ i. smoltcp_field w b.sender.smoltcp i * 2 ^ scale i
 
   told_back_some : 0 < g.window_len * 2 ^ scale_of v.remote_win_scale
   told_back_some = subst (λ m. 0 < m) (sym told_back) (told_some w b.room b.nothing_held b.room_at_least)
@@ -149,7 +150,7 @@ module _ (d e : Option Duration) (t s : Tuple) (f : Facts) (now : Instant) (v w 
           there = same_seq (next_ack w) (seq_add (next_ack w) 0) (omega arith) ∙ ap (λ m. seq_add m 0) (sym h.una);
           scale = ap scale_of (h.scale ∙ k.same.scale) ∙ scale;
           some = l.window;
-          window = omega (arith, window_is, width_told w (ack_kept w) b.room (wide_so w b.room b.nothing_held) (side_narrow b) refl refl refl refl refl);
+          window = omega (arith, window_is, width_told w (ack_kept w) b.room (wide_so w b.room b.nothing_held) (side_narrow b) refl refl refl refl (smoltcp_field w b.sender.smoltcp));
           at_most = omega (arith, window_is);
         };
         none = refl;

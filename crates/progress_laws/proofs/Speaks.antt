@@ -13,7 +13,8 @@ use Rattle.sock_tcp.proofs.Lending.{lent_at_most, lent_beginning}
 use Rattle.sock_tcp.specs.Begin.{timers_by, after_timer, after_timers, is_paused, readied, retransmission_begun}
 use Rattle.sock_tcp.specs.Rfc.TailLoss.{is_retransmission_over, may_probe, may_probe_by, probes_tail}
 use Rattle.sock_tcp.specs.Content.{Sending, asked, carries_data, emission_kind, is_probing, offset_of, sent_as, window_left}
-use Rattle.sock_tcp.specs.Due.{congestion_left, data_due, effective_mss, flight, is_closed, is_due, window_field}
+use Rattle.sock_tcp.specs.Due.{congestion_left, data_due, effective_mss, flight, is_closed, is_due}
+use Rattle.sock_tcp.specs.Rfc.OwnWindow.{space_field}
 use Rattle.sock_tcp.specs.declared.rules.Rules.TheVariants as rules
 use Rattle.sock_tcp.specs.Polls.{is_reached, timeout_poll}
 use Rattle.sock_tcp.specs.Queue.{Queue}
@@ -39,7 +40,7 @@ use Rattle.progress_laws.proofs.Hears.{IsData, IsOpenTimer, idle_is, idle_moment
 use Rattle.progress_laws.proofs.Lends.{lent_some, mss_short, mss_some}
 use Rattle.progress_laws.proofs.Says.{keep_alive_due, no_probe}
 use Rattle.progress_laws.proofs.States.{flat_open, is_flat, row_moment, sends_data, sends_flat}
-use Rattle.progress_laws.proofs.Sends.{HasTold, SentOf, Untold, kept_nxt, kept_sent, kept_timer, kept_untold, left, plain_sent, plain_timer, plain_told, segment_ack, segment_bit, segment_length, segment_number, segment_window, with_bytes, without_bytes}
+use Rattle.progress_laws.proofs.Sends.{HasTold, SentOf, Untold, kept_nxt, kept_sent, kept_timer, kept_untold, left, plain_sent, plain_timer, plain_told, segment_ack, segment_bit, segment_length, segment_number, segment_window, smoltcp_field, with_bytes, without_bytes}
 
 -- ---- what is left of the sender
 
@@ -76,13 +77,13 @@ pub record SpeaksPlain (f : Facts) (v : View) : Type 0 where
   pub bytes : SpeaksBytes f v
   pub fits : length bytes.out.segment.payload ≤ v.remote_win_len
   pub short : length bytes.out.segment.payload ≤ 65535
-  pub field : bytes.out.segment.window_len ≡ window_field v
+  pub field : bytes.out.segment.window_len ≡ space_field v
   pub at : Instant
   pub timer : bytes.after.timer ≡ timer.Retransmit at
   pub window : bytes.after.remote_win_len ≡ v.remote_win_len
   pub shift : bytes.after.remote_win_shift ≡ v.remote_win_shift
   pub last_ack : bytes.after.remote_last_ack ≡ Some (next_ack v)
-  pub last_win : bytes.after.remote_last_win ≡ window_field v
+  pub last_win : bytes.after.remote_last_win ≡ space_field v
 
 -- a byte before SND.UNA
 pub record SpeaksNothing (f : Facts) (v : View) : Type 0 where
@@ -208,8 +209,8 @@ module _ (d : Option Duration) (t : Tuple) (v : View) (f : Facts) (now : Instant
   ack : b.ack_number ≡ Some (next_ack v)
   ack = segment_ack u t (stamp_for u) bytes sends ft.nothing_marked ∙ (λ i. Some (seq_add (fr.same.rcv i) (length ((fr.same.rx i).bytes))))
 
-  told_field : b.window_len ≡ window_field v
-  told_field = segment_window u t (stamp_for u) bytes sends ft.nothing_marked ∙ (λ i. min (length ((fr.same.rx i).held) / 2 ^ fr.same.shift i) 65535)
+  told_field : b.window_len ≡ space_field v
+  told_field = segment_window u t (stamp_for u) bytes sends ft.nothing_marked ∙ smoltcp_field u (fr.same.same_rules ∙ s.smoltcp) ∙ (λ i. min (length ((fr.same.rx i).held) / 2 ^ fr.same.shift i) 65535)
 
   carries_on : carries_data u.state ≡ true
   carries_on = sends_data u.state may

@@ -20,6 +20,7 @@ use Rattle.sock_tcp.specs.Begin.{after_timer, fast_retransmission_marked, readie
 use Rattle.sock_tcp.specs.Rfc.TailLoss.{probes_tail, tail_probed}
 use Rattle.sock_tcp.specs.Content.{Sending, asked, carries_data, data_control, emission_kind, hole_of, offset_of, plain_segment, sent_as}
 use Rattle.sock_tcp.specs.Due.{flight, is_closing, window_field}
+use Rattle.sock_tcp.specs.Rfc.OwnWindow.{space_field}
 use Rattle.sock_tcp.specs.Queue.{Queue}
 use Rattle.sock_tcp.specs.Sent.{goes_on, after_any, after_kind, after_probe, after_sending, emitted_as, sending_timed, snd_nxt_moved}
 use Rattle.sock_tcp.specs.Timers.{is_over, retransmit_unless_set}
@@ -40,12 +41,14 @@ use Rattle.progress_laws.specs.Delivery.{HasSaid, HearsOf, ProbesNext}
 use Rattle.progress_laws.specs.Speech.{FromUna, KeepsAlive, Probes, SendsOk, Speech}
 pub use Rattle.progress_laws.proofs.Hears.{IsSaid}
 use Rattle.progress_laws.proofs.Begins.{Alike, beginning, carries_runs, content_is, dispatch_reached, goes_out, readied_alike, segment_for}
+use Rattle.progress_laws.proofs.Sends.{smoltcp_field}
 
 -- ---- what a dispatch leaves alone
 
--- x has of v the state, the queues, and the numbers but SND.NXT
+-- x has of v the state, the rules, the queues, and the numbers but SND.NXT
 pub record Still (v x : View) : Type 0 where
   pub state : x.state ≡ v.state
+  pub same_rules : x.rules ≡ v.rules
   pub una : x.local_seq_no ≡ v.local_seq_no
   pub tx : x.tx_buffer ≡ v.tx_buffer
   pub rx : x.rx_buffer ≡ v.rx_buffer
@@ -53,31 +56,31 @@ pub record Still (v x : View) : Type 0 where
   pub shift : x.remote_win_shift ≡ v.remote_win_shift
 
 unmoved : (v : View) → Still v v
-unmoved v = record { state = refl; una = refl; tx = refl; rx = refl; rcv = refl; shift = refl }
+unmoved v = record { state = refl; same_rules = refl; una = refl; tx = refl; rx = refl; rcv = refl; shift = refl }
 
 pub then_still : (a b c : View) → Still a b → Still b c → Still a c
-then_still a b c x y = record { state = y.state ∙ x.state; una = y.una ∙ x.una; tx = y.tx ∙ x.tx; rx = y.rx ∙ x.rx; rcv = y.rcv ∙ x.rcv; shift = y.shift ∙ x.shift }
+then_still a b c x y = record { state = y.state ∙ x.state; same_rules = y.same_rules ∙ x.same_rules; una = y.una ∙ x.una; tx = y.tx ∙ x.tx; rx = y.rx ∙ x.rx; rcv = y.rcv ∙ x.rcv; shift = y.shift ∙ x.shift }
 
 timer_still : (tm : Timer) (x : View) (now : Instant) → Still x (after_timer tm x now)
 unfolding retransmission_begun fast_retransmission_marked
 timer_still (timer.Retransmit at) x now = go (is_over at now)
   where
     go : (b : Bool) → Still x (if b then retransmission_begun x now else x)
-    go true = record { state = refl; una = refl; tx = refl; rx = refl; rcv = refl; shift = refl }
+    go true = record { state = refl; same_rules = refl; una = refl; tx = refl; rx = refl; rcv = refl; shift = refl }
     go false = unmoved x
-timer_still timer.FastRetransmit x now = record { state = refl; una = refl; tx = refl; rx = refl; rcv = refl; shift = refl }
+timer_still timer.FastRetransmit x now = record { state = refl; same_rules = refl; una = refl; tx = refl; rx = refl; rcv = refl; shift = refl }
 timer_still (timer.Idle at) x now = unmoved x
 timer_still (timer.ZeroWindowProbe at delay) x now = go (is_over at now) x.rules
   where
     go : (b : Bool) (r : Rules) → Still x (if b then probing_begun r x else x)
     go true rules.Smoltcp = unmoved x
-    go true rules.Rfc = record { state = refl; una = refl; tx = refl; rx = refl; rcv = refl; shift = refl }
+    go true rules.Rfc = record { state = refl; same_rules = refl; una = refl; tx = refl; rx = refl; rcv = refl; shift = refl }
     go false r = unmoved x
 timer_still (timer.Close at) x now = unmoved x
 
 timers_still : (b : Bool) (x : View) (now : Instant) → Still x (timers_by b x now)
 unfolding tail_probed
-timers_still true x now = record { state = refl; una = refl; tx = refl; rx = refl; rcv = refl; shift = refl }
+timers_still true x now = record { state = refl; same_rules = refl; una = refl; tx = refl; rx = refl; rcv = refl; shift = refl }
 timers_still false x now = timer_still x.timer x now
 
 pub sent_still : (b : View) (now : Instant) (e : Emitted) → Still b (after_sending b now e)
@@ -88,13 +91,13 @@ sent_still b now e = by e.kind
     x = snd_nxt_moved (after_any b now) e
 
     timed : (z : Bool) → Still b (if z then x else record x { rtte = sent x.rtte now e.end; timer = retransmit_unless_set x.timer now x.rtte; congestion_controller = post_transmitted (restarted_by x.rules x.idle_at now x.congestion_controller) now e.len; idle_at = idle_by x.rules x.idle_at now x.rtte; pending_fast_retransmit = x.pending_fast_retransmit || goes_on x })
-    timed true = record { state = refl; una = refl; tx = refl; rx = refl; rcv = refl; shift = refl }
-    timed false = record { state = refl; una = refl; tx = refl; rx = refl; rcv = refl; shift = refl }
+    timed true = record { state = refl; same_rules = refl; una = refl; tx = refl; rx = refl; rcv = refl; shift = refl }
+    timed false = record { state = refl; same_rules = refl; una = refl; tx = refl; rx = refl; rcv = refl; shift = refl }
 
     by : (k : Kind) → Still b (after_kind k (after_any b now) now e)
     by kind.Plain = timed (e.len == 0)
-    by kind.Probe = record { state = refl; una = refl; tx = refl; rx = refl; rcv = refl; shift = refl }
-    by kind.KeepAlive = record { state = refl; una = refl; tx = refl; rx = refl; rcv = refl; shift = refl }
+    by kind.Probe = record { state = refl; same_rules = refl; una = refl; tx = refl; rx = refl; rcv = refl; shift = refl }
+    by kind.KeepAlive = record { state = refl; same_rules = refl; una = refl; tx = refl; rx = refl; rcv = refl; shift = refl }
 
 -- ---- its control bit
 
@@ -154,7 +157,7 @@ module _ (t : Tuple) (f : Facts) (v : View) (out : Sending) (u : View) (h : HasS
   begun_still : Still v b
   begun_still =
       let al : Alike v (readied v now) = readied_alike v now in
-      then_still v (readied v now) b (record { state = al.same.state; una = al.same.una; tx = al.same.tx; rx = al.same.rx; rcv = al.same.rcv; shift = al.same.shift }) (timers_still (probes_tail (readied v now) now) (readied v now) now)
+      then_still v (readied v now) b (record { state = al.same.state; same_rules = al.same.same_rules; una = al.same.una; tx = al.same.tx; rx = al.same.rx; rcv = al.same.rcv; shift = al.same.shift }) (timers_still (probes_tail (readied v now) now) (readied v now) now)
 
   o : SendsOk f t b (Some out) u
   o = goes_out v t f h.on (carries_runs v.state v.synack_paused h.carries) out u h.dispatch
@@ -190,8 +193,8 @@ module _ (t : Tuple) (f : Facts) (v : View) (out : Sending) (u : View) (h : HasS
   said_field kind.Probe = refl
 
   -- it tells the window that v tells now
-  pub field : out.segment.window_len ≡ window_field v
-  field = ap (λ (s : Sending). s.segment.window_len) out_is ∙ said_field k ∙ (λ i. min (length ((begun_still.rx i).held) / 2 ^ begun_still.shift i) 65535)
+  pub field : v.rules ≡ rules.Smoltcp → out.segment.window_len ≡ space_field v
+  field smoltcp = ap (λ (s : Sending). s.segment.window_len) out_is ∙ said_field k ∙ smoltcp_field b (begun_still.same_rules ∙ smoltcp) ∙ (λ i. min (length ((begun_still.rx i).held) / 2 ^ begun_still.shift i) 65535)
 
   said_bit : (k : Kind) → IsSaid (sent_as b t k g).segment.control
   said_bit kind.KeepAlive = data_said b (length o.bytes)

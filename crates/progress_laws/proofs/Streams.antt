@@ -14,7 +14,8 @@ use Rattle.sock_core.specs.Facts.{Facts}
 use Rattle.sock_core.specs.Received.{Received, byte_at, handed_out, room_of}
 use Rattle.sock_core.specs.Seq.{is_before}
 use Rattle.sock_tcp.proofs.Windows.{far, not_far}
-use Rattle.sock_tcp.specs.Due.{is_closing, window_field}
+use Rattle.sock_tcp.specs.Due.{is_closing}
+use Rattle.sock_tcp.specs.Rfc.OwnWindow.{space_field}
 use Rattle.sock_tcp.specs.Queues.{may_send, read_off, receives}
 use Rattle.sock_tcp.specs.View.{View}
 use Rattle.sock_tcp.specs.Window.{kept_between, next_ack, receive_window, window_end}
@@ -161,7 +162,7 @@ module _ (d e : Duration) (t s : Tuple) (f : Facts) (at : Instant) (v w : View) 
     last = i.over.last;
   }
 
-  pub field : 0 < window_field v1
+  pub field : 0 < space_field v1
   unfolding read_off
   field = field_some v1 (omega (arith, unit_fits v i.here.reached i.here.room, places v))
 
@@ -206,7 +207,7 @@ module _ (d e : Duration) (t s : Tuple) (f : Facts) (at : Instant) (v w : View) 
     swapped : Agreement e s y x o.heard 0
     swapped = record {
       speaker = speaks.0;
-      taker = record { reached = o.agrees.speaker.reached; state = ap receives same_state ∙ i.here.state; room = some_room };
+      taker = record { reached = o.agrees.speaker.reached; state = ap receives same_state ∙ i.here.state; smoltcp = o.agrees.speaker.smoltcp; room = some_room };
       taken_within = speaks.1;
       there = o.agrees.back;
       held = held_then;

@@ -9,7 +9,8 @@ use Rattle.control_wire.specs.declared.tcp.TcpControl.TheVariants as control
 use Rattle.sock_core.specs.Seq.{later_of}
 use Rattle.sock_tcp.specs.Acked.{syn_place}
 use Rattle.sock_tcp.specs.Content.{carries_data}
-use Rattle.sock_tcp.specs.Due.{is_closing, window_field}
+use Rattle.sock_tcp.specs.Due.{is_closing}
+use Rattle.sock_tcp.specs.Rfc.OwnWindow.{space_field}
 use Rattle.sock_tcp.specs.Process.{bytes_taken}
 use Rattle.sock_tcp.specs.Queue.{Queue}
 use Rattle.sock_tcp.specs.Queues.{receives}
@@ -70,7 +71,7 @@ pub record FromFront (v : View) (s : Segment) : Type 0 where
   pub ack : s.ack_number ≡ Some (next_ack v)
   pub number : s.seq_number ≡ v.local_seq_no
   pub first : s.payload ≡ take (length s.payload) v.tx_buffer.bytes
-  pub field : s.window_len ≡ window_field v
+  pub field : s.window_len ≡ space_field v
   pub fin : s.control ≡ control.Fin → length s.payload ≡ length v.tx_buffer.bytes
   pub closing : s.control ≡ control.Fin → is_closing v.state ≡ true
   pub some : 0 < segment_len s
@@ -78,7 +79,7 @@ pub record FromFront (v : View) (s : Segment) : Type 0 where
 
 -- where w can speak, and waits for no acknowledgement of a FIN of its own, so can u, once v told a window
 abbrev pub SpeaksOn : View → View → ℕ → View → Type 0
-SpeaksOn v w h u = (e : Duration) (r : Tuple) → IsSpeaker e r w → h ≤ length w.tx_buffer.bytes → 0 < window_field v → IsSpeaker e r u × (u.state ≡ w.state)
+SpeaksOn v w h u = (e : Duration) (r : Tuple) → IsSpeaker e r w → h ≤ length w.tx_buffer.bytes → 0 < space_field v → IsSpeaker e r u × (u.state ≡ w.state)
 
 -- u is as this but for what joined
 pub record Took (w : View) (k : TcpSeqNumber) (h : ℕ) (u : View) (st : State) (first : TcpSeqNumber) (counts : Bool) : Type 0 where
@@ -131,7 +132,7 @@ pub record Stopped (v w : View) (h : ℕ) (z : View) : Type 0 where
   pub una : z.local_seq_no ≡ next_ack v
   pub nxt : z.remote_last_seq ≡ later_of w.remote_last_seq (next_ack v)
   pub tx : z.tx_buffer.bytes ≡ drop h w.tx_buffer.bytes
-  pub speaks : (e : Duration) (r : Tuple) → IsSpeaker e r w → h ≤ length w.tx_buffer.bytes → 0 < window_field v → IsSpeaker e r z × (has_counted z.state ≡ true) × (is_closing z.state ≡ is_closing w.state) × (z.state ≡ state.LastAck → ⊥)
+  pub speaks : (e : Duration) (r : Tuple) → IsSpeaker e r w → h ≤ length w.tx_buffer.bytes → 0 < space_field v → IsSpeaker e r z × (has_counted z.state ≡ true) × (is_closing z.state ≡ is_closing w.state) × (z.state ≡ state.LastAck → ⊥)
 
 pub counted_carries : (st : State) → has_counted st ≡ true → carries_data st ≡ true
 counted_carries state.CloseWait e = refl

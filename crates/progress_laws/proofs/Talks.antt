@@ -13,6 +13,7 @@ use Rattle.sock_tcp.proofs.Lending.{lent_at_most}
 use Rattle.sock_tcp.specs.Begin.{after_timer, fast_retransmission_marked, is_paused, readied, retransmission_begun}
 use Rattle.sock_tcp.specs.Content.{Sending, asked, carries_data, emission_kind, is_probing, offset_of, plain_segment, resent_size, sent_as, size_of, window_left}
 use Rattle.sock_tcp.specs.Due.{congestion_left, effective_mss, flight, is_closed, is_closing, is_due}
+use Rattle.sock_tcp.specs.Rfc.OwnWindow.{space_field}
 use Rattle.sock_tcp.specs.Polls.{is_reached, timer_poll}
 use Rattle.sock_tcp.specs.Queue.{Queue}
 use Rattle.sock_tcp.specs.Timers.{after, idle_from, is_close_over, is_keep_alive_over, is_over, is_probe_over, keep_alive_renewed, probe_doubled, retransmit_unless_set, rto_of, twice}
@@ -38,7 +39,7 @@ use Rattle.progress_laws.proofs.Edges.{is_not_before, later_stays}
 use Rattle.progress_laws.proofs.Lends.{lent_some, marked_some, mss_short, mss_some, probe_byte}
 use Rattle.progress_laws.proofs.Says.{AtFront, front_number, keep_alive_due, no_probe, probe_due}
 use Rattle.tcp_laws.proofs.Sleeping.{congestion_leaves}
-use Rattle.progress_laws.proofs.Sends.{HasTold, Untold, kept_nxt, kept_sent, kept_timer, kept_untold, left, plain_sent, plain_timer, plain_told, probe_nxt, probe_sent, probe_timer, probe_untold}
+use Rattle.progress_laws.proofs.Sends.{HasTold, Untold, kept_nxt, kept_sent, kept_timer, kept_untold, left, plain_sent, plain_timer, plain_told, probe_nxt, probe_sent, probe_timer, probe_untold, smoltcp_field}
 
 carries_open : (st : State) → carries_data st ≡ true → is_closed st ≡ false
 carries_open state.Established e = refl
@@ -151,11 +152,11 @@ module _ (d : Duration) (t : Tuple) (v : View) (f : Facts) (now : Instant) (mtu 
   unfolding plain_segment
   tells = record {
     last_ack = (plain_told b t now g opens).ack ∙ (λ i. Some (seq_add (st.same.rcv i) (length ((st.same.rx i).bytes))));
-    last_win = (plain_told b t now g opens).window ∙ (λ i. window_field_of ((st.same.rx i).held) (st.same.shift i));
+    last_win = (plain_told b t now g opens).window ∙ smoltcp_field b (st.same.same_rules ∙ s.smoltcp) ∙ (λ i. space_field_of ((st.same.rx i).held) (st.same.shift i));
   }
     where
-      window_field_of : List (Option ℕ) → ℕ → ℕ
-      window_field_of hs n = min (length hs / 2 ^ n) 65535
+      space_field_of : List (Option ℕ) → ℕ → ℕ
+      space_field_of hs n = min (length hs / 2 ^ n) 65535
 
   left_plain : Left v (left b t now g opens kind.Plain)
   left_plain = record { same = same_then st.same (plain_sent b t now g opens (st.same.same_rules ∙ s.smoltcp)).same; told = inr tells }

@@ -3,7 +3,7 @@ use Rattle.std.proofs.Common.{◌≡◌, ℕ, ◌*◌, ◌/◌, ◌<◌, ◌≤�
 use Rattle.control_wire.specs.Seq.{seq_add, seq_sub}
 use Rattle.control_wire.specs.declared.seq_number.TcpSeqNumber.{TcpSeqNumber}
 use Rattle.sock_core.specs.Received.{Received}
-use Rattle.sock_tcp.specs.Due.{window_field}
+use Rattle.sock_tcp.specs.Rfc.OwnWindow.{space_field}
 use Rattle.sock_tcp.specs.View.{View}
 use Rattle.sock_tcp.specs.Window.{kept_between, next_ack, receive_window, window_end}
 use Rattle.std.proofs.lemmas.Nat.{le-div, pow_pos}
@@ -43,7 +43,7 @@ pub told_alike : (v y : View) → y.rx_buffer ≡ v.rx_buffer → y.remote_win_s
 told_alike v y rx shift = (λ i. unit (length ((rx i).held)) (shift i))
 
 -- the receive window of y is what v, with the same buffer, told
-pub width_told : (v y : View) (room : ℕ) → length v.rx_buffer.held ≡ room → room ≤ 2 ^ 30 → y.rx_buffer ≡ v.rx_buffer → y.remote_seq_no ≡ v.remote_seq_no → y.remote_win_shift ≡ v.remote_win_shift → y.remote_last_ack ≡ Some (next_ack v) → y.remote_last_win ≡ window_field v → seq_sub (receive_window y).end (receive_window y).start ≡ window_told v
+pub width_told : (v y : View) (room : ℕ) → length v.rx_buffer.held ≡ room → room ≤ 2 ^ 30 → y.rx_buffer ≡ v.rx_buffer → y.remote_seq_no ≡ v.remote_seq_no → y.remote_win_shift ≡ v.remote_win_shift → y.remote_last_ack ≡ Some (next_ack v) → y.remote_last_win ≡ space_field v → seq_sub (receive_window y).end (receive_window y).start ≡ window_told v
 width_told v y room wide narrow rx rcv shift ack win =
     told_window y room (ap (λ (b : Received). length b.held) rx ∙ wide) narrow (ack ∙ (λ i. Some (seq_add (sym rcv i) (length ((sym rx i).bytes))))) (win ∙ (λ i. min (wide i / 2 ^ sym shift i) 65535))
     ∙ (λ i. unit (sym wide i) (shift i))

@@ -15,6 +15,7 @@ use Rattle.sock_tcp.specs.declared.tuple.Tuple.{Tuple}
 use Rattle.tcp_laws.specs.Polling.{IsReached}
 use Rattle.progress_laws.specs.BothWays.{Toward, window_told}
 use Rattle.progress_laws.specs.InStep.{IsSenderIn, Moves}
+use Rattle.sock_tcp.specs.declared.rules.Rules.TheVariants as rules
 
 -- ---- the two sides
 
@@ -22,11 +23,12 @@ use Rattle.progress_laws.specs.InStep.{IsSenderIn, Moves}
 abbrev pub IsCloser : Option Duration → Tuple → View → Type 0
 IsCloser d t v = IsSenderIn is_closing d t v
 
--- The receiver w is what some list of calls makes of a new socket. It is in ESTABLISHED, FIN-WAIT-1 or FIN-WAIT-2,
--- whatever it has to send, and not in the timer of TIME-WAIT. All that it took was read, and it holds nothing. It has
--- room for so many bytes, at least for one unit of its window field
+-- The receiver w is what some list of calls makes of a new socket, with smoltcp's rules. It is in ESTABLISHED,
+-- FIN-WAIT-1 or FIN-WAIT-2, whatever it has to send, and not in the timer of TIME-WAIT. All that it took was read, and
+-- it holds nothing. It has room for so many bytes, at least for one unit of its window field
 pub record IsTaker (w : View) : Type 0 where
   pub reached : IsReached w
+  pub smoltcp : w.rules ≡ rules.Smoltcp
   pub state : receives w.state ≡ true
   pub timer : (at : Instant) → w.timer ≡ timer.Close at → ⊥
   pub read : w.rx_buffer.bytes ≡ []

@@ -55,11 +55,12 @@ pub record IsSpeaker (d : Duration) (t : Tuple) (v : View) : Type 0 where
 
 -- ---- the one that takes
 
--- The taker w is what some list of calls makes of a new socket, in ESTABLISHED, FIN-WAIT-1 or FIN-WAIT-2, whatever it
--- has to send and however it waits. Its receive buffer has a place
+-- The taker w is what some list of calls makes of a new socket, in ESTABLISHED, FIN-WAIT-1 or FIN-WAIT-2, with
+-- smoltcp's rules, whatever it has to send and however it waits. Its receive buffer has a place
 pub record IsTaking (w : View) : Type 0 where
   pub reached : IsReached w
   pub state : receives w.state ≡ true
+  pub smoltcp : w.rules ≡ rules.Smoltcp
   pub room : 0 < room_of w.rx_buffer
 
 -- ---- they agree

@@ -7,7 +7,7 @@ use Rattle.sock_core.specs.Bounds.{IsMtu}
 use Rattle.sock_core.specs.Facts.{Facts}
 use Rattle.sock_tcp.specs.Closing.{closed}
 use Rattle.sock_tcp.specs.Content.{Sending}
-use Rattle.sock_tcp.specs.Due.{window_field}
+use Rattle.sock_tcp.specs.Rfc.OwnWindow.{space_field}
 use Rattle.progress_laws.specs.Smoltcp.{processed}
 use Rattle.sock_tcp.specs.Queues.{Sends, recv_check}
 use Rattle.sock_tcp.specs.Steps.{scale_of}
@@ -34,7 +34,7 @@ pub record IsSide (d : Option Duration) (t : Tuple) (v : View) : Type 0 where
 
 -- what a segment of v tells as its window
 abbrev pub window_told : View → ℕ
-window_told v = window_field v * 2 ^ v.remote_win_shift
+window_told v = space_field v * 2 ^ v.remote_win_shift
 
 -- The bytes from v to w. They agree on the numbers, and on the scale of the window. The side w took so many bytes that
 -- v has not heard of. The window that v knows is above 0, lies within the receive window of w, and is no more than what

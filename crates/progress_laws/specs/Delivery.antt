@@ -19,6 +19,7 @@ use Rattle.sock_tcp.specs.declared.state.State.TheVariants as state
 use Rattle.sock_tcp.specs.declared.tuple.Tuple.{Tuple}
 use Rattle.tcp_laws.specs.Polling.{IsReached}
 use Rattle.progress_laws.specs.Speech.{DispatchesOk, GoesOn, Speech}
+use Rattle.sock_tcp.specs.declared.rules.Rules.TheVariants as rules
 
 -- ---- the two sides
 
@@ -32,11 +33,13 @@ pub record HasSaid (t : Tuple) (f : Facts) (v : View) (out : Sending) (u : View)
   pub speech : Speech v out
 
 -- The other side w is what some list of calls makes of a new socket, in ESTABLISHED, FIN-WAIT-1 or FIN-WAIT-2, with
--- room for one unit of its window field, whatever waits in its queues. They agree on the numbers of both streams: w
--- took n bytes of v's transmit queue, and v some of what w has not heard of yet, of its queue and its FIN
+-- smoltcp's rules and room for one unit of its window field, whatever waits in its queues. They agree on the numbers of
+-- both streams: w took n bytes of v's transmit queue, and v some of what w has not heard of yet, of its queue and its
+-- FIN
 pub record HearsOf (v w : View) (n : ℕ) : Type 0 where
   pub reached : IsReached w
   pub receives : receives w.state ≡ true
+  pub smoltcp : w.rules ≡ rules.Smoltcp
   pub room : 2 ^ w.remote_win_shift ≤ length w.rx_buffer.held
   pub taken_within : n ≤ length v.tx_buffer.bytes
   pub there : next_ack w ≡ seq_add v.local_seq_no n

@@ -30,10 +30,11 @@ pub record MaySpeak {G : Type 0} (d : Duration) (h : HostView G) : Type 0 where
   pub keep_alive : h.control_block.keep_alive ≡ Some d
   pub waits : Waits h.control_block
 
--- The side o is in ESTABLISHED, FIN-WAIT-1 or FIN-WAIT-2, with a receive buffer of at least a byte. Its types say that
--- no FIN is counted in these states
+-- The side o is in ESTABLISHED, FIN-WAIT-1 or FIN-WAIT-2, with smoltcp's rules and a receive buffer of at least a byte.
+-- Its types say that no FIN is counted in these states
 pub record MayTake {G : Type 0} (o : HostView G) : Type 0 where
   pub receives : receives o.control_block.state ≡ true
+  pub smoltcp : o.control_block.rules ≡ rules.Smoltcp
   pub types : IsSocket o.control_block
   pub place : 0 < room_of o.control_block.rx_buffer
 

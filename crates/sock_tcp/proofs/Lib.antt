@@ -7,6 +7,7 @@ pub mod KeptSegments
 pub mod Stamping
 pub mod Windows
 pub mod Windowing
+pub mod OwnWindow
 pub mod Holes
 pub mod Fitting
 pub mod FittingReplies

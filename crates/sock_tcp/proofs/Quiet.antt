@@ -8,9 +8,10 @@ use Rattle.control_wire.specs.Seq.{seq_add, seq_eq}
 use Rattle.control_wire.specs.declared.seq_number.TcpSeqNumber.{TcpSeqNumber}
 use Rattle.sock_core.specs.Facts.{Facts}
 use Rattle.sock_core.specs.declared.context.PollAt.TheVariants as poll
-use Rattle.sock_tcp.specs.Due.{ack_due, ack_poll, data_due, edge_sent, effective_mss, field_left, flight, is_ack_after, is_closed, is_closing, is_doubled, is_held_back, is_opening, sendable, tells_window, window_doubled, window_field}
+use Rattle.sock_tcp.specs.Due.{ack_due, ack_poll, data_due, edge_sent, effective_mss, field_left, flight, is_ack_after, is_closed, is_closing, is_doubled, is_held_back, is_opening, sendable, tells_window, window_doubled}
 use Rattle.sock_tcp.specs.Poll.{is_due_now}
 use Rattle.sock_tcp.specs.Polls.{delay_poll}
+use Rattle.sock_tcp.specs.Rfc.OwnWindow.{may_grow, space_field}
 use Rattle.sock_tcp.specs.View.{View}
 use Rattle.sock_tcp.specs.Window.{next_ack}
 use Rattle.sock_tcp.specs.declared.state.State.TheVariants as state
@@ -29,16 +30,17 @@ module _ (v : View) (is : v.remote_last_ack ≡ Some (next_ack v)) where
 
   not_so : is_doubled v (Some (next_ack v)) ≡ false → window_doubled v ≡ false
   unfolding window_doubled
-  not_so e = and_right (tells_window v.state) (is_doubled v v.remote_last_ack) (ap (is_doubled v) is ∙ e)
+  not_so e =
+      and_right (tells_window v.state) (is_doubled v v.remote_last_ack && may_grow v.rules v) (and_left (is_doubled v v.remote_last_ack) (may_grow v.rules v) (ap (is_doubled v) is ∙ e))
 
-  pub no_window : window_field v ≡ 0 → window_doubled v ≡ false
-  no_window none = not_so (and_left (not (window_field v == 0)) _ (ap (λ n. not (n == 0)) none))
+  pub no_window : space_field v ≡ 0 → window_doubled v ≡ false
+  no_window none = not_so (and_left (not (space_field v == 0)) _ (ap (λ n. not (n == 0)) none))
 
   -- what is left of the window that was told is told by the same field
-  pub not_doubled : v.remote_last_win < 2 ^ 16 → v.remote_win_shift ≤ 14 → window_field v / 2 < v.remote_last_win → window_doubled v ≡ false
+  pub not_doubled : v.remote_last_win < 2 ^ 16 → v.remote_win_shift ≤ 14 → space_field v / 2 < v.remote_last_win → window_doubled v ≡ false
   not_doubled small shift more =
       let left : field_left v (edge_sent v (next_ack v)) ≡ v.remote_last_win = left_is_told (next_ack v) v.remote_last_win v.remote_win_shift (omega arith) small (shifted_fits v.remote_last_win v.remote_win_shift small shift) in
-      not_so (and_right (not (window_field v == 0)) _ (ap (λ n. nat_le n (window_field v / 2)) left ∙ lt-leb v.remote_last_win (window_field v / 2) more))
+      not_so (and_right (not (space_field v == 0)) _ (ap (λ n. nat_le n (space_field v / 2)) left ∙ lt-leb v.remote_last_win (space_field v / 2) more))
 
 -- ---- an open connection with nothing in its transmit queue
 

@@ -10,7 +10,8 @@ use Rattle.sock_tcp.specs.Arrival.{arrival}
 use Rattle.sock_tcp.specs.Process.{Outcome, answered, by_verdict, processed_by, tuple_of}
 use Rattle.sock_tcp.specs.Replies.{ack_kept, ack_segment, sack_range}
 use Rattle.sock_tcp.specs.Rfc.Recovery.{before_of, begun_by, gone_on_from, has_timer, is_called, recovered, recovered_by, resends, running, timer_after, waited_for, marked_by, waits_tail}
-use Rattle.sock_tcp.specs.Due.{flight}
+use Rattle.sock_tcp.specs.Due.{flight, window_field}
+use Rattle.sock_tcp.proofs.OwnWindow.{field_is}
 use Rattle.sock_tcp.specs.Rfc.TailLoss.{is_alone, tail_from, tail_waits}
 use Rattle.sock_core.specs.Estimator.{Estimator}
 use Rattle.sock_tcp.specs.Timers.{idle_from, probe_from, retransmit_from}
@@ -31,13 +32,17 @@ module _ (b : Before) (u : View) (s : Segment) (now : Instant) where
   abbrev behind : Outcome → Outcome
   behind o = record { view = recovered b o.view now; reply = o.reply }
 
+  same_field : window_field (recovered b u now) ≡ window_field u
+  unfolding recovered
+  same_field = field_is (recovered b u now) ∙ sym (field_is u)
+
   kept_view : ack_kept (recovered b u now) ≡ recovered b (ack_kept u) now
   unfolding recovered ack_kept
-  kept_view = refl
+  kept_view = λ i. record (recovered b (ack_kept u) now) { remote_last_win = same_field i }
 
   kept_reply : ack_segment (recovered b u now) s ≡ ack_segment u s
   unfolding recovered ack_segment sack_range
-  kept_reply = refl
+  kept_reply = λ i. record (ack_segment u s) { window_len = same_field i }
 
   said : (x : Answer) → answered x (recovered b u now) s ≡ behind (answered x u s)
   unfolding ack_kept

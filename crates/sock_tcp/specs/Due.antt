@@ -11,8 +11,10 @@ use Rattle.sock_core.specs.Seq.{is_before}
 use Rattle.sock_core.specs.declared.context.PollAt.{PollAt}
 use Rattle.sock_core.specs.declared.context.PollAt.TheVariants as poll
 use Rattle.sock_tcp.specs.Polls.{is_reached, delay_poll}
+use Rattle.sock_tcp.specs.Rfc.OwnWindow.{field_by, may_grow, space_field}
 use Rattle.sock_tcp.specs.Rfc.Pipe.{counts, pipe}
 use Rattle.sock_tcp.specs.Rfc.Scoreboard.{is_blank}
+use Rattle.sock_tcp.specs.Rfc.SmallSegments.{is_cut_by}
 use Rattle.sock_tcp.specs.Timers.{is_keep_alive_over, is_probe_over}
 use Rattle.sock_tcp.specs.View.{View, moment_of}
 use Rattle.sock_tcp.specs.Window.{next_ack}
@@ -108,8 +110,14 @@ sendable v = min (min v.remote_win_len (length v.tx_buffer.bytes) - flight v) (c
 -- ---- data, a SYN or a FIN
 
 -- Nagle: while bytes are in flight, less than a full segment waits; nothing waits behind a close
+abbrev pub waits_by_nagle : View → ℕ → Bool
+waits_by_nagle v mss = v.nagle && not (flight v == 0) && nat_lt (sendable v) mss && not (is_closing v.state)
+
+-- and by the RFCs' rules what the peer's window makes small
 abbrev pub is_held_back : View → ℕ → Bool
-is_held_back v mss = v.nagle && not (flight v == 0) && nat_lt (sendable v) mss && not (is_closing v.state)
+is_held_back v mss =
+    waits_by_nagle v mss
+    || is_cut_by v.rules (flight v) v.remote_win_len (length v.tx_buffer.bytes) (congestion_left v) mss
 
 -- a SYN or a FIN
 abbrev pub control_due : View → Bool
@@ -142,7 +150,7 @@ ack_poll v = if ack_due v then delay_poll v.ack_delay_timer else poll.Ingress
 
 -- the window field of every segment but a SYN
 abbrev pub window_field : View → ℕ
-window_field v = min (length v.rx_buffer.held / 2 ^ v.remote_win_shift) 65535
+window_field v = field_by v.rules v
 
 -- the window field that would tell what is left of the window sent last, up to this edge
 abbrev pub field_left : View → TcpSeqNumber → ℕ
@@ -154,11 +162,11 @@ edge_sent v ack = seq_add ack (v.remote_last_win * 2 ^ v.remote_win_shift)
 
 abbrev pub is_doubled : View → Option TcpSeqNumber → Bool
 is_doubled v None = false
-is_doubled v (Some ack) = not (window_field v == 0) && nat_le (field_left v (edge_sent v ack)) (window_field v / 2)
+is_doubled v (Some ack) = not (space_field v == 0) && nat_le (field_left v (edge_sent v ack)) (space_field v / 2)
 
--- the window has at least doubled since it was sent
+-- the window has at least doubled since it was sent; by the RFCs' rules its right edge may move on, too
 unfoldable pub window_doubled : View → Bool
-window_doubled v = tells_window v.state && is_doubled v v.remote_last_ack
+window_doubled v = tells_window v.state && (is_doubled v v.remote_last_ack && may_grow v.rules v)
 
 -- ---- the reasons in their order
 

@@ -7,3 +7,5 @@ pub mod Numbers
 pub mod Windows
 pub mod TailLoss
 pub mod Pipe
+pub mod OwnWindow
+pub mod SmallSegments

@@ -8,7 +8,7 @@ ghost use Rattle.control_wire.specs.Fits.{FitsPacket};
 ghost use Rattle.control_wire.specs.Segment.{segment_of};
 ghost use Rattle.sock_core.specs.Facts.{IsLawful};
 ghost use Rattle.sock_tcp.specs.Queue.{IsLent};
-ghost use Rattle.sock_tcp.specs.Due.{flight, window_field};
+ghost use Rattle.sock_tcp.specs.Due.{flight};
 ghost use Rattle.sock_tcp.specs.Content.{window_left, is_probing, hole_of, hole_within, resent_size, size_of};
 ghost use Rattle.sock_tcp.specs.Content.{offset_of, number_of, asked};
 ghost use Rattle.sock_tcp.specs.Content.{timestamp_of, plain_segment, with_syn, syn, syn_ack, data_control, with_data};
@@ -146,12 +146,6 @@ impl<'a> ControlBlock<'a> {
             0
         };
         self.tx_buffer.get_allocated(self.offset(), size)
-    }
-
-    pub(crate) fn window_field(&self) -> u16
-        ensures { result ≡ window_field self.now }
-    {
-        (self.rx_buffer.window() >> self.remote_win_shift).min(65535) as u16
     }
 
     // The window field of a SYN.

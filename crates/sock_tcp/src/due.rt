@@ -3,7 +3,8 @@ ghost use Rattle.std.specs.Prelude.{◌≡◌, ◌≤◌, ◌<◌, ◌^◌};
 ghost use Rattle.sock_core.specs.Bounds.{IsMoment};
 ghost use Rattle.sock_tcp.specs.View.{moment_of};
 ghost use Rattle.sock_tcp.specs.Due.{control_due, own_mss, effective_mss};
-ghost use Rattle.sock_tcp.specs.Due.{flight, limited, congestion_left, sendable, is_held_back, data_due, ack_due};
+ghost use Rattle.sock_tcp.specs.Due.{flight, limited, congestion_left, sendable, waits_by_nagle, is_held_back};
+ghost use Rattle.sock_tcp.specs.Due.{data_due, ack_due};
 ghost use Rattle.sock_tcp.specs.Due.{ack_poll};
 ghost use Rattle.sock_tcp.specs.Due.{edge_sent, field_left, is_doubled, window_doubled, is_due};
 
@@ -92,10 +93,16 @@ impl<'a> ControlBlock<'a> {
     }
 
     // Nagle: a small segment waits while bytes are in flight (RFC 9293, section 3.7.4).
+    fn waits_by_nagle(&self, mss: usize) -> bool
+        ensures { result ≡ waits_by_nagle self.now mss }
+    {
+        self.nagle && self.flight() != 0 && self.sendable() < mss && !self.state.is_closing()
+    }
+
     fn is_held_back(&self, mss: usize) -> bool
         ensures { result ≡ is_held_back self.now mss }
     {
-        self.nagle && self.flight() != 0 && self.sendable() < mss && !self.state.is_closing()
+        self.waits_by_nagle(mss) || self.is_cut_short(mss)
     }
 
     #[inline(always)]
@@ -162,16 +169,16 @@ impl<'a> ControlBlock<'a> {
             Some(ack) => ack,
         };
         let edge = ack.plus((self.remote_last_win as usize) << self.remote_win_shift);
-        let field = self.window_field() as usize;
+        let field = self.space_field() as usize;
         field != 0 && field / 2 >= self.field_left(edge)
     }
 
-    // Whether the window has at least doubled since it was sent.
+    // Whether the window has at least doubled since it was sent, and its right edge may move on.
     #[tactic(auto, unfolding(crate::specs::Due::window_doubled))]
     pub(crate) fn window_doubled(&self) -> bool
         ensures { result ≡ window_doubled self.now }
     {
-        self.state.tells_window() && self.is_doubled()
+        self.state.tells_window() && self.is_doubled() && self.may_grow()
     }
 
     // The reasons to send, in their order.

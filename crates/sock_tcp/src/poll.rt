@@ -122,14 +122,14 @@ impl<'a> ControlBlock<'a> {
     }
 
     // Whether the peer was told what it is to be told: the last acknowledgement that was sent is for all that came, and
-    // a window field that went out now would be 0, or less than twice the one that went out with it.
+    // a window field that told the free space now would be 0, or less than twice the one that went out with it.
     #[tactic(auto, using(crate::proofs::Quiet::no_window, crate::proofs::Quiet::not_doubled))]
     fn has_told_all(&self) -> bool
         ensures acknowledged { IsTrue result → ack_due self.now ≡ false }
         ensures window { IsTrue result → window_doubled self.now ≡ false }
     {
         let told = self.remote_last_win;
-        let field = self.window_field();
+        let field = self.space_field();
         self.has_acknowledged() && (field == 0 || field / 2 < told)
     }
 

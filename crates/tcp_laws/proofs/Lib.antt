@@ -34,3 +34,5 @@ pub mod Speaking
 pub mod LossSaid
 pub mod Telling
 pub mod LossFollows
+pub mod OwnWindows
+pub mod OlderWindows

@@ -17,10 +17,12 @@ use Rattle.sock_core.specs.Received.{room_of}
 use Rattle.sock_core.specs.Seq.{is_before, later_of}
 use Rattle.sock_core.specs.declared.context.PollAt.{PollAt}
 use Rattle.sock_core.specs.declared.context.PollAt.TheVariants as poll
+use Rattle.sock_tcp.proofs.OwnWindow.{field_within, no_larger, told_within}
 use Rattle.sock_tcp.proofs.Windows.{far, left_is_told}
 use Rattle.sock_tcp.specs.Begin.{Begun, readied, after_timers, peer_of}
 use Rattle.sock_tcp.specs.Content.{Sending, asked, carries_data, content, emission_kind, filled, is_probing, of_kind, offset_of, plain_segment, sent_as, window_left}
 use Rattle.sock_tcp.specs.Due.{ack_due, ack_poll, data_due, edge_sent, effective_mss, field_left, flight, is_ack_after, is_closed, is_closing, is_doubled, is_held_back, is_opening, congestion_left, sendable, tells_window, window_doubled, window_field}
+use Rattle.sock_tcp.specs.Rfc.OwnWindow.{may_grow, space_field}
 use Rattle.sock_tcp.specs.Poll.{is_due_now, poll_moment, poll_moment_to}
 use Rattle.sock_tcp.specs.Polls.{delay_poll, earlier, is_reached, timer_poll, timeout_poll}
 use Rattle.sock_tcp.specs.Queue.{IsLent, Queue}
@@ -213,17 +215,17 @@ not_before_itself : (x : TcpSeqNumber) → x.0 < 2 ^ 32 → is_before x x ≡ tr
 not_before_itself x h e = omega (arith, far x x e, h)
 
 -- what is left of a window that was just told is the window
-module _ (next : TcpSeqNumber) (small : next.0 < 2 ^ 32) (field shift held : ℕ) (is : field ≡ min (held / 2 ^ shift) 65535) (room : held ≤ 2 ^ 30) where
+module _ (u : View) (room : length u.rx_buffer.held ≤ 2 ^ 30) where
+  abbrev field : ℕ
+  field = window_field u
+
   abbrev places : ℕ
-  places = field * 2 ^ shift
+  places = field * 2 ^ u.remote_win_shift
 
-  places_fit : places ≤ 2 ^ 30
-  places_fit = let a : field ≤ held / 2 ^ shift = omega (arith, is) in let b : places ≤ held / 2 ^ shift * 2 ^ shift = mul-le-mul_right (2 ^ shift) a in let c = div-mul-le_self held (2 ^ shift) in omega (arith, b, c, room)
+  left_whole : (if is_before (seq_add (next_ack u) places) (next_ack u) then 0 else min (seq_sub (seq_add (next_ack u) places) (next_ack u) / 2 ^ u.remote_win_shift) 65535) ≡ field
+  left_whole = left_is_told (next_ack u) field u.remote_win_shift (omega arith) (omega (arith, field_within u)) (omega (arith, told_within u, room))
 
-  left_whole : (if is_before (seq_add next places) next then 0 else min (seq_sub (seq_add next places) next / 2 ^ shift) 65535) ≡ field
-  left_whole = left_is_told next field shift small (omega (arith, is)) places_fit
-
-half_less : (n m : ℕ) → m ≡ n → not (n == 0) ≡ true → nat_le m (n / 2) ≡ true → ⊥
+half_less : (n m : ℕ) → n ≤ m → not (n == 0) ≡ true → nat_le m (n / 2) ≡ true → ⊥
 half_less n m e some h = go (n == 0) refl
   where
     less : m ≤ n / 2
@@ -283,13 +285,15 @@ module _ (u : View) (now : Instant) (b : Segment) (a : AckOf u b) (o : IsOrdered
   not_doubled : length u.rx_buffer.held ≤ 2 ^ 30 → window_doubled plain_left ≡ true → ⊥
   unfolding window_doubled snd_nxt_moved after_any
   not_doubled room e =
-      let d : is_doubled plain_left b.ack_number ≡ true = (and_parts (tells_window u.state) (is_doubled plain_left b.ack_number) e).1 in
-      let h : is_doubled plain_left (Some (next_ack u)) ≡ true = subst (λ k. is_doubled plain_left k ≡ true) a.tells.ack d in
-      let p = and_parts (not (window_field u == 0)) (nat_le (field_left plain_left (edge_sent plain_left (next_ack u))) (window_field u / 2)) h in
-      half_less (window_field u) (field_left plain_left (edge_sent plain_left (next_ack u))) whole p.0 p.1
+      let m = and_parts (tells_window u.state) (is_doubled plain_left b.ack_number && may_grow u.rules plain_left) e in
+      let g = and_parts (is_doubled plain_left b.ack_number) (may_grow u.rules plain_left) m.1 in
+      let h : is_doubled plain_left (Some (next_ack u)) ≡ true = subst (λ k. is_doubled plain_left k ≡ true) a.tells.ack g.0 in
+      let p = and_parts (not (space_field u == 0)) (nat_le (field_left plain_left (edge_sent plain_left (next_ack u))) (space_field u / 2)) h in
+      let no_more : space_field u ≤ window_field u = no_larger u plain_left refl refl refl a.tells.ack a.tells.window room u.rules refl g.1 in
+      half_less (space_field u) (field_left plain_left (edge_sent plain_left (next_ack u))) (omega (arith, whole, no_more)) p.0 p.1
     where
       whole : field_left plain_left (edge_sent plain_left (next_ack u)) ≡ window_field u
-      whole = rw a.tells.window (left_whole (next_ack u) (omega arith) (window_field u) u.remote_win_shift (length u.rx_buffer.held) refl room)
+      whole = rw a.tells.window (left_whole u room)
 
 -- ---- the whole
 

@@ -16,9 +16,12 @@ use Rattle.sock_tcp.specs.Due.{congestion_left, in_network, is_counted, limited,
 use Rattle.sock_tcp.specs.Rfc.Pipe.{pipe}
 use Rattle.sock_tcp.specs.Poll.{is_due_now, poll_moment, poll_moment_to}
 use Rattle.sock_tcp.specs.Polls.{delay_poll, earlier, timer_poll, timeout_poll}
+use Rattle.sock_tcp.specs.Rfc.SmallSegments.{is_cut_by}
 use Rattle.sock_tcp.specs.View.{View}
 use Rattle.sock_tcp.specs.Work.{has_work, works_in}
 use Rattle.tcp_laws.specs.Polling.{KeepAliveWakes, NoWorkNoBytes, Sleeps, SleepsIn, SleepsOnlySo, WaitsForPeer}
+use Rattle.sock_tcp.specs.declared.rules.Rules.{Rules}
+use Rattle.sock_tcp.specs.declared.rules.Rules.TheVariants as rules
 use Rattle.sock_tcp.specs.declared.state.State.{State}
 use Rattle.sock_tcp.specs.declared.state.State.TheVariants as state
 use Rattle.sock_tcp.specs.declared.timer.AckDelayTimer.{AckDelayTimer}
@@ -116,8 +119,12 @@ data_goes v t f e z = go (sendable v == 0) refl
     by_nagle true = rw z refl
     by_nagle false = refl
 
+    by_window : (r : Rules) → is_cut_by r (flight v) v.remote_win_len (length v.tx_buffer.bytes) (congestion_left v) (effective_mss v t f) ≡ false
+    by_window rules.Smoltcp = refl
+    by_window rules.Rfc = rw z refl
+
     not_held : is_held_back v (effective_mss v t f) ≡ false
-    not_held = by_nagle v.nagle
+    not_held = λ i. by_nagle v.nagle i || by_window v.rules i
 
     go : (b : Bool) → (sendable v == 0) ≡ b → sendable v ≡ 0
     go true i = eqb-true (sendable v) 0 i

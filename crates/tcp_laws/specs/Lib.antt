@@ -10,3 +10,4 @@ pub mod Clocks
 pub mod Speaking
 pub mod Loss
 pub mod Telling
+pub mod Windows

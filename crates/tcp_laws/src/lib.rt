@@ -7,3 +7,4 @@
 pub mod loss;
 pub mod poll;
 pub mod streams;
+pub mod windows;

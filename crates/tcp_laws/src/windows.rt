@@ -1,0 +1,34 @@
+//! Laws on the windows that a socket tells and hears, and on the numbers that it sends, by the RFCs' rules.
+ghost use Rattle.tcp_laws.specs.Windows.{NoWindowByBytes, NumberIsNotBehind, OlderWindowIsNotTaken};
+ghost use Rattle.tcp_laws.specs.Windows.{OpenedWindowIsTold, RightEdgeStays};
+
+/// The right edge of the receive window that a segment tells does not go back, but by less than one unit of the window
+/// field (RFC 9293, section 3.8.6; RFC 7323, section 2.4): after any list of calls on a new socket over any two buffers
+/// of at most 2^30 bytes, with any segments that `accepts` lets in.
+pub fn right_edge_stays()
+    ensures { RightEdgeStays }
+{}
+
+/// It moves on by less than such a unit, and no segment goes out to tell it, while less is free behind it than half of
+/// the receive buffer and than a segment of the connection (RFC 9293, section 3.8.6.2.2).
+pub fn no_window_by_bytes()
+    ensures { NoWindowByBytes }
+{}
+
+/// Once as much is free behind it, a dispatch tells the window at once where nothing is left of the one that was told.
+pub fn opened_window_is_told()
+    ensures { OpenedWindowIsTold }
+{}
+
+/// A segment that is older than the one that told the peer's window (SND.WL1 and SND.WL2) makes the window no larger,
+/// whatever the socket does with it; where it is heard, at most what is left of that window counts (RFC 9293, section
+/// 3.10.7.4).
+pub fn older_window_is_not_taken()
+    ensures { OlderWindowIsNotTaken }
+{}
+
+/// What is sent without bytes, a SYN or a FIN has a number that is not before SND.NXT (RFC 9293, section 3.4), after
+/// any such list.
+pub fn number_is_not_behind()
+    ensures { NumberIsNotBehind }
+{}
