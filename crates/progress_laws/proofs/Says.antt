@@ -35,6 +35,7 @@ use Rattle.tcp_laws.proofs.Repeating.{empty_parts}
 use Rattle.progress_laws.proofs.Again.{number_again}
 use Rattle.progress_laws.specs.Speech.{DispatchesOk, FromUna, IsPastTimer, KeepsAlive, Probes, Says, SendsOk, SpeaksPastItsTimers, SpeaksWithin, Speech}
 use Rattle.progress_laws.proofs.Lends.{marked_some, probe_byte}
+use Rattle.progress_laws.proofs.Sends.{timed_rules}
 use Rattle.sock_tcp.specs.declared.rules.Rules.TheVariants as rules
 use Rattle.progress_laws.proofs.Begins.{Goes, Alike, and_no, beginning, begun_idle, carries_runs, content_is, dispatch_reached, goes, not_empty, not_zero, readied_alike, segment_for, probe_alone, marked_idle, smoltcp_begins}
 
@@ -135,7 +136,7 @@ module _ (u : View) (p : Tuple) (now : Instant) (s : Segment) where
   -- with a byte or a FIN
   timed : u.rules ≡ rules.Smoltcp → 0 < segment_len s → plain_left.timer ≡ retransmit_unless_set (keep_alive_renewed u.timer now u.keep_alive) now u.rtte
   unfolding after_sending sending_timed snd_nxt_moved after_any
-  timed smoltcp some = ap (λ (w : View). w.timer) (armed_by_smoltcp (sending_timed (snd_nxt_moved (after_any u now) (emitted_as kind.Plain s)) now (emitted_as kind.Plain s)) now (segment_len s) smoltcp) ∙ rw (not_zero (segment_len s) some) refl
+  timed smoltcp some = ap (λ (w : View). w.timer) (armed_by_smoltcp (sending_timed (snd_nxt_moved (after_any u now) (emitted_as kind.Plain s)) now (emitted_as kind.Plain s)) now (segment_len s) (timed_rules u now s ∙ smoltcp)) ∙ rw (not_zero (segment_len s) some) refl
 
   -- without
   untimed : segment_len s ≡ 0 → plain_left ≡ snd_nxt_moved (after_any u now) (emitted_as kind.Plain s)

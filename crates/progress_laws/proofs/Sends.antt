@@ -53,6 +53,21 @@ pub record HasTold (v x : View) : Type 0 where
   pub last_ack : x.remote_last_ack ≡ Some (next_ack v)
   pub last_win : x.remote_last_win ≡ window_field v
 
+-- it has the same rules
+pub timed_rules : (u : View) (now : Instant) (s : Segment) → (sending_timed (snd_nxt_moved (after_any u now) (emitted_as kind.Plain s)) now (emitted_as kind.Plain s)).rules ≡ u.rules
+unfolding sending_timed snd_nxt_moved after_any
+timed_rules u now s = go (segment_len s == 0)
+  where
+    e : Emitted
+    e = emitted_as kind.Plain s
+
+    x : View
+    x = snd_nxt_moved (after_any u now) e
+
+    go : (z : Bool) → (if z then x else record x { rtte = sent x.rtte now e.end; timer = retransmit_unless_set x.timer now x.rtte; congestion_controller = post_transmitted (restarted_by x.rules x.idle_at now x.congestion_controller) now e.len; idle_at = idle_by x.rules x.idle_at now x.rtte; pending_fast_retransmit = x.pending_fast_retransmit || goes_on x }).rules ≡ u.rules
+    go true = refl
+    go false = refl
+
 module _ (u : View) (p : Tuple) (now : Instant) (s : Segment) (not_closed : is_closed u.state ≡ false) where
   abbrev pub left : Kind → View
   left k = left_by (Some (sent_as u p k s)) u now true
@@ -73,7 +88,7 @@ module _ (u : View) (p : Tuple) (now : Instant) (s : Segment) (not_closed : is_c
 
   pub plain_sent : u.rules ≡ rules.Smoltcp → SentOf u (left kind.Plain)
   unfolding after_sending sending_timed snd_nxt_moved after_any
-  plain_sent smoltcp = subst (SentOf u) (sym (armed_by_smoltcp (sending_timed x now e) now e.len smoltcp)) (go (segment_len s == 0))
+  plain_sent smoltcp = subst (SentOf u) (sym (armed_by_smoltcp (sending_timed x now e) now e.len (timed_rules u now s ∙ smoltcp))) (go (segment_len s == 0))
     where
       unmarked : goes_on x ≡ false
       unmarked = ap (λ r. counts r x.recovery (is_blank x.sacked) && (is_some (hole_of x) && has_room x.recovery x.sacked x.local_seq_no (flight x) (recovery_window x.congestion_controller) x.remote_mss)) smoltcp
@@ -98,8 +113,8 @@ module _ (u : View) (p : Tuple) (now : Instant) (s : Segment) (not_closed : is_c
 
   pub plain_timer : u.rules ≡ rules.Smoltcp → (z : Bool) → (segment_len s == 0) ≡ z → (left kind.Plain).timer ≡ (if z then keep_alive_renewed u.timer now u.keep_alive else retransmit_unless_set (keep_alive_renewed u.timer now u.keep_alive) now u.rtte)
   unfolding after_sending sending_timed snd_nxt_moved after_any
-  plain_timer smoltcp true z = ap (λ (w : View). w.timer) (armed_by_smoltcp (sending_timed x now e) now e.len smoltcp) ∙ rw z refl
-  plain_timer smoltcp false z = ap (λ (w : View). w.timer) (armed_by_smoltcp (sending_timed x now e) now e.len smoltcp) ∙ rw z refl
+  plain_timer smoltcp true z = ap (λ (w : View). w.timer) (armed_by_smoltcp (sending_timed x now e) now e.len (timed_rules u now s ∙ smoltcp)) ∙ rw z refl
+  plain_timer smoltcp false z = ap (λ (w : View). w.timer) (armed_by_smoltcp (sending_timed x now e) now e.len (timed_rules u now s ∙ smoltcp)) ∙ rw z refl
 
   pub probe_sent : SentOf u (left kind.Probe)
   unfolding after_sending after_any after_probe
