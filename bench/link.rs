@@ -8,7 +8,6 @@ use std::cmp::Reverse;
 use std::collections::BinaryHeap;
 use std::sync::atomic::{AtomicU32, Ordering};
 
-const BUFFER: usize = 1 << 20;
 const LONGEST: i64 = 600_000_000; // microseconds
 
 static MILLIS: AtomicU32 = AtomicU32::new(0);
@@ -141,9 +140,11 @@ impl Side<'_> {
 fn main() {
     let words: Vec<String> = std::env::args().skip(1).collect();
     let [lost, delay, bytes, seed] = [0, 1, 2, 3].map(|i| words[i].parse::<u64>().expect("a number"));
-    let (rfc, trace) = (words[4] == "rfc", words.len() > 5);
-    let mut buffers = vec![0u8; 4 * BUFFER];
-    let mut pieces = buffers.chunks_exact_mut(BUFFER);
+    let (rfc, trace) = (words[4] == "rfc", words.last().is_some_and(|word| word == "trace"));
+    let more = |i: usize, without| words.get(i).and_then(|word| word.parse::<usize>().ok()).unwrap_or(without);
+    let (waits, buffer) = (more(5, 10), more(6, 1024) << 10);
+    let mut buffers = vec![0u8; 4 * buffer];
+    let mut pieces = buffers.chunks_exact_mut(buffer);
     let mut sides = [1u8, 2].map(|last| {
         let (rx, tx) = (pieces.next().expect("room"), pieces.next().expect("room"));
         let mut socket = Socket::new(RingBuffer::new(rx), RingBuffer::new(tx));
@@ -151,6 +152,7 @@ fn main() {
             socket.set_rules(Rules::Rfc).expect("a new socket is not open");
         }
         socket.set_min_rto(Duration::from_millis(200));
+        socket.set_ack_delay(Some(Duration::from_millis(waits as u64)));
         socket.set_congestion_control(CongestionControl::Reno);
         socket.set_tsval_generator(Some(clock));
         Side { socket, host: Host { now: 0, last, words: Words(last as u64) }, trace }

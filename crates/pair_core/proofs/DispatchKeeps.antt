@@ -70,6 +70,7 @@ sending_keeps v now = record {
   moves = λ w e k. record { listener = k.listener; peer = λ t p. forgotten w.state w.tuple t (k.peer t p) };
   times = λ w e k. record { listener = k.listener; peer = k.peer };
   probes = λ w k. record { listener = k.listener; peer = k.peer };
+  arms = λ w at e k. record { listener = k.listener; peer = k.peer };
 }
 
 -- ---- the whole

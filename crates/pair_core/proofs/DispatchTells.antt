@@ -83,6 +83,7 @@ sendings v now = record {
   moves = λ w e k. via v w (snd_nxt_moved w e) (record { rx = refl; seq = refl; fin = refl; state = refl; sacked = inl refl; rules = refl }) k;
   times = λ w e k. via v w _ (record { rx = refl; seq = refl; fin = refl; state = refl; sacked = inl refl; rules = refl }) k;
   probes = λ w k. via v w (after_probe w now) (record { rx = refl; seq = refl; fin = refl; state = refl; sacked = inl refl; rules = refl }) k;
+  arms = λ w at e k. via v w _ (record { rx = refl; seq = refl; fin = refl; state = refl; sacked = inl refl; rules = refl }) k;
 }
 
 dispatch_stays : {G : Type 0} (tells : G → ℕ → Type 0) (source : Option G) (v w : View) (f : Facts) (fail : Bool) (r : Sent) → SocketDispatches tells source v f fail r w → Stays v w

@@ -11,6 +11,7 @@ use Rattle.sock_core.specs.Received.{cleared}
 use Rattle.sock_core.specs.Seq.{later_of}
 use Rattle.sock_core.specs.Congestion.{post_transmitted}
 use Rattle.pair_core.proofs.ShownNumbers.{numbered_effect}
+use Rattle.sock_tcp.proofs.Arming.{armed_as}
 use Rattle.sock_tcp.specs.Advance.{dropped}
 use Rattle.sock_tcp.specs.Begin.{last_ts_set, last_ts_set_at, told_ready, readied, retransmission_begun, fast_retransmission_marked, after_timer, after_timers, unless_paused, ended, begun, begun_to, nothing_due, by_due, before_emit, before_emit_to, peer_of, time_wait_ended, probing_begun, timers_by}
 use Rattle.sock_tcp.specs.Content.{Sending, asked, offset_of, content}
@@ -18,7 +19,7 @@ use Rattle.sock_tcp.specs.Due.{is_due}
 use Rattle.sock_tcp.specs.Opening.{renewed}
 use Rattle.sock_tcp.specs.Polls.{is_reached, timeout_poll}
 use Rattle.sock_tcp.specs.Queue.{IsLent}
-use Rattle.sock_tcp.specs.Rfc.TailLoss.{probes_tail, tail_probed}
+use Rattle.sock_tcp.specs.Rfc.TailLoss.{probes_tail, tail_probed, tail_armed}
 use Rattle.sock_tcp.specs.Sent.{goes_on, emitted_as, after_any, after_probe, snd_nxt_moved, sending_timed, after_kind, after_sending}
 use Rattle.sock_tcp.specs.Timers.{is_over, is_close_over, retransmit_unless_set}
 use Rattle.sock_tcp.specs.Rfc.Idle.{idle_by, restarted_by}
@@ -151,9 +152,12 @@ timed_shows v now s = go (s.len == 0)
     go true = refl
     go false = refl
 
+armed_shows : (v : View) (now : Instant) (n : ℕ) → shown (tail_armed v now n) ≡ shown v
+armed_shows v now n = armed_as (λ w. shown w ≡ shown v) v now n refl (λ at e. refl)
+
 moved_shows : (v : View) (now : Instant) (s : Emitted) → shown (after_kind kind.Plain (after_any v now) now s) ≡ record (shown v) { snd_nxt = (later_of v.remote_last_seq s.end).0 }
 unfolding after_any snd_nxt_moved
-moved_shows v now s = timed_shows (snd_nxt_moved (after_any v now) s) now s
+moved_shows v now s = armed_shows (sending_timed (snd_nxt_moved (after_any v now) s) now s) now s.len ∙ timed_shows (snd_nxt_moved (after_any v now) s) now s
 
 -- a probe and a keep-alive move nothing, any other segment moves SND.NXT behind it
 leaves_by : (k : Kind) (v : View) (now : Instant) (s : Emitted) → (HasIss (phase_of v.state) → SndNxtWithin (record (shown v) { snd_nxt = (later_of v.remote_last_seq s.end).0 })) → DispatchEffect (shown v) (shown (after_kind k (after_any v now) now s))

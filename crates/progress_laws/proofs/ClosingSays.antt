@@ -129,7 +129,7 @@ module _ (d : Option Duration) (t : Tuple) (v : View) (f : Facts) (now : Instant
   long = omega (arith, some)
 
   again : after.timer ≡ timer.Retransmit (moment_after now (rto_of u.rtte))
-  again = plain_timer u t now b not_closed false (not_zero (segment_len b) long) ∙ ap (λ tm. retransmit_unless_set tm now u.rtte) (ap (λ tm. keep_alive_renewed tm now u.keep_alive) fr.idle) ∙ by u.keep_alive
+  again = plain_timer u t now b not_closed (fr.same.same_rules ∙ s.smoltcp) false (not_zero (segment_len b) long) ∙ ap (λ tm. retransmit_unless_set tm now u.rtte) (ap (λ tm. keep_alive_renewed tm now u.keep_alive) fr.idle) ∙ by u.keep_alive
     where
       by : (keep : Option Duration) → retransmit_unless_set (idle_from now keep) now u.rtte ≡ timer.Retransmit (moment_after now (rto_of u.rtte))
       by None = refl

@@ -269,7 +269,7 @@ module _ (s : Tuple) (w : View) (room n : ℕ) (y : View) (f : Facts) (now : Ins
             smoltcp = l.same.same_rules ∙ al.same.same_rules ∙ o.smoltcp;
             interval = subst (λ q. ForSome q (λ e. 0 < e.micros)) (sym (l.same.keep_alive ∙ al.same.keep_alive)) o.interval;
             moment = idle_moment now u.keep_alive;
-            timer = plain_timer u s now b opens true (rw long refl) ∙ ap (λ tm. keep_alive_renewed tm now u.keep_alive) idle ∙ idle_is now u.keep_alive;
+            timer = plain_timer u s now b opens (al.same.same_rules ∙ o.smoltcp) true (rw long refl) ∙ ap (λ tm. keep_alive_renewed tm now u.keep_alive) idle ∙ idle_is now u.keep_alive;
             nothing_to_send = ap (λ (q : Queue). length q.bytes) (l.same.tx ∙ al.same.tx) ∙ o.nothing_to_send;
             nothing_marked = l.marked ∙ ap (λ m. m && not (carries_data u.state)) nothing_marked;
             nothing_in_flight = (plain_told u s now b opens).nxt ∙ (λ i. later_of ((al.nxt ∙ o.nxt) i) (seq_add (number i) (long i))) ∙ stays ∙ sym (l.same.una ∙ al.same.una ∙ o.una);

@@ -218,7 +218,7 @@ module _ (st : State) (t : Tuple) (f : Facts) (x : View) (c : SendsSyn st t f x)
   kept stamp = plain_sent u t now (segment stamp) open_then (begun_so.same.same_rules ∙ c.smoltcp)
 
   timer_then : (stamp : Option ℕ) → (sent stamp).timer ≡ retransmit_unless_set (keep_alive_renewed u.timer now u.keep_alive) now u.rtte
-  timer_then stamp = plain_timer u t now (segment stamp) open_then false (ap (λ n. n == 0) (long stamp))
+  timer_then stamp = plain_timer u t now (segment stamp) open_then (begun_so.same.same_rules ∙ c.smoltcp) false (ap (λ n. n == 0) (long stamp))
 
   nxt_then : (stamp : Option ℕ) → (sent stamp).remote_last_seq ≡ later_of u.remote_last_seq (seq_add u.local_seq_no 1)
   nxt_then stamp = (plain_told u t now (segment stamp) open_then).nxt ∙ (λ i. later_of u.remote_last_seq (seq_add (syn_number st u t fa (plain_segment u t stamp) i) (long stamp i)))

@@ -11,6 +11,7 @@ use Rattle.sock_core.specs.Facts.{Facts}
 use Rattle.sock_core.specs.Congestion.{post_transmitted}
 use Rattle.sock_core.specs.Estimator.{sent}
 use Rattle.sock_core.specs.Seq.{is_before, later_of}
+use Rattle.sock_tcp.proofs.Arming.{armed_as, armed_by_none, armed_by_smoltcp}
 use Rattle.sock_tcp.specs.Rfc.Idle.{idle_by, restarted_by}
 use Rattle.sock_tcp.specs.Begin.{after_timer, readied, retransmission_begun, fast_retransmission_marked}
 use Rattle.sock_tcp.specs.Content.{Sending, carries_data, emission_kind, is_probing, plain_segment, sent_as, window_left}
@@ -34,6 +35,7 @@ use Rattle.tcp_laws.proofs.Repeating.{empty_parts}
 use Rattle.progress_laws.proofs.Again.{number_again}
 use Rattle.progress_laws.specs.Speech.{DispatchesOk, FromUna, IsPastTimer, KeepsAlive, Probes, Says, SendsOk, SpeaksPastItsTimers, SpeaksWithin, Speech}
 use Rattle.progress_laws.proofs.Lends.{marked_some, probe_byte}
+use Rattle.progress_laws.proofs.Sends.{timed_rules}
 use Rattle.sock_tcp.specs.declared.rules.Rules.TheVariants as rules
 use Rattle.progress_laws.proofs.Begins.{Goes, Alike, and_no, beginning, begun_idle, carries_runs, content_is, dispatch_reached, goes, not_empty, not_zero, readied_alike, segment_for, probe_alone, marked_idle, smoltcp_begins}
 
@@ -119,7 +121,7 @@ module _ (u : View) (p : Tuple) (now : Instant) (s : Segment) where
 
   left_of : LeftOf u plain_left
   unfolding after_sending sending_timed snd_nxt_moved after_any
-  left_of = go (segment_len s == 0)
+  left_of = let l = go (segment_len s == 0) in armed_as (LeftOf u) (sending_timed x now e) now e.len l (λ at t. record { state = l.state; tx = l.tx; keep_alive = l.keep_alive; ruled = l.ruled; una = l.una })
     where
       e : Emitted
       e = emitted_as kind.Plain s
@@ -132,14 +134,14 @@ module _ (u : View) (p : Tuple) (now : Instant) (s : Segment) where
       go false = record { state = refl; tx = refl; keep_alive = refl; ruled = refl; una = refl }
 
   -- with a byte or a FIN
-  timed : 0 < segment_len s → plain_left.timer ≡ retransmit_unless_set (keep_alive_renewed u.timer now u.keep_alive) now u.rtte
+  timed : u.rules ≡ rules.Smoltcp → 0 < segment_len s → plain_left.timer ≡ retransmit_unless_set (keep_alive_renewed u.timer now u.keep_alive) now u.rtte
   unfolding after_sending sending_timed snd_nxt_moved after_any
-  timed some = rw (not_zero (segment_len s) some) refl
+  timed smoltcp some = ap (λ (w : View). w.timer) (armed_by_smoltcp (sending_timed (snd_nxt_moved (after_any u now) (emitted_as kind.Plain s)) now (emitted_as kind.Plain s)) now (segment_len s) (timed_rules u now s ∙ smoltcp)) ∙ rw (not_zero (segment_len s) some) refl
 
   -- without
   untimed : segment_len s ≡ 0 → plain_left ≡ snd_nxt_moved (after_any u now) (emitted_as kind.Plain s)
   unfolding after_sending sending_timed
-  untimed none = rw none refl
+  untimed none = armed_by_none (sending_timed (snd_nxt_moved (after_any u now) (emitted_as kind.Plain s)) now (emitted_as kind.Plain s)) now (segment_len s) none ∙ rw none refl
 
 not_after_itself : (a b : TcpSeqNumber) → b ≡ a → later_of a b ≡ a
 unfolding later_of
@@ -348,7 +350,7 @@ module _ (d : Duration) (t : Tuple) where
       sends : SendsOk f t u out w → Says v out ⊎ SpeaksWithin (suc (suc n)) w t
       sends o = elim (keeps_or_bytes v u t f o.stamp o.bytes still.same.una (still.same.same_rules ∙ s.smoltcp) (idle_quiet v at is f h) (idle_over v at is f h)) [
         | inl h ↦ inl (said f v u out w s k o still.same.state still.same.tx still.same.keep_alive still.same.same_rules h)
-        | inr q ↦ inr (again_says n w (after (moment_of f) (rto_of u.rtte)) (plain_says f v u out w s k o still.same.state still.same.tx still.same.keep_alive still.same.same_rules q.0) (ap (λ (z : View). z.timer) (left_plain f v u out w s k o still.same.state still.same.tx still.same.keep_alive still.same.same_rules q.0) ∙ timed u t (moment_of f) (segment_for u t o.stamp o.bytes) q.1 ∙ ap (λ tm. retransmit_unless_set tm (moment_of f) u.rtte) waited_for))
+        | inr q ↦ inr (again_says n w (after (moment_of f) (rto_of u.rtte)) (plain_says f v u out w s k o still.same.state still.same.tx still.same.keep_alive still.same.same_rules q.0) (ap (λ (z : View). z.timer) (left_plain f v u out w s k o still.same.state still.same.tx still.same.keep_alive still.same.same_rules q.0) ∙ timed u t (moment_of f) (segment_for u t o.stamp o.bytes) (still.same.same_rules ∙ s.smoltcp) q.1 ∙ ap (λ tm. retransmit_unless_set tm (moment_of f) u.rtte) waited_for))
       ]
 
   -- a fast retransmission stands at SND.UNA, or its mark is left for the next segment

@@ -1,5 +1,5 @@
 -- What a socket in ESTABLISHED, CLOSE-WAIT or FIN-WAIT-2 sends from SND.UNA on, at the moment of a keep-alive, and what is left of it then.
-use Rattle.std.proofs.Common.{◌∙◌, ◌||◌, ◌≡◌, ℕ, ◌+◌, ◌<◌, Bool, true, false, not, ◌&&◌, refl, ap, List, length, Option, Some, None, is_some, arith}
+use Rattle.std.proofs.Common.{◌∙◌, ◌||◌, ◌≡◌, ℕ, ◌+◌, ◌<◌, Bool, true, false, not, ◌&&◌, refl, ap, List, length, Option, Some, None, is_some, arith, subst, sym}
 use Rattle.std.specs.Prelude.{if◌then◌else◌, ◌==◌}
 use Rattle.net_base.specs.declared.time.Instant.{Instant}
 use Rattle.control_wire.specs.Segment.{Segment, control_len, is_empty_segment, is_plain, segment_len}
@@ -9,6 +9,7 @@ use Rattle.control_wire.specs.declared.tcp.TcpControl.TheVariants as control
 use Rattle.sock_core.specs.Congestion.{post_transmitted, recovery_window}
 use Rattle.sock_core.specs.Estimator.{sent}
 use Rattle.sock_core.specs.Seq.{later_of}
+use Rattle.sock_tcp.proofs.Arming.{armed_as, armed_by_smoltcp}
 use Rattle.sock_tcp.specs.Rfc.Idle.{idle_by, restarted_by}
 use Rattle.sock_tcp.specs.Content.{carries_data, data_control, emission_kind, is_probing, offset_of, plain_segment, sent_as, next_hole, hole_of}
 use Rattle.sock_tcp.specs.Due.{is_closed, is_closing, window_field, flight}
@@ -57,6 +58,21 @@ pub record HasTold (v x : View) : Type 0 where
   pub last_ack : x.remote_last_ack ≡ Some (next_ack v)
   pub last_win : x.remote_last_win ≡ space_field v
 
+-- it has the same rules
+pub timed_rules : (u : View) (now : Instant) (s : Segment) → (sending_timed (snd_nxt_moved (after_any u now) (emitted_as kind.Plain s)) now (emitted_as kind.Plain s)).rules ≡ u.rules
+unfolding sending_timed snd_nxt_moved after_any
+timed_rules u now s = go (segment_len s == 0)
+  where
+    e : Emitted
+    e = emitted_as kind.Plain s
+
+    x : View
+    x = snd_nxt_moved (after_any u now) e
+
+    go : (z : Bool) → (if z then x else record x { rtte = sent x.rtte now e.end; timer = retransmit_unless_set x.timer now x.rtte; congestion_controller = post_transmitted (restarted_by x.rules x.idle_at now x.congestion_controller) now e.len; idle_at = idle_by x.rules x.idle_at now x.rtte; pending_fast_retransmit = x.pending_fast_retransmit || goes_on x }).rules ≡ u.rules
+    go true = refl
+    go false = refl
+
 module _ (u : View) (p : Tuple) (now : Instant) (s : Segment) (not_closed : is_closed u.state ≡ false) where
   abbrev pub left : Kind → View
   left k = left_by (Some (sent_as u p k s)) u now true
@@ -77,7 +93,7 @@ module _ (u : View) (p : Tuple) (now : Instant) (s : Segment) (not_closed : is_c
 
   pub plain_sent : u.rules ≡ rules.Smoltcp → SentOf u (left kind.Plain)
   unfolding after_sending sending_timed snd_nxt_moved after_any
-  plain_sent smoltcp = go (segment_len s == 0)
+  plain_sent smoltcp = subst (SentOf u) (sym (armed_by_smoltcp (sending_timed x now e) now e.len (timed_rules u now s ∙ smoltcp))) (go (segment_len s == 0))
     where
       unmarked : goes_on x ≡ false
       unmarked = ap (λ r. counts r x.recovery (is_blank x.sacked) && (is_some (hole_of x) && has_room x.recovery x.sacked x.local_seq_no (flight x) (recovery_window x.congestion_controller) x.remote_mss)) smoltcp
@@ -94,16 +110,16 @@ module _ (u : View) (p : Tuple) (now : Instant) (s : Segment) (not_closed : is_c
 
   pub plain_told : TellsAs u s (left kind.Plain)
   unfolding after_sending sending_timed snd_nxt_moved after_any
-  plain_told = go (segment_len s == 0)
+  plain_told = let h = go (segment_len s == 0) in armed_as (TellsAs u s) (sending_timed x now e) now e.len h (λ at t. record { nxt = h.nxt; ack = h.ack; window = h.window; delay = h.delay })
     where
       go : (z : Bool) → TellsAs u s (timed_if z)
       go true = record { nxt = refl; ack = refl; window = refl; delay = refl }
       go false = record { nxt = refl; ack = refl; window = refl; delay = refl }
 
-  pub plain_timer : (z : Bool) → (segment_len s == 0) ≡ z → (left kind.Plain).timer ≡ (if z then keep_alive_renewed u.timer now u.keep_alive else retransmit_unless_set (keep_alive_renewed u.timer now u.keep_alive) now u.rtte)
+  pub plain_timer : u.rules ≡ rules.Smoltcp → (z : Bool) → (segment_len s == 0) ≡ z → (left kind.Plain).timer ≡ (if z then keep_alive_renewed u.timer now u.keep_alive else retransmit_unless_set (keep_alive_renewed u.timer now u.keep_alive) now u.rtte)
   unfolding after_sending sending_timed snd_nxt_moved after_any
-  plain_timer true z = rw z refl
-  plain_timer false z = rw z refl
+  plain_timer smoltcp true z = ap (λ (w : View). w.timer) (armed_by_smoltcp (sending_timed x now e) now e.len (timed_rules u now s ∙ smoltcp)) ∙ rw z refl
+  plain_timer smoltcp false z = ap (λ (w : View). w.timer) (armed_by_smoltcp (sending_timed x now e) now e.len (timed_rules u now s ∙ smoltcp)) ∙ rw z refl
 
   pub probe_sent : SentOf u (left kind.Probe)
   unfolding after_sending after_any after_probe

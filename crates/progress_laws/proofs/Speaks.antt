@@ -254,7 +254,7 @@ module _ (d : Option Duration) (t : Tuple) (v : View) (f : Facts) (now : Instant
       }
     where
       timed : 0 < segment_len b → IsOpenTimer (left u t now b opens kind.Plain).timer
-      timed some = subst IsOpenTimer (sym (plain_timer u t now b opens false (not_zero (segment_len b) some) ∙ ap (λ tm. retransmit_unless_set tm now u.rtte) renewed)) (by u.keep_alive)
+      timed some = subst IsOpenTimer (sym (plain_timer u t now b opens (fr.same.same_rules ∙ s.smoltcp) false (not_zero (segment_len b) some) ∙ ap (λ tm. retransmit_unless_set tm now u.rtte) renewed)) (by u.keep_alive)
         where
           by : (keep : Option Duration) → IsOpenTimer (retransmit_unless_set (idle_from now keep) now u.rtte)
           by None = tt
@@ -272,7 +272,7 @@ module _ (d : Option Duration) (t : Tuple) (v : View) (f : Facts) (now : Instant
         short = omega (arith, lent_few u t fa, asked_is, mss_short u t fa mtu.1);
         field = told_field;
         at = moment_after now (rto_of u.rtte);
-        timer = plain_timer u t now b opens false (not_zero (segment_len b) (omega (arith, long, some))) ∙ ap (λ tm. retransmit_unless_set tm now u.rtte) renewed ∙ waits_again u.keep_alive;
+        timer = plain_timer u t now b opens (fr.same.same_rules ∙ s.smoltcp) false (not_zero (segment_len b) (omega (arith, long, some))) ∙ ap (λ tm. retransmit_unless_set tm now u.rtte) renewed ∙ waits_again u.keep_alive;
         window = l.same.window ∙ fr.same.window;
         shift = l.same.shift ∙ fr.same.shift;
         last_ack = (plain_told u t now b opens).ack ∙ ack;
@@ -342,7 +342,7 @@ module _ (d : Option Duration) (t : Tuple) (v : View) (f : Facts) (now : Instant
       speaks due false over =
           let h = goes_out kind.Plain (without_bytes u t (stamp_for u) bytes sends ft.nothing_marked now ft.no_probing none false over) due in
           let l = plain_sent u t now b opens (fr.same.same_rules ∙ s.smoltcp) in
-          let tm : (left u t now b opens kind.Plain).timer ≡ idle_from now u.keep_alive = plain_timer u t now b opens true (rw long refl) ∙ renewed in
+          let tm : (left u t now b opens kind.Plain).timer ≡ idle_from now u.keep_alive = plain_timer u t now b opens (fr.same.same_rules ∙ s.smoltcp) true (rw long refl) ∙ renewed in
           record {
             out = Some (sent_as u t kind.Plain b);
             after = left u t now b opens kind.Plain;

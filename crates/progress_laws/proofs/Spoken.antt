@@ -12,6 +12,7 @@ use Rattle.control_wire.specs.declared.tcp.TcpControl.TheVariants as control
 use Rattle.sock_core.specs.Congestion.{post_transmitted}
 use Rattle.sock_core.specs.Estimator.{sent}
 use Rattle.sock_core.specs.Facts.{Facts}
+use Rattle.sock_tcp.proofs.Arming.{armed_as}
 use Rattle.sock_tcp.proofs.Lending.{lent_at_most, lent_beginning}
 use Rattle.sock_tcp.specs.Rfc.Idle.{idle_by, restarted_by}
 use Rattle.sock_tcp.specs.declared.rules.Rules.TheVariants as rules
@@ -95,7 +96,7 @@ sent_still b now e = by e.kind
     timed false = record { state = refl; same_rules = refl; una = refl; tx = refl; rx = refl; rcv = refl; shift = refl }
 
     by : (k : Kind) → Still b (after_kind k (after_any b now) now e)
-    by kind.Plain = timed (e.len == 0)
+    by kind.Plain = let h = timed (e.len == 0) in armed_as (Still b) (sending_timed x now e) now e.len h (λ at t. record { state = h.state; same_rules = h.same_rules; una = h.una; tx = h.tx; rx = h.rx; rcv = h.rcv; shift = h.shift })
     by kind.Probe = record { state = refl; same_rules = refl; una = refl; tx = refl; rx = refl; rcv = refl; shift = refl }
     by kind.KeepAlive = record { state = refl; same_rules = refl; una = refl; tx = refl; rx = refl; rcv = refl; shift = refl }
 

@@ -163,7 +163,7 @@ module _ (d : Duration) (t : Tuple) (v : View) (f : Facts) (now : Instant) (mtu 
 
   -- with a byte or the FIN, as a plain segment
   says_plain : is_due b t fa ≡ true → is_probing b now ≡ false → is_empty_segment g ≡ false → 0 < segment_len g → Call fa v now
-  says_plain due no_probing full some = Says (sent_as b t kind.Plain g) (left b t now g opens kind.Plain) (goes_out kind.Plain plain due) (inl (record { kind = λ e. absurd cc; number = number; some = some; short = short })) left_plain (ForAnswer (after now (rto_of b.rtte)) (plain_timer b t now g opens false (not_zero (segment_len g) some) ∙ waits st.ready))
+  says_plain due no_probing full some = Says (sent_as b t kind.Plain g) (left b t now g opens kind.Plain) (goes_out kind.Plain plain due) (inl (record { kind = λ e. absurd cc; number = number; some = some; short = short })) left_plain (ForAnswer (after now (rto_of b.rtte)) (plain_timer b t now g opens (st.same.same_rules ∙ s.smoltcp) false (not_zero (segment_len g) some) ∙ waits st.ready))
     where
       plain : emission_kind b now g ≡ kind.Plain
       plain = rw (no_probing, full) (ap (λ c. if c then kind.KeepAlive else kind.Plain) (and_no (is_keep_alive_over b.timer now)))
@@ -236,7 +236,7 @@ module _ (d : Duration) (t : Tuple) (v : View) (f : Facts) (now : Instant) (mtu 
           where
             kept : emission_kind b now g ≡ kind.KeepAlive
             kept = rw (no_probing, y, x) refl
-        by true x false y = Silent (Some (sent_as b t kind.Plain g)) (left b t now g opens kind.Plain) (goes_out kind.Plain plain due) left_plain (after now d) (plain_timer b t now g opens true (rw none_len refl) ∙ renewed) (inr stays) (st.quiet y)
+        by true x false y = Silent (Some (sent_as b t kind.Plain g)) (left b t now g opens kind.Plain) (goes_out kind.Plain plain due) left_plain (after now d) (plain_timer b t now g opens (st.same.same_rules ∙ s.smoltcp) true (rw none_len refl) ∙ renewed) (inr stays) (st.quiet y)
           where
             none_len : segment_len g ≡ 0
             none_len = (empty_parts g x).0

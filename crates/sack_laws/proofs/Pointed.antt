@@ -224,7 +224,7 @@ begins_pointed now = record {
 
 sends_fit : (now : Instant) → KeptBySending (λ u. fits u.recovery ≡ true) now
 unfolding after_any snd_nxt_moved after_probe
-sends_fit now = record { renews = λ u h. h; moves = λ u e h. resent_fits u.recovery u.remote_last_seq e h; times = λ u e h. h; probes = λ u h. h }
+sends_fit now = record { renews = λ u h. h; moves = λ u e h. resent_fits u.recovery u.remote_last_seq e h; times = λ u e h. h; probes = λ u h. h; arms = λ u at e h. h }
 
 -- ---- any call
 

@@ -3,6 +3,7 @@ pub mod Checking
 pub mod Refusing
 pub mod Telling
 pub mod Recovering
+pub mod Arming
 pub mod KeptSegments
 pub mod Stamping
 pub mod Windows

@@ -11,6 +11,7 @@ use Rattle.sock_tcp.specs.Content.{carries_data, Sending, hole_of}
 use Rattle.sock_tcp.specs.Due.{is_closed, flight, is_counted}
 use Rattle.sock_tcp.specs.Rfc.Idle.{idle_by, restarted_by}
 use Rattle.sock_tcp.specs.Rfc.Pipe.{has_room}
+use Rattle.sock_tcp.specs.Rfc.TailLoss.{tail_armed}
 use Rattle.sock_tcp.specs.Timers.{keep_alive_renewed, probe_doubled, retransmit_unless_set}
 use Rattle.sock_tcp.specs.View.{View}
 use Rattle.sock_tcp.specs.declared.emission.Kind.{Kind}
@@ -86,7 +87,7 @@ sending_timed v now s =
 
 -- by kind; an acknowledgement that a probe or a keep-alive carries does not count as sent
 abbrev pub after_kind : Kind → View → Instant → Emitted → View
-after_kind kind.Plain v now s = sending_timed (snd_nxt_moved v s) now s
+after_kind kind.Plain v now s = tail_armed (sending_timed (snd_nxt_moved v s) now s) now s.len
 after_kind kind.Probe v now s = after_probe v now
 after_kind kind.KeepAlive v now s = v
 

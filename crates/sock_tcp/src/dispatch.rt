@@ -91,6 +91,7 @@ impl<'a> ControlBlock<'a> {
             Kind::Plain => {
                 self.move_snd_nxt(emitted);
                 self.time_sending(now, emitted);
+                self.arm_tail(now, emitted.len);
             }
             Kind::Probe => self.after_probe(now),
             Kind::KeepAlive => {}

@@ -287,13 +287,12 @@ impl Before {
     fn told_of_bytes(&self, after: &ControlBlock<'_>, now: Instant) -> AnyController
         ensures { result ≡ told_of_bytes self.now after.now now }
     {
-        let is_opened = self.is_opened(after);
-        if is_opened && !after.rtte.is_backed_off() {
+        if self.is_opened(after) && !after.rtte.is_backed_off() {
             let mut controller = after.congestion_controller;
             controller.open(after.remote_mss);
             return controller;
         }
-        if self.is_news(after) && !is_opened {
+        if self.is_news(after) && self.state.carries_data() {
             let mut controller = self.controller_before(after);
             let count = after.local_seq_no.since(self.una);
             controller.on_bytes_acked(now, count, self.recovery.is_timed_out());

@@ -59,9 +59,8 @@ impl Recovery {
     }
 
     // Whether the segment at SND.UNA was sent again, and lost again.
-    fn is_lost(self, sacked: &Scoreboard, una: TcpSeqNumber, mss: usize) -> bool
-        requires { mss ≤ 65535 }
-        ensures { result ≡ is_lost_in self sacked.now una mss }
+    fn is_lost(self, sacked: &Scoreboard, una: TcpSeqNumber) -> bool
+        ensures { result ≡ is_lost_in self sacked.now una }
     {
         match self {
             Recovery::Fast {
@@ -70,7 +69,7 @@ impl Recovery {
                 ..
             } => {
                 before(una, high_rxt)
-                    && offset_from(resent_at, una) + 2 * mss < sacked.highest_told() as usize
+                    && offset_from(resent_at, una) < sacked.highest_told() as usize
             }
             _ => false,
         }
@@ -151,8 +150,7 @@ impl Before {
             return false;
         }
         let sacked = self.sacked_after(after);
-        self.recovery
-            .is_lost(&sacked, after.local_seq_no, after.remote_mss)
+        self.recovery.is_lost(&sacked, after.local_seq_no)
     }
 
     // The recovery as what is told next is measured, and from where holes go out again.

@@ -3,14 +3,15 @@ ghost use Rattle.std.specs.Prelude.{◌≡◌, ◌≤◌};
 ghost use Rattle.sock_core.specs.Bounds.{IsMoment};
 ghost use Rattle.sock_tcp.specs.Rfc.Recovery.{is_probe_told, is_told_to_end, waits_tail};
 ghost use Rattle.sock_tcp.specs.Rfc.TailLoss.{is_alone, is_calm, last_len, margin_of, may_probe, may_probe_by};
-ghost use Rattle.sock_tcp.specs.Rfc.TailLoss.{probe_of, tail_from, tail_probed, tail_wait, tail_waits};
+ghost use Rattle.sock_tcp.specs.Rfc.TailLoss.{probe_of, sooner, tail_armed, tail_from, tail_probed, tail_set, tail_wait};
+ghost use Rattle.sock_tcp.specs.Rfc.TailLoss.{tail_waits};
 ghost use Rattle.sock_tcp.specs.Timers.{IsTimer};
 
 use crate::control_block::ControlBlock;
 use crate::recovery::{Before, Recovery};
 use crate::rules::Rules;
 use crate::scoreboard::Scoreboard;
-use crate::timer::{Timer, after};
+use crate::timer::{Timer, after, is_over};
 use control_wire::TcpSeqNumber;
 use net_base::time::{Duration, Instant};
 use sock_core::rtte::RttEstimator;
@@ -32,6 +33,12 @@ fn tail_wait(rtte: &RttEstimator, alone: bool) -> Duration
     Duration {
         micros: ((round_trips + margin) * 1_000).min(timeout.micros),
     }
+}
+
+fn sooner(at: Instant, other: Instant) -> Instant
+    ensures { result ≡ sooner at other }
+{
+    if is_over(at, other) { at } else { other }
 }
 
 impl Timer {
@@ -61,6 +68,21 @@ impl Timer {
     {
         match (waits, self) {
             (true, Timer::Retransmit { .. }) => Timer::tail(now, rtte, alone),
+            _ => self,
+        }
+    }
+
+    // It is that of the probe, where that comes sooner.
+    fn with_tail(self, now: Instant, rtte: &RttEstimator, alone: bool) -> Timer
+        requires moment { IsMoment now.micros }
+        requires lawful { IsTimer self }
+        ensures value { result ≡ tail_set self now rtte.now alone }
+        ensures lawful { IsTimer result }
+    {
+        match self {
+            Timer::Retransmit { expires_at } => Timer::Retransmit {
+                expires_at: sooner(expires_at, after(now, tail_wait(rtte, alone))),
+            },
             _ => self,
         }
     }
@@ -140,6 +162,23 @@ impl<'a> ControlBlock<'a> {
         Recovery::Probe {
             start: self.local_seq_no.plus(self.flight() - last),
             end: self.remote_last_seq,
+        }
+    }
+
+    // A segment with so many numbers went out: a probe is waited for from now on, and no longer than before.
+    #[tactic(auto, unfolding(crate::specs::Rfc::TailLoss::tail_armed))]
+    pub(crate) fn arm_tail(&mut self, now: Instant, len: usize)
+        requires { IsMoment now.micros }
+        ensures view { self.new ≡ tail_armed self.old now len }
+        ensures stamps { self.new.stamps ≡ self.old.stamps }
+    {
+        let may = match self.rules {
+            Rules::Smoltcp => false,
+            Rules::Rfc => len != 0 && self.may_probe(self.recovery),
+        };
+        if may {
+            let alone = self.is_alone();
+            self.timer = self.timer.with_tail(now, &self.rtte, alone);
         }
     }
 

@@ -15,6 +15,7 @@ use Rattle.sock_core.specs.Facts.{Facts, IsLawful}
 use Rattle.sock_core.specs.Received.{receiving}
 use Rattle.sock_core.specs.Seq.{later_of}
 use Rattle.sock_core.specs.declared.context.PollAt.TheVariants as poll
+use Rattle.sock_tcp.proofs.Arming.{armed_as}
 use Rattle.sock_tcp.specs.Begin.{before_emit, fast_retransmission_marked, peer_of, retransmission_begun}
 use Rattle.sock_tcp.specs.Closing.{closed_from}
 use Rattle.sock_tcp.specs.Content.{Sending, content, emission_kind, filled, of_kind, plain_segment, sent_as}
@@ -26,7 +27,7 @@ use Rattle.sock_tcp.specs.Queue.{queue_of}
 use Rattle.sock_tcp.specs.Queues.{first_probe, fitting, may_recv, may_send, queued, read_off, readable}
 use Rattle.sock_tcp.specs.Rfc.Idle.{idle_by, restarted_by}
 use Rattle.sock_tcp.specs.Rfc.Recovery.{begun_by, marked_by}
-use Rattle.sock_tcp.specs.Rfc.TailLoss.{tail_probed}
+use Rattle.sock_tcp.specs.Rfc.TailLoss.{tail_armed, tail_probed}
 use Rattle.sock_tcp.specs.Sent.{goes_on, after_any, after_probe, after_sending, emitted_as, left_by, sending_timed, snd_nxt_moved}
 use Rattle.sock_tcp.specs.Settings.{keep_alive_timer}
 use Rattle.sock_tcp.specs.Timers.{idle_from, is_idle, keep_alive_renewed, probe_doubled, probe_from, retransmit_from, retransmit_unless_set}
@@ -150,6 +151,9 @@ renewed_both v o h = (o, record { rfc = h.1.rfc; row = tt })
 
 -- ---- what goes out
 
+armed_awake : (v : View) (now : Instant) (n : ℕ) → IsAwakeByRfc v → IsAwakeByRfc (tail_armed v now n)
+armed_awake v now n h = armed_as IsAwakeByRfc v now n h (λ at e. record { rfc = h.rfc; row = rests_row v.state _ _ _ _ tt })
+
 module _ (u : View) (now : Instant) (o : IsOrdered u) (h : IsAwakeByRfc u) where
   any_row : (st : State) → u.state ≡ st → AwakeIn st (keep_alive_renewed u.timer now u.keep_alive) (flight u) u.remote_win_len (length u.tx_buffer.bytes)
   any_row st is = change_row st u.timer _ (flight u) (flight u) u.remote_win_len (length u.tx_buffer.bytes) (length u.tx_buffer.bytes) (renewed_rests u.timer now u.keep_alive (flight u) u.remote_win_len (length u.tx_buffer.bytes)) (subst (λ z. AwakeIn z u.timer (flight u) u.remote_win_len (length u.tx_buffer.bytes)) is h.row)
@@ -187,7 +191,7 @@ module _ (u : View) (now : Instant) (o : IsOrdered u) (h : IsAwakeByRfc u) where
 
   sent_awake : (k : Kind) (b : Segment) → (segment_len b ≡ 0 → RstOrAck u b) → IsAwakeByRfc (after_sending u now (emitted_as k (of_kind k u b)))
   unfolding after_sending
-  sent_awake kind.Plain b empty = plain_awake b empty
+  sent_awake kind.Plain b empty = armed_awake (sending_timed (snd_nxt_moved (after_any u now) (emitted_as kind.Plain b)) now (emitted_as kind.Plain b)) now (segment_len b) (plain_awake b empty)
   sent_awake kind.KeepAlive b empty = any_awake
   sent_awake kind.Probe b empty = probe_awake
 

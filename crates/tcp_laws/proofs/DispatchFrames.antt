@@ -144,6 +144,7 @@ sending_keeps v now = record {
   moves = λ w e k. record { tx = k.tx; rx = k.rx; una = k.una };
   times = λ w e k. record { tx = k.tx; rx = k.rx; una = k.una };
   probes = λ w k. record { tx = k.tx; rx = k.rx; una = k.una };
+  arms = λ w at e k. record { tx = k.tx; rx = k.rx; una = k.una };
 }
 
 pub sends_keeps : (o : Option Tuple) (f : Facts) (v : View) (out : Option Sending) (w : View) → SendsTo o f v out w → Keeps v w

@@ -13,6 +13,7 @@ use Rattle.sock_core.specs.Congestion.{post_transmitted}
 use Rattle.sock_core.specs.Estimator.{sent}
 use Rattle.sock_core.specs.Facts.{Facts}
 use Rattle.sock_core.specs.Received.{receiving}
+use Rattle.sock_tcp.proofs.Arming.{armed_as}
 use Rattle.sock_tcp.proofs.Lending.{free_within}
 pub use Rattle.sock_tcp.proofs.KeptSegments.{acked_view, timer_then, heard_kept, KeptByAnswers, challenged_kept, outside_kept, bytes_kept, KeptByRows, rows_kept, KeptBySegments, process_kept}
 use Rattle.sock_tcp.specs.Advance.{dropped}
@@ -25,9 +26,9 @@ use Rattle.sock_tcp.specs.Polls.{is_reached, timeout_poll}
 use Rattle.sock_tcp.specs.Process.{processed_by}
 use Rattle.sock_tcp.specs.Queue.{queue_of}
 use Rattle.sock_tcp.specs.Queues.{ReadsWithIf, SendsWithIf, fitting, may_recv, may_send, queued, read_off, readable}
-use Rattle.sock_tcp.specs.Rfc.TailLoss.{is_retransmission_over, may_probe, may_probe_by, probes_tail, tail_probed}
+use Rattle.sock_tcp.specs.Rfc.TailLoss.{is_alone, is_retransmission_over, may_probe, may_probe_by, probes_tail, sooner, tail_probed, tail_wait}
 use Rattle.sock_tcp.specs.Sent.{goes_on, after_any, after_kind, after_probe, after_sending, emitted_as, left_by, sending_timed, snd_nxt_moved}
-use Rattle.sock_tcp.specs.Timers.{is_close_over, is_over, retransmit_unless_set}
+use Rattle.sock_tcp.specs.Timers.{after, is_close_over, is_over, retransmit_unless_set}
 use Rattle.sock_tcp.specs.Rfc.Idle.{idle_by, restarted_by}
 use Rattle.sock_tcp.specs.View.{View, fresh, moment_of}
 use Rattle.sock_tcp.specs.declared.emission.Emitted.{Emitted}
@@ -152,6 +153,7 @@ pub record KeptBySending (P : View → Type 0) (now : Instant) : Type 0 where
   pub moves : (u : View) (e : Emitted) → P u → P (snd_nxt_moved u e)
   pub times : (u : View) (e : Emitted) → P u → P (record u { rtte = sent u.rtte now e.end; timer = retransmit_unless_set u.timer now u.rtte; congestion_controller = post_transmitted (restarted_by u.rules u.idle_at now u.congestion_controller) now e.len; idle_at = idle_by u.rules u.idle_at now u.rtte; pending_fast_retransmit = u.pending_fast_retransmit || goes_on u })
   pub probes : (u : View) → P u → P (after_probe u now)
+  pub arms : (u : View) (at : Instant) → u.timer ≡ timer.Retransmit at → P u → P (record u { timer = timer.Retransmit (sooner at (after now (tail_wait u.rtte (is_alone u)))) })
 
 module _ (P : View → Type 0) (now : Instant) (k : KeptBySending P now) where
   timed_kept : (u : View) (e : Emitted) → P u → P (sending_timed u now e)
@@ -163,7 +165,10 @@ module _ (P : View → Type 0) (now : Instant) (k : KeptBySending P now) where
       go false = k.times u e h
 
   kind_kept : (x : Kind) (u : View) (e : Emitted) → P u → P (after_kind x u now e)
-  kind_kept kind.Plain u e h = timed_kept (snd_nxt_moved u e) e (k.moves u e h)
+  kind_kept kind.Plain u e h =
+      let v = sending_timed (snd_nxt_moved u e) now e in
+      let i = timed_kept (snd_nxt_moved u e) e (k.moves u e h) in
+      armed_as P v now e.len i (λ at t. k.arms v at t i)
   kind_kept kind.Probe u e h = k.probes u h
   kind_kept kind.KeepAlive u e h = h
 

@@ -10,7 +10,7 @@ use Rattle.sock_core.specs.Estimator.{Estimator, acked, timed_from, acked_at as 
 use Rattle.sock_core.specs.declared.rtte.Timing.{Timing}
 use Rattle.sock_core.specs.Seq.{is_before}
 use Rattle.sock_tcp.specs.Process.{timer_restarted}
-use Rattle.sock_tcp.specs.Rfc.TailLoss.{tail_wait}
+use Rattle.sock_tcp.specs.Rfc.TailLoss.{tail_wait, sooner}
 use Rattle.sock_tcp.specs.Steps.{delay_of, next_delay, is_ack_owed, timer_acked, probe_ended, probe_set, begins_probe}
 use Rattle.sock_tcp.specs.Timers.{after, close_delay, close_from, retransmit_from, rto_of, twice, idle_from, is_over, keep_alive_renewed, probe_doubled, probe_from, retransmit_unless_set}
 use Rattle.sock_tcp.specs.View.{View}
@@ -141,6 +141,13 @@ module _ (most : Duration) (minute : 60000000 ≤ most.micros) where
 
     pub tail_by : (e : Estimator) (alone : Bool) → e.rto ≤ 60000 → is_by now most (after now (tail_wait e alone)) ≡ true
     tail_by e alone h = soon (tail_wait e alone) (omega (arith, h, minute))
+
+    pub sooner_by : (t u : Instant) → is_by now most t ≡ true → is_by now most u ≡ true → is_by now most (sooner t u) ≡ true
+    sooner_by t u h k = go (is_over t u)
+      where
+        go : (b : Bool) → is_by now most (if b then t else u) ≡ true
+        go true = h
+        go false = k
 
     pub probe_by : (e : Estimator) → e.rto ≤ 60000 → is_timer_by now most (probe_from now e) ≡ true
     probe_by e h = and_true (is_by now most (after now (rto_of e))) (nat_le (e.rto * 1000) 60000000) (rto_by e h) (le-leb (e.rto * 1000) 60000000 (omega (arith, h)))

@@ -37,7 +37,8 @@ use Rattle.tcp_laws.proofs.Kept.{KeptByAnswers, bytes_kept, challenged_kept, out
 use Rattle.tcp_laws.proofs.Ordered.{HasMoment, IsOpen, IsOrdered, IsPeeredIn, Row, is_close, acked_open, bytes_acked_open, close_stays, dup_acked_open, idle_has_moment, later_small, opened_open, partially_acked_open, left_in_flight, less_in_flight, set_has_moment, taken_open, window_open}
 use Rattle.sock_core.specs.Congestion.{bytes_acked, dup_acked, opened, partially_acked}
 use Rattle.sock_tcp.specs.Due.{flight as flight_of}
-use Rattle.sock_tcp.specs.Rfc.Recovery.{before_it, before_of, controller_after, has_timer, is_news, is_opened, is_partial, is_timed_out, is_uncounted, lets_out, opens_well, recovered, told_of_bytes, waited_for}
+use Rattle.sock_tcp.specs.Content.{carries_data}
+use Rattle.sock_tcp.specs.Rfc.Recovery.{before_it, before_of, controller_after, has_timer, is_news, is_partial, is_timed_out, is_uncounted, lets_out, opens_well, recovered, told_of_bytes, waited_for}
 use Rattle.sock_tcp.specs.Rfc.Refused.{is_plain_control, refused}
 use Rattle.sock_tcp.specs.declared.recovery.Before.{Before}
 use Rattle.sock_tcp.specs.declared.rules.Rules.{Rules}
@@ -460,7 +461,7 @@ module _ (now : Instant) (word : ℕ) (ip : IpRepr) (s : Segment) (small : word 
       by true o g = partially_acked_open _ now _ before
       by false true g = before
       by false false true = dup_acked_open w.congestion_controller now w.remote_mss (flight_of w) i
-      by false false false = told (opens_well b w) (is_news b w && not (is_opened b w))
+      by false false false = told (opens_well b w) (is_news b w && carries_data b.state)
 
   row_recovers : (st : State) (waited t : Timer) (keep : Option Duration) (f q : ℕ) → (HasMoment t keep → HasMoment waited keep) → Row st t keep f q → Row st (if has_timer st then waited else t) keep f q
   row_recovers state.Closed waited t keep f q m h = tt

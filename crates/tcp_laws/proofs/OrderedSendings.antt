@@ -12,6 +12,8 @@ use Rattle.sock_core.specs.Facts.{Facts}
 use Rattle.sock_core.specs.Congestion.{post_transmitted}
 use Rattle.sock_core.specs.Estimator.{Estimator, sent}
 use Rattle.sock_core.specs.Seq.{later_of}
+use Rattle.sock_tcp.specs.Rfc.TailLoss.{tail_armed}
+use Rattle.sock_tcp.proofs.Arming.{armed_as}
 use Rattle.sock_tcp.proofs.Holes.{number_at, start_within}
 use Rattle.sock_tcp.proofs.Lending.{lent_at_most}
 use Rattle.sock_tcp.specs.Rfc.Idle.{idle_by, restarted_by}
@@ -255,6 +257,13 @@ peer_stays : (st : State) (o : Option Tuple) → IsPeeredIn st o → IsPeeredIn 
 peer_stays state.Closed o h = tt
 peer_stays _ o h = h
 
+-- a retransmission timer with another moment
+moment_keeps : (at to : Instant) (keep : Option Duration) (i : ℕ) → KeepsTimer (timer.Retransmit at) (timer.Retransmit to) keep i
+moment_keeps at to keep i = record { moment = λ h. h; closing = λ h. h; opening = λ h. h }
+
+armed_ordered : (v : View) (now : Instant) (n : ℕ) → IsOrdered v → IsOrdered (tail_armed v now n)
+armed_ordered v now n h = armed_as IsOrdered v now n h (λ at e. record { una_small = h.una_small; nxt_small = h.nxt_small; room = h.room; congestion = h.congestion; peered = h.peered; row = timer_row v.state (timer.Retransmit at) _ v.keep_alive _ _ (moment_keeps at _ v.keep_alive _) (subst (λ t. Row v.state t v.keep_alive (seq_sub v.remote_last_seq v.local_seq_no) (length v.tx_buffer.bytes)) e h.row) })
+
 module _ (u : View) (now : Instant) (h : IsOrdered u) where
   any_ordered : IsOrdered (after_any u now)
   unfolding after_any
@@ -282,7 +291,7 @@ module _ (u : View) (now : Instant) (h : IsOrdered u) where
 
   sent_ordered : (k : Kind) (s : Segment) → EndsAs u.state u s → IsOrdered (after_sending u now (emitted_as k (of_kind k u s)))
   unfolding after_sending after_probe after_any
-  sent_ordered kind.Plain s ends = plain_ordered s ends
+  sent_ordered kind.Plain s ends = armed_ordered (sending_timed (snd_nxt_moved (after_any u now) (emitted_as kind.Plain s)) now (emitted_as kind.Plain s)) now (segment_len s) (plain_ordered s ends)
   sent_ordered kind.KeepAlive s ends = any_ordered
   sent_ordered kind.Probe s ends = let a = any_ordered in record { una_small = a.una_small; nxt_small = a.nxt_small; room = a.room; congestion = a.congestion; peered = a.peered; row = timer_row u.state _ _ u.keep_alive _ _ (doubled_keeps _ now u.keep_alive _) a.row }
 

@@ -137,7 +137,7 @@ readied_paced v now h = readied_kept IsPaced now (begins_paced now) v h
 
 sends_paced : (now : Instant) → KeptBySending IsPaced now
 unfolding after_any snd_nxt_moved after_probe
-sends_paced now = record { renews = λ u h. h; moves = λ u e h. h; times = λ u e h. sent_paced u.rtte now e.end h; probes = λ u h. h }
+sends_paced now = record { renews = λ u h. h; moves = λ u e h. h; times = λ u e h. sent_paced u.rtte now e.end h; probes = λ u h. h; arms = λ u at e h. h }
 
 -- ---- the other calls
 

@@ -167,6 +167,7 @@ module _ (now : Instant) where
     moves = λ u e h. h;
     times = λ u e h. record { window = timed_probes now u.timer u.rtte u.remote_win_len h.window; mss = h.mss };
     probes = λ u h. record { window = doubled_probes now u.timer u.remote_win_len h.window; mss = h.mss };
+    arms = λ u at e h. record { window = tt; mss = h.mss };
   }
 
 -- ---- the other calls

@@ -18,6 +18,7 @@ use Rattle.sock_core.specs.Seq.{is_before, later_of}
 use Rattle.sock_core.specs.declared.context.PollAt.{PollAt}
 use Rattle.sock_core.specs.declared.context.PollAt.TheVariants as poll
 use Rattle.sock_tcp.proofs.OwnWindow.{field_within, no_larger, told_within}
+use Rattle.sock_tcp.proofs.Arming.{armed_by_none}
 use Rattle.sock_tcp.proofs.Windows.{far, left_is_told}
 use Rattle.sock_tcp.specs.Begin.{Begun, readied, after_timers, peer_of}
 use Rattle.sock_tcp.specs.Content.{Sending, asked, carries_data, content, emission_kind, filled, is_probing, of_kind, offset_of, plain_segment, sent_as, window_left}
@@ -369,7 +370,7 @@ ack_alone u b (inr a) e = a
 
 plain_sent : (u : View) (now : Instant) (b : Segment) → segment_len b ≡ 0 → after_sending u now (emitted_as kind.Plain b) ≡ snd_nxt_moved (after_any u now) (emitted_as kind.Plain b)
 unfolding after_sending sending_timed
-plain_sent u now b e = rw e refl
+plain_sent u now b e = armed_by_none (sending_timed (snd_nxt_moved (after_any u now) (emitted_as kind.Plain b)) now (emitted_as kind.Plain b)) now (segment_len b) e ∙ rw e refl
 
 module _ (u w : View) (f : Facts) (out : Sending) (stamp : Option ℕ) (p : Tuple) (bytes : List ℕ) (o : IsOrdered u) (q : IsProbing u) (settled : Settled u (moment_of f)) (lawful : IsLawful f) (lent : IsLent u.tx_buffer (offset_of u) (asked u p f) bytes) (room : length u.rx_buffer.held ≤ 2 ^ 30) (left : w ≡ left_by (Some out) u (moment_of f) true) (reached : is_reached (poll_moment w f) (moment_of f) ≡ true) where
   abbrev now : Instant

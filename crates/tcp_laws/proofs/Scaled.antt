@@ -128,7 +128,7 @@ begins_scaled now = record {
 
 sends_scaled : (now : Instant) → KeptBySending IsScaled now
 unfolding after_any snd_nxt_moved after_probe
-sends_scaled now = record { renews = λ u h. h; moves = λ u e h. h; times = λ u e h. h; probes = λ u h. h }
+sends_scaled now = record { renews = λ u h. h; moves = λ u e h. h; times = λ u e h. h; probes = λ u h. h; arms = λ u at e h. h }
 
 -- ---- the other calls
 

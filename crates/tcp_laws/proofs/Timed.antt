@@ -14,11 +14,11 @@ use Rattle.sock_tcp.specs.Process.{close_restarted}
 use Rattle.sock_tcp.specs.Queues.{first_probe, queued, read_off}
 use Rattle.sock_tcp.specs.Replies.{ack_kept}
 use Rattle.sock_tcp.specs.Rfc.Recovery.{before_of, is_opened, recovered}
-use Rattle.sock_tcp.specs.Rfc.TailLoss.{is_alone, tail_probed}
+use Rattle.sock_tcp.specs.Rfc.TailLoss.{is_alone, tail_probed, tail_wait}
 use Rattle.sock_tcp.specs.Sent.{after_any, after_probe, snd_nxt_moved}
 use Rattle.sock_tcp.specs.Settings.{keep_alive_timer}
 use Rattle.sock_tcp.specs.Steps.{is_duplicate, is_window_changed, window_taken, released, ack_heard, duplicate_counted, ack_counted, una_advanced, acknowledged, timestamp_taken, timer_set, timer_acked, heard, joined, ack_delayed}
-use Rattle.sock_tcp.specs.Timers.{is_idle}
+use Rattle.sock_tcp.specs.Timers.{after, is_idle}
 use Rattle.sock_tcp.specs.Rfc.Windows.{windowed}
 use Rattle.sock_tcp.specs.View.{View, fresh, moment_of}
 use Rattle.sock_tcp.specs.declared.acked.Acked.{Acked}
@@ -32,7 +32,7 @@ use Rattle.sock_tcp.proofs.Recovering.{begun_as, marked_as, timer_as}
 use Rattle.tcp_laws.proofs.Kept.{Kept, KeptByBeginnings, KeptByCalls, KeptByRows, KeptBySegments, KeptBySending, process_kept, sends_kept}
 use Rattle.tcp_laws.proofs.SocketSteps.{same_number}
 use Rattle.tcp_laws.proofs.OrderedCalls.{same_flag}
-use Rattle.tcp_laws.proofs.Moments.{IsTimed, acked_by, acked_short, again_short, and_true, bounded_short, close_by, delayed_by, doubled_by, fast_short, idle_by, is_by, is_delay_by, is_short, is_timer_by, later_timed, opened_short, probe_by, renewed_by, restarted_by, rto_by, sent_short, set_by, tail_by, timed_by}
+use Rattle.tcp_laws.proofs.Moments.{IsTimed, acked_by, acked_short, again_short, and_true, bounded_short, close_by, delayed_by, doubled_by, fast_short, idle_by, is_by, is_delay_by, is_short, is_timer_by, later_timed, opened_short, probe_by, renewed_by, restarted_by, rto_by, sent_short, set_by, sooner_by, tail_by, timed_by}
 
 module _ (most : Duration) (minute : 60000000 ≤ most.micros) where
   -- ---- a segment
@@ -121,6 +121,7 @@ module _ (most : Duration) (minute : 60000000 ≤ most.micros) where
       moves = λ u e h. h;
       times = λ u e h. record { timer = timed_by most minute now u.timer u.rtte h.timeout h.timer; waits = h.waits; timeout = sent_short u.rtte now e.end h.timeout; keep_short = h.keep_short; delay_short = h.delay_short };
       probes = λ u h. record { timer = doubled_by most minute now u.timer h.timer; waits = h.waits; timeout = h.timeout; keep_short = h.keep_short; delay_short = h.delay_short };
+      arms = λ u at e h. record { timer = sooner_by most minute now at (after now (tail_wait u.rtte (is_alone u))) (subst (λ t. is_timer_by now most t ≡ true) e h.timer) (tail_by most minute now u.rtte (is_alone u) h.timeout); waits = h.waits; timeout = h.timeout; keep_short = h.keep_short; delay_short = h.delay_short };
     }
 
   -- ---- the other calls

@@ -7,6 +7,8 @@ use Rattle.net_base.specs.declared.time.Instant.{Instant}
 use Rattle.sock_core.specs.Congestion.{post_transmitted}
 use Rattle.sock_core.specs.Estimator.{sent}
 use Rattle.sock_core.specs.Facts.{Facts}
+use Rattle.sock_tcp.specs.Rfc.TailLoss.{tail_armed}
+use Rattle.sock_tcp.proofs.Arming.{armed_as}
 use Rattle.sock_tcp.specs.Rfc.Idle.{idle_by, restarted_by}
 use Rattle.sock_tcp.specs.Begin.{last_ts_set, last_ts_set_at, readied, after_timers, is_paused, begun, begun_to, unless_paused, ended, before_emit, before_emit_to, peer_of}
 use Rattle.sock_tcp.specs.Content.{Sending, content}
@@ -38,9 +40,12 @@ timed_state v now s = go (s.len == 0)
     go true = refl
     go false = refl
 
+armed_state : (v : View) (now : Instant) (n : ℕ) → (tail_armed v now n).state ≡ v.state
+armed_state v now n = armed_as (λ w. w.state ≡ v.state) v now n refl (λ at e. refl)
+
 kind_state : (k : Kind) (v : View) (now : Instant) (s : Emitted) → (after_kind k v now s).state ≡ v.state
 unfolding after_probe
-kind_state kind.Plain v now s = timed_state (snd_nxt_moved v s) now s ∙ moved_state v s
+kind_state kind.Plain v now s = armed_state (sending_timed (snd_nxt_moved v s) now s) now s.len ∙ timed_state (snd_nxt_moved v s) now s ∙ moved_state v s
 kind_state kind.Probe v now s = refl
 kind_state kind.KeepAlive v now s = refl
 

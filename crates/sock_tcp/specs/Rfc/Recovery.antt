@@ -195,15 +195,15 @@ is_sent_again _ una = false
 abbrev pub shows_hole : Recovery → Scoreboard → TcpSeqNumber → Bool
 shows_hole r k una = has_hole r k una || (is_blank k || not (is_sent_again r una))
 
--- the segment at SND.UNA was sent again, and lost again: more than two segments of what was sent behind it were told
--- (as IsLost of RFC 6675, section 4, which is of what was sent once)
-abbrev pub is_lost_in : Recovery → Scoreboard → TcpSeqNumber → ℕ → Bool
-is_lost_in (recovery.Fast point high_rxt resent_at) k una mss =
-    is_before una high_rxt && nat_lt (again_from resent_at una + 2 * mss) (highest_told k)
-is_lost_in _ k una mss = false
+-- the segment at SND.UNA was sent again, and lost again: something that was sent behind it was told (RFC 8985, section
+-- 6.2: in a recovery nothing is waited for beyond that)
+abbrev pub is_lost_in : Recovery → Scoreboard → TcpSeqNumber → Bool
+is_lost_in (recovery.Fast point high_rxt resent_at) k una =
+    is_before una high_rxt && nat_lt (again_from resent_at una) (highest_told k)
+is_lost_in _ k una = false
 
 abbrev pub is_lost_again : Before → View → Bool
-is_lost_again b w = only_tells b w && is_lost_in b.recovery (sacked_after b w) w.local_seq_no w.remote_mss
+is_lost_again b w = only_tells b w && is_lost_in b.recovery (sacked_after b w) w.local_seq_no
 
 -- where SND.UNA has moved, no probe is out any longer, and what is told next is measured from now on; where a segment
 -- was lost again, holes go out again from SND.UNA on
@@ -275,11 +275,11 @@ abbrev pub before_it : Before → View → AnyController
 before_it b w = with_remote_window b.controller w.remote_win_len
 
 -- of new bytes it hears how many they are (RFC 5681, section 3.1; RFC 3465), and at the opening, unless a SYN was lost,
--- that it may send more (RFC 6928)
+-- that it may send more (RFC 6928). A SYN moves SND.UNA too, and is no byte
 abbrev pub told_of_bytes : Before → View → Instant → AnyController
 told_of_bytes b w now =
     if opens_well b w then opened w.congestion_controller w.remote_mss
-    else (if is_news b w && not (is_opened b w)
+    else (if is_news b w && carries_data b.state
     then bytes_acked (before_it b w) now (seq_sub w.local_seq_no b.una) (is_timed_out b.recovery)
     else w.congestion_controller)
 

@@ -82,7 +82,24 @@ tail_probed v now =
       timer = retransmit_from now (retransmitted v.rtte);
     }
 
--- ---- the timer that waits for news of the peer is that of the probe, where one may go out
+-- ---- the timer that waits for news of the peer is that of the probe, where one may go out (section 7.2)
 abbrev pub tail_waits : Bool → Timer → Instant → Estimator → Bool → Timer
 tail_waits true (timer.Retransmit at) now e alone = tail_from now e alone
 tail_waits _ t now e alone = t
+
+-- ---- and where something that takes numbers goes out, as its moment is then, but no later than it was
+
+abbrev pub sooner : Instant → Instant → Instant
+sooner t u = if is_over t u then t else u
+
+abbrev pub tail_set : Timer → Instant → Estimator → Bool → Timer
+tail_set (timer.Retransmit at) now e alone = timer.Retransmit (sooner at (after now (tail_wait e alone)))
+tail_set t now e alone = t
+
+abbrev pub tail_armed_if : Bool → View → Instant → View
+tail_armed_if true v now = record v { timer = tail_set v.timer now v.rtte (is_alone v) }
+tail_armed_if false v now = v
+
+-- n numbers went out
+unfoldable pub tail_armed : View → Instant → ℕ → View
+tail_armed v now n = tail_armed_if (may_probe_by v.rules (not (n == 0) && may_probe v.recovery v)) v now
