@@ -2,7 +2,7 @@
 use Rattle.std.proofs.Common.{ℕ, List, ◌++◌, ◌≡◌, length, take, drop, refl, ap, ◌∙◌, arith}
 use Rattle.std.proofs.lemmas.List.{append-nil, drop_all}
 use Rattle.ip_wire.specs.Octets.{be16}
-use Rattle.control_wire.specs.Icmp.{Exceeded, Kinds, Message, Reply, Request, Unreachable, message_with}
+use Rattle.control_wire.specs.Icmp.{Exceeded, Kinds, Message, Problem, Reply, Request, Unreachable, message_with}
 
 -- nothing is left behind what fills the buffer
 pub ends : (xs ws zs : List ℕ) (n : ℕ) → zs ≡ xs ++ drop n ws → length ws ≡ n → zs ≡ xs
@@ -13,3 +13,4 @@ refilled kinds quoted (Request i s b) n = refl
 refilled kinds quoted (Reply i s b) n = refl
 refilled kinds quoted (Unreachable r h b) n = refl
 refilled kinds quoted (Exceeded r h b) n = refl
+refilled kinds quoted (Problem r p h b) n = refl

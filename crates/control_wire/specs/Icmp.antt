@@ -1,9 +1,9 @@
 -- ICMP messages of both versions, and their octets (RFC 792; RFC 4443).
-use Rattle.std.specs.Prelude.{ℕ, ◌+◌, ◌-◌, ◌==◌, ◌&&◌, ◌||◌, nat_le, not, Bool, if◌then◌else◌}
+use Rattle.std.specs.Prelude.{ℕ, ◌+◌, ◌-◌, ◌==◌, ◌&&◌, ◌||◌, nat_le, not, Bool, true, false, if◌then◌else◌}
 use Rattle.std.specs.Prelude.{List, ◌∷◌, ◌++◌, length, drop, slice_index, Option, Some, None, Result, Ok, Err}
 use Rattle.std.specs.Borrow.{Bor}
 use Rattle.ip_wire.specs.Checksum.{is_sent}
-use Rattle.ip_wire.specs.Octets.{be16, be16_at}
+use Rattle.ip_wire.specs.Octets.{be16, be16_at, be32, be32_at}
 use Rattle.ip_wire.specs.Packet.{ipv4_fields, ipv4_header_len, ipv4_octets, ipv6_fields, ipv6_octets, version_number}
 use Rattle.ip_wire.specs.Sum.{all_ones, complement, pseudo_sum, sum_after}
 use Rattle.ip_wire.specs.declared.address.Ipv6Address.{Ipv6Address}
@@ -25,6 +25,7 @@ pub data Message (H : Type 0) : Type 0 where
   Reply : (ident seq_no : ℕ) (body : List ℕ) → Message H
   Unreachable : (reason : ℕ) (header : H) (body : List ℕ) → Message H
   Exceeded : (reason : ℕ) (header : H) (body : List ℕ) → Message H
+  Problem : (reason pointer : ℕ) (header : H) (body : List ℕ) → Message H
 
 abbrev pub message_v4 : Icmpv4Repr → Message Ipv4Repr
 message_v4 (v4.EchoRequest ident seq_no body) = Request ident seq_no body.now
@@ -37,6 +38,7 @@ message_v6 (v6.EchoRequest ident seq_no body) = Request ident seq_no body.now
 message_v6 (v6.EchoReply ident seq_no body) = Reply ident seq_no body.now
 message_v6 (v6.DstUnreachable reason header body) = Unreachable reason header body.now
 message_v6 (v6.TimeExceeded reason header body) = Exceeded reason header body.now
+message_v6 (v6.ParamProblem reason pointer header body) = Problem reason pointer header body.now
 
 -- the octets of a message, with those of a quoted header
 abbrev pub message_len : {H : Type 0} → ℕ → Message H → ℕ
@@ -44,6 +46,7 @@ message_len quoted (Request ident seq_no body) = 8 + length body
 message_len quoted (Reply ident seq_no body) = 8 + length body
 message_len quoted (Unreachable reason header body) = 8 + quoted + length body
 message_len quoted (Exceeded reason header body) = 8 + quoted + length body
+message_len quoted (Problem reason pointer header body) = 8 + quoted + length body
 
 abbrev pub icmp_len : IcmpRepr → ℕ
 icmp_len (icmp.Ipv4 repr) = message_len 20 (message_v4 repr)
@@ -55,12 +58,13 @@ pub record Kinds : Type 0 where
   pub reply : ℕ
   pub unreachable : ℕ
   pub exceeded : ℕ
+  pub problem : ℕ
 
 abbrev pub kinds_v4 : Kinds
-kinds_v4 = record { request = 8; reply = 0; unreachable = 3; exceeded = 11 }
+kinds_v4 = record { request = 8; reply = 0; unreachable = 3; exceeded = 11; problem = 12 }
 
 abbrev pub kinds_v6 : Kinds
-kinds_v6 = record { request = 128; reply = 129; unreachable = 1; exceeded = 3 }
+kinds_v6 = record { request = 128; reply = 129; unreachable = 1; exceeded = 3; problem = 4 }
 
 abbrev pub echo_octets : ℕ → ℕ → ℕ → List ℕ → ℕ → List ℕ
 echo_octets kind ident seq_no body checksum = kind ∷ 0 ∷ (be16 checksum ++ (be16 ident ++ (be16 seq_no ++ body)))
@@ -68,6 +72,11 @@ echo_octets kind ident seq_no body checksum = kind ∷ 0 ∷ (be16 checksum ++ (
 abbrev pub error_octets : ℕ → ℕ → List ℕ → List ℕ → ℕ → List ℕ
 error_octets kind reason quoted body checksum =
     kind ∷ reason ∷ (be16 checksum ++ (0 ∷ 0 ∷ 0 ∷ 0 ∷ (quoted ++ body)))
+
+-- an error that points at an octet of the packet that it quotes
+abbrev pub problem_octets : ℕ → ℕ → ℕ → List ℕ → List ℕ → ℕ → List ℕ
+problem_octets kind reason pointer quoted body checksum =
+    kind ∷ reason ∷ (be16 checksum ++ (be32 pointer ++ (quoted ++ body)))
 
 -- a message with this checksum
 abbrev pub message_with : {H : Type 0} → Kinds → (H → List ℕ) → Message H → ℕ → List ℕ
@@ -77,6 +86,8 @@ message_with kinds quoted (Unreachable reason header body) sum =
     error_octets kinds.unreachable reason (quoted header) body sum
 message_with kinds quoted (Exceeded reason header body) sum =
     error_octets kinds.exceeded reason (quoted header) body sum
+message_with kinds quoted (Problem reason pointer header body) sum =
+    problem_octets kinds.problem reason pointer (quoted header) body sum
 
 abbrev pub v4_with : ChecksumCapabilities → Message Ipv4Repr → ℕ → List ℕ
 v4_with caps m sum = message_with kinds_v4 (ipv4_octets (is_sent caps.ipv4)) m sum
@@ -117,20 +128,27 @@ abbrev pub as_error : {H : Type 0} → (H → List ℕ → Message H) → Option
 as_error make None = None
 as_error make (Some quoted) = Some (make quoted.0 quoted.1)
 
--- the message of this type and code
-abbrev pub message_of : {H : Type 0} → Kinds → (List ℕ → Option (H × List ℕ)) → ℕ → ℕ → List ℕ → Option (Message H)
-message_of kinds quoted kind code octets =
+-- a parameter problem, where one is read
+abbrev pub problem_in : {H : Type 0} → Bool → (List ℕ → Option (H × List ℕ)) → ℕ → List ℕ → Option (Message H)
+problem_in true quoted code octets = as_error (Problem code (be32_at octets 4)) (quoted (drop 8 octets))
+problem_in false quoted code octets = None
+
+-- the message of this type and code; `points` says whether parameter problems are read
+abbrev pub message_of : {H : Type 0} → Bool → Kinds → (List ℕ → Option (H × List ℕ)) → ℕ → ℕ → List ℕ
+    → Option (Message H)
+message_of points kinds quoted kind code octets =
     if (kind == kinds.request) && (code == 0) then Some (Request (be16_at octets 4) (be16_at octets 6) (drop 8 octets))
     else (if (kind == kinds.reply) && (code == 0)
     then Some (Reply (be16_at octets 4) (be16_at octets 6) (drop 8 octets))
     else (if kind == kinds.unreachable then as_error (Unreachable code) (quoted (drop 8 octets))
-    else (if kind == kinds.exceeded then as_error (Exceeded code) (quoted (drop 8 octets)) else None)))
+    else (if kind == kinds.exceeded then as_error (Exceeded code) (quoted (drop 8 octets))
+    else (if kind == kinds.problem then problem_in points quoted code octets else None))))
 
 unfoldable pub icmpv4_message : List ℕ → Option (Message Ipv4Repr)
-icmpv4_message octets = message_of kinds_v4 quoted_v4 (slice_index octets 0) (slice_index octets 1) octets
+icmpv4_message octets = message_of false kinds_v4 quoted_v4 (slice_index octets 0) (slice_index octets 1) octets
 
 unfoldable pub icmpv6_message : List ℕ → Option (Message Ipv6Repr)
-icmpv6_message octets = message_of kinds_v6 quoted_v6 (slice_index octets 0) (slice_index octets 1) octets
+icmpv6_message octets = message_of true kinds_v6 quoted_v6 (slice_index octets 0) (slice_index octets 1) octets
 
 -- at least eight octets whose checksum, where it is tested, verifies
 abbrev pub is_message : Bool → ℕ → List ℕ → Bool

@@ -4,12 +4,13 @@ ghost use Rattle.ip_wire.specs.Checksum.{is_received, is_sent};
 ghost use Rattle.ip_wire.specs.Octets.{be16};
 ghost use Rattle.ip_wire.specs.Packet.{ipv4_octets, ipv6_octets};
 ghost use Rattle.ip_wire.specs.Sum.{complement, sum_after};
-ghost use Rattle.control_wire.specs.Icmp.{Exceeded, Unreachable, as_error, echo_octets, error_octets, icmp_len};
+ghost use Rattle.control_wire.specs.Icmp.{Exceeded, Problem, Unreachable, as_error, echo_octets, error_octets, icmp_len};
+ghost use Rattle.control_wire.specs.Icmp.{problem_octets};
 ghost use Rattle.control_wire.specs.Icmp.{icmpv4_message, icmpv4_octets, icmpv4_parsed, icmpv6_message};
 ghost use Rattle.control_wire.specs.Icmp.{icmpv6_octets, icmpv6_parsed, message_len, message_v4, message_v6};
 ghost use Rattle.control_wire.specs.Icmp.{quoted_v4, quoted_v6, seen, taken, v4_with, v6_start, v6_with};
 
-use ip_wire::octets::{be16, be16_at, behind, put, put_three, put_two, word};
+use ip_wire::octets::{be16, be16_at, be32_at, behind, put, put_three, put_two, word};
 use ip_wire::sum::{checksum_after, pseudo_sum, sum_after};
 use ip_wire::{ChecksumCapabilities, Error, IpAddress, IpRepr, Ipv4Repr, Ipv6Address, Ipv6Repr};
 
@@ -66,6 +67,14 @@ pub enum Icmpv6Repr<'a> {
     /// Type 3. The reason is the code.
     TimeExceeded {
         reason: u8,
+        header: Ipv6Repr,
+        body: &'a [u8],
+    },
+    /// Type 4 (RFC 4443, section 3.4). The reason is the code; the pointer says at which byte of the packet that is
+    /// quoted the problem is.
+    ParamProblem {
+        reason: u8,
+        pointer: u32,
         header: Ipv6Repr,
         body: &'a [u8],
     },
@@ -245,8 +254,9 @@ impl<'a> Icmpv6Repr<'a> {
         match self {
             Icmpv6Repr::EchoRequest { body, .. } | Icmpv6Repr::EchoReply { body, .. } => 8
                 + body.len(),
-            Icmpv6Repr::DstUnreachable { body, .. } | Icmpv6Repr::TimeExceeded { body, .. } => 48
-                + body.len(),
+            Icmpv6Repr::DstUnreachable { body, .. }
+            | Icmpv6Repr::TimeExceeded { body, .. }
+            | Icmpv6Repr::ParamProblem { body, .. } => 48 + body.len(),
         }
     }
 
@@ -295,12 +305,18 @@ impl<'a> Icmpv6Repr<'a> {
                 header,
                 body,
             } => { write_error(buffer, 3, *reason, &header_v6(header), body) }
+            Icmpv6Repr::ParamProblem {
+                reason,
+                pointer,
+                header,
+                body,
+            } => { write_problem(buffer, *reason, *pointer, &header_v6(header), body) }
         }
     }
 
     /// The message that the bytes spell.
     ///
-    /// An error unless there are 8 bytes of one of the four types, an echo has code 0, an error quotes a header of IPv6
+    /// An error unless there are 8 bytes of one of the five types, an echo has code 0, an error quotes a header of IPv6
     /// and at least 8 bytes behind it, and, where received checksums are tested, the checksum verifies. The lengths in
     /// a quoted header are not tested; its payload length is the count of bytes that are quoted behind it.
     pub fn parse(
@@ -341,6 +357,7 @@ impl<'a> Icmpv6Repr<'a> {
             }),
             (1, reason) => unreachable_v6(reason, body),
             (3, reason) => exceeded_v6(reason, body),
+            (4, reason) => problem_v6(reason, be32_at(bytes, 4) as u32, body),
             _ => Err(Error),
         }
     }
@@ -365,6 +382,20 @@ fn exceeded_v6(reason: u8, packet: &[u8]) -> Result<Icmpv6Repr<'_>, Error>
     match quoted_v6(packet) {
         Some((header, body)) => Ok(Icmpv6Repr::TimeExceeded {
             reason,
+            header,
+            body,
+        }),
+        None => Err(Error),
+    }
+}
+
+fn problem_v6(reason: u8, pointer: u32, packet: &[u8]) -> Result<Icmpv6Repr<'_>, Error>
+    ensures { seen message_v6 result ≡ as_error (Problem reason pointer) (quoted_v6 packet.now) }
+{
+    match quoted_v6(packet) {
+        Some((header, body)) => Ok(Icmpv6Repr::ParamProblem {
+            reason,
+            pointer,
             header,
             body,
         }),
@@ -418,6 +449,17 @@ fn write_error(buffer: &mut [u8], kind: u8, reason: u8, header: &[u8], body: &[u
     ensures length { length buffer.new ≡ length buffer.old }
 {
     put_three(buffer, &[kind, reason, 0, 0, 0, 0, 0, 0], header, body);
+}
+
+#[tactic(auto, using(crate::proofs::Messages::ends))]
+fn write_problem(buffer: &mut [u8], reason: u8, pointer: u32, header: &[u8], body: &[u8])
+    requires { length buffer.old ≡ 8 + length header.now + length body.now }
+    ensures value { buffer.new ≡ problem_octets 4 reason pointer header.now body.now 0 }
+    ensures length { length buffer.new ≡ length buffer.old }
+{
+    let [a, b] = be16((pointer >> 16) as usize);
+    let [c, d] = be16((pointer % 65536) as usize);
+    put_three(buffer, &[4, reason, 0, 0, a, b, c, d], header, body);
 }
 
 // Writes the checksum of the bytes as they are, and of what was summed before.

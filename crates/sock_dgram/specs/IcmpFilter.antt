@@ -6,7 +6,7 @@ use Rattle.ip_wire.specs.declared.address.IpAddress.{IpAddress}
 use Rattle.ip_wire.specs.declared.address.IpAddress.TheVariants as address
 use Rattle.ip_wire.specs.declared.repr.Ipv4Repr.{Ipv4Repr}
 use Rattle.ip_wire.specs.declared.repr.Ipv6Repr.{Ipv6Repr}
-use Rattle.control_wire.specs.Icmp.{Message, Request, Reply, Unreachable, Exceeded, message_len, icmpv4_octets}
+use Rattle.control_wire.specs.Icmp.{Message, Request, Reply, Unreachable, Exceeded, Problem, message_len, icmpv4_octets}
 use Rattle.control_wire.specs.Icmp.{icmpv6_octets}
 use Rattle.control_wire.specs.Source.{tcp_source, udp_source}
 use Rattle.ip_wire.specs.declared.checksum.Checksum.TheVariants as checksum
@@ -45,6 +45,7 @@ Accepts ends e f to (Request ident seq_no body) = TakesIdent e ident
 Accepts ends e f to (Reply ident seq_no body) = TakesIdent e ident
 Accepts ends e f to (Unreachable reason header body) = TakesError e f to (ends header) body
 Accepts ends e f to (Exceeded reason header body) = TakesError e f to (ends header) body
+Accepts ends e f to (Problem reason pointer header body) = ⊥
 
 -- ---- what is queued: the message with its checksum, and the address that it came from
 

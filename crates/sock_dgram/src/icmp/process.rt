@@ -84,7 +84,7 @@ impl<'a> Socket<'a> {
         }
     }
 
-    /// The same of a message over IPv6.
+    /// The same of a message over IPv6; of a parameter problem it never holds, as in smoltcp.
     pub fn accepts_v6<C: Context>(
         &self,
         cx: &C,
@@ -106,6 +106,7 @@ impl<'a> Socket<'a> {
                 IpAddress::Ipv6(header.dst_addr),
                 body,
             ),
+            Icmpv6Repr::ParamProblem { .. } => false,
         }
     }
 
