@@ -24,6 +24,7 @@ use Rattle.tcp_laws.specs.Loss.{FollowsSegment, IsInAny, Tells, una_moved}
 use Rattle.tcp_laws.specs.Telling.{TellsHeld}
 use Rattle.tcp_laws.proofs.Awake.{reached_by_own}
 use Rattle.tcp_laws.proofs.LossFollows.{scoreboard_follows}
+use Rattle.tcp_laws.proofs.Pointed.{IsPointed, reached_pointed, sent_near}
 use Rattle.tcp_laws.proofs.Receiving.{only_appends}
 use Rattle.tcp_laws.proofs.Ruled.{process_ruled}
 use Rattle.tcp_laws.proofs.Telling.{process_says}
@@ -55,7 +56,6 @@ use Rattle.sack_laws.proofs.Boards.{Placed, in_any, moves, placed, placed_number
 use Rattle.sack_laws.proofs.Events.{alike_grows}
 use Rattle.sack_laws.proofs.Growing.{AllOf, Follows, Grows, acts_storing, all_true, no_range, nothing_in, phase_is, same_scoreboard, told_at}
 use Rattle.sack_laws.proofs.Heard.{answer_true, has_accepted, has_none, hears_follows, may_keeps}
-use Rattle.sack_laws.proofs.Pointed.{IsPointed, reached_pointed, sent_near}
 
 -- ---- states and phases
 

@@ -2,6 +2,5 @@ pub mod Growing
 pub mod Events
 pub mod Heard
 pub mod Boards
-pub mod Pointed
 pub mod Deliveries
 pub mod Steps

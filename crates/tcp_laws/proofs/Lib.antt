@@ -34,5 +34,6 @@ pub mod Speaking
 pub mod LossSaid
 pub mod Telling
 pub mod LossFollows
+pub mod Pointed
 pub mod OwnWindows
 pub mod OlderWindows

@@ -16,7 +16,7 @@ use Rattle.sock_tcp.specs.Arrival.{Arrival, arrival}
 use Rattle.sock_tcp.specs.Process.{after_advance, by_verdict, close_restarted, cut_inside, has_window, processed_by, processed_inside, tested_by, tuple_of}
 use Rattle.sock_tcp.specs.Replies.{ack_kept}
 use Rattle.sock_tcp.specs.Rfc.Checks.{verdict_by}
-use Rattle.sock_tcp.specs.Rfc.Recovery.{before_of, recovered, recovered_by}
+use Rattle.sock_tcp.specs.Rfc.Recovery.{recovered, recovered_by}
 use Rattle.sock_tcp.specs.Rfc.Refused.{refused}
 use Rattle.sock_tcp.specs.Rfc.Windows.{field_kept, is_newer, is_newer_by, told_by, windowed}
 use Rattle.sock_tcp.specs.Scale.{scale_of}

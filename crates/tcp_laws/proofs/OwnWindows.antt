@@ -1,11 +1,11 @@
 -- Which window a socket tells, and which number it sends, by the RFCs' rules.
-use Rattle.std.proofs.Common.{◌≡◌, ℕ, ◌+◌, ◌-◌, ◌*◌, ◌/◌, ◌^◌, ◌<◌, ◌≤◌, Bool, true, false, true≢false, not, ◌&&◌, refl, sym, ap, subst, ◌∙◌, length, min, Some, arith, div-mul-le_self, mul-le-mul_right}
+use Rattle.std.proofs.Common.{◌≡◌, ℕ, ◌+◌, ◌-◌, ◌*◌, ◌/◌, ◌^◌, ◌<◌, ◌≤◌, Bool, true, false, not, ◌&&◌, refl, sym, ap, subst, ◌∙◌, length, min, arith, div-mul-le_self, mul-le-mul_right}
 use Rattle.std.specs.Prelude.{if◌then◌else◌, ◌==◌, nat_le}
 use Rattle.std.proofs.Math.Nat.{lt-div-mul-add}
-use Rattle.std.proofs.lemmas.Bool.{and_left, and_right, eq-eqb, leb-true, leb-false, lt-leb}
+use Rattle.std.proofs.lemmas.Bool.{and_right, eq-eqb, leb-true, leb-false, lt-leb}
 use Rattle.std.proofs.lemmas.Bool.Decides.{nat_tests}
 use Rattle.std.proofs.lemmas.Nat.{pow_pos}
-use Rattle.control_wire.specs.Segment.{Segment, segment_len}
+use Rattle.control_wire.specs.Segment.{segment_len}
 use Rattle.control_wire.specs.Seq.{seq_add, seq_sub}
 use Rattle.control_wire.specs.declared.seq_number.TcpSeqNumber.{TcpSeqNumber}
 use Rattle.sock_core.specs.Received.{room_of}
@@ -24,11 +24,10 @@ use Rattle.sock_tcp.specs.declared.rules.Rules.TheVariants as rules
 use Rattle.sock_tcp.specs.declared.state.State.{State}
 use Rattle.sock_tcp.specs.declared.state.State.TheVariants as state
 use Rattle.sock_tcp.specs.declared.timer.Timer.{Timer}
-use Rattle.sock_tcp.specs.declared.timer.Timer.TheVariants as timer
 use Rattle.net_base.specs.declared.time.Duration.{Duration}
 use Rattle.std.specs.Prelude.{Option}
-use Rattle.tcp_laws.specs.Polling.{IsReached}
-use Rattle.tcp_laws.specs.Windows.{IsNumbered, IsSmallGrowth, NoWindowByBytes, NumberIsNotBehind, OpenedWindowIsTold, RightEdgeStays}
+use Rattle.tcp_laws.proofs.Pointed.{IsNumbered, numbered_of, reached_pointed}
+use Rattle.tcp_laws.specs.Windows.{IsSmallGrowth, NoWindowByBytes, NumberIsNotBehind, OpenedWindowIsTold, RightEdgeStays}
 use Rattle.tcp_laws.proofs.Ordered.{IsOrdered, Row}
 use Rattle.tcp_laws.proofs.OrderedCalls.{reached_ordered}
 use Rattle.tcp_laws.proofs.SocketSteps.{holds_after}
@@ -176,12 +175,15 @@ module _ (una nxt : TcpSeqNumber) (una_small : una.0 < 2 ^ 32) (nxt_small : nxt.
   not_behind m more most = is_not_before (seq_add una m) nxt (omega (arith, more, most, una_small, nxt_small))
 
 pub number_is_not_behind : NumberIsNotBehind
-number_is_not_behind v s r numbers is not_closed synchronized none =
+number_is_not_behind v s r is not_closed synchronized none =
     ap (λ n. is_before n v.remote_last_seq) number
     ∙ not_behind v.local_seq_no v.remote_last_seq o.una_small o.nxt_small few (min (sent_of v) (length v.tx_buffer.bytes + 1)) (omega (arith, highest_further v.local_seq_no v.remote_last_seq o.una_small o.nxt_small few v.recovery numbers, within)) (omega (arith, o.room))
   where
     o : IsOrdered v
     o = reached_ordered v r
+
+    numbers : IsNumbered v.recovery
+    numbers = numbered_of v.recovery (reached_pointed v r).1
 
     within : flight v ≤ length v.tx_buffer.bytes + 1
     within = flight_within v.state v.timer v.keep_alive (flight v) (length v.tx_buffer.bytes) not_closed synchronized o.row

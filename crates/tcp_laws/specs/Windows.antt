@@ -16,8 +16,6 @@ use Rattle.sock_tcp.specs.Steps.{heard}
 use Rattle.sock_tcp.specs.View.{View}
 use Rattle.sock_tcp.specs.Window.{has_window}
 use Rattle.sock_tcp.specs.declared.acked.Acked.{Acked}
-use Rattle.sock_tcp.specs.declared.recovery.Recovery.{Recovery}
-use Rattle.sock_tcp.specs.declared.recovery.Recovery.TheVariants as recovery
 use Rattle.sock_tcp.specs.declared.rules.Rules.TheVariants as rules
 use Rattle.tcp_laws.specs.Polling.{IsReached}
 
@@ -63,18 +61,11 @@ OlderWindowIsNotTaken = (v : View) (now : Instant) (word : ℕ) (ip : IpRepr) (s
     ≤ v.remote_win_len - (acked_of v s.control s.ack_number).len)
     × ((processed v now word ip s).view.remote_win_len ≤ v.remote_win_len)
 
--- the recovery point is a number of 32 bits, as in each socket
-abbrev pub IsNumbered : Recovery → Type 0
-IsNumbered (recovery.Fast point high_rxt resent_at) = point.0 < 2 ^ 32
-IsNumbered (recovery.Timeout point) = point.0 < 2 ^ 32
-IsNumbered _ = Unit {0}
-
 -- What takes no number has one that does not lie before SND.NXT, though that went back; where the own SYN was sent, and
 -- the socket is not closed
 abbrev pub NumberIsNotBehind : Type 0
 NumberIsNotBehind = (v : View) (s : Segment)
     → IsReached v
-    → IsNumbered v.recovery
     → v.rules ≡ rules.Rfc
     → is_closed v.state ≡ false
     → has_window v.state ≡ true

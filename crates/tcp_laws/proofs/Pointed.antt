@@ -55,6 +55,18 @@ fits _ = true
 abbrev pub IsPointed : View → Type 0
 IsPointed v = IsOrdered v × (fits v.recovery ≡ true)
 
+-- in other words
+abbrev pub IsNumbered : Recovery → Type 0
+IsNumbered (recovery.Fast point high_rxt resent_at) = point.0 < 2 ^ 32
+IsNumbered (recovery.Timeout point) = point.0 < 2 ^ 32
+IsNumbered _ = Unit {0}
+
+pub numbered_of : (r : Recovery) → fits r ≡ true → IsNumbered r
+numbered_of recovery.Open f = tt
+numbered_of (recovery.Probe start end) f = tt
+numbered_of (recovery.Fast point high_rxt resent_at) f = ltb-true point.0 (2 ^ 32) f
+numbered_of (recovery.Timeout point) f = ltb-true point.0 (2 ^ 32) f
+
 is_small : (n : TcpSeqNumber) → n.0 < 2 ^ 32 → nat_lt n.0 (2 ^ 32) ≡ true
 is_small n h = grind (arith, nat_tests, h)
 
