@@ -1,15 +1,16 @@
 //! A first program: a client asks, a server answers in capitals, and each closes. Packets pass as bytes, in memory.
 #![tactic(auto)]
 
-ghost use Rattle.std.specs.Prelude.{◌≤◌, length};
+ghost use Rattle.std.specs.Prelude.{◌==◌};
 
-use net_host::{Interface, IpCidr, Secret, SocketHandle, SocketSet};
+use net_host::{Device, Interface, IpCidr, Secret, SocketHandle, SocketSet};
 use smoltcp_socket::Socket;
 use smoltcp_socket::storage::RingBuffer;
 use smoltcp_socket::tcp::{self, State};
 use smoltcp_socket::time::Instant;
 use smoltcp_socket::wire::{IpAddress, IpEndpoint, IpListenEndpoint, Ipv4Address};
 use std::alloc::AllocError;
+use std::mem;
 use std::process::ExitCode;
 
 const CLIENT: IpAddress = IpAddress::Ipv4(Ipv4Address([10, 0, 0, 1]));
@@ -26,6 +27,7 @@ struct Host<S> {
     interface: Interface<Secret>,
     sockets: S,
     handle: SocketHandle,
+    port: Port,
 }
 
 type OneSocket<'a> = Host<SocketSet<'a>>;
@@ -74,6 +76,7 @@ impl<'a> Host<SocketSet<'a>> {
             interface: Interface::new(addresses, Secret::new([7; 32])),
             sockets,
             handle,
+            port: Port::new(),
         })
     }
 }
@@ -85,8 +88,9 @@ fn run(rt: &HostRuntime, mut client: OneSocket<'_>, mut server: OneSocket<'_>) {
     for millis in 0..LONGEST {
         let now = Instant::from_micros(i64::from(millis) * 1000);
         let open = ask(rt, &mut client) | answer(rt, &mut server);
-        pass(&mut client, &mut server, now);
-        pass(&mut server, &mut client, now);
+        poll(&mut client, now);
+        poll(&mut server, now);
+        pass(&mut client.port, &mut server.port);
         if !open {
             break;
         }
@@ -104,6 +108,7 @@ fn connect(host: &mut OneSocket<'_>) {
         interface,
         sockets,
         handle,
+        ..
     } = host;
     let remote = IpEndpoint {
         addr: SERVER,
@@ -159,30 +164,81 @@ fn show(rt: &HostRuntime, who: &str, bytes: &[u8]) {
     }
 }
 
-// 4. What is due at one host arrives at the other, and what that answers comes back.
-fn pass(from: &mut OneSocket<'_>, to: &mut OneSocket<'_>, now: Instant) {
-    let (mut packet, mut reply) = ([0u8; 1500], [0u8; 1500]);
-    let count = emit(from, now, &mut packet);
-    if count > 0 {
-        let count = receive(to, now, &packet[..count], &mut reply);
-        if count > 0 {
-            receive(from, now, &reply[..count], &mut packet);
+// 4. What carries the packets: one that arrived, and one that was sent. Nothing is told of its calls.
+#[derive(Drop)]
+struct Port {
+    arrived: Packet,
+    sent: Packet,
+}
+
+#[derive(Drop)]
+struct Packet {
+    bytes: [u8; 1500],
+    len: usize,
+}
+
+impl Packet {
+    fn none() -> Packet {
+        Packet {
+            bytes: [0; 1500],
+            len: 0,
         }
     }
 }
 
-fn emit(host: &mut OneSocket<'_>, now: Instant, packet: &mut [u8]) -> usize
-    ensures { result ≤ length packet.old }
-{
-    host.interface
-        .emit(&mut host.sockets, now, packet)
-        .unwrap_or(0)
+impl Port {
+    fn new() -> Port {
+        Port {
+            arrived: Packet::none(),
+            sent: Packet::none(),
+        }
+    }
 }
 
-fn receive(host: &mut OneSocket<'_>, now: Instant, packet: &[u8], reply: &mut [u8]) -> usize
-    ensures { result ≤ length reply.old }
-{
-    host.interface
-        .receive(&mut host.sockets, now, packet, reply)
-        .unwrap_or(0)
+impl Device for Port {
+    ghost mtu = { λ port. 1500 };
+
+    ghost has_room = { λ port. port.sent.len == 0 };
+
+    ghost receives = { λ before n packet after. Unit {0} };
+
+    ghost transmits = { λ before packet after. Unit {0} };
+
+    fn max_transmission_unit(&self) -> usize {
+        1500
+    }
+
+    fn has_room(&self) -> bool {
+        self.sent.len == 0
+    }
+
+    fn receive(&mut self, packet: &mut [u8]) -> usize {
+        let len = self.arrived.len.min(1500).min(packet.len());
+        packet[..len].copy_from_slice(&self.arrived.bytes[..len]);
+        self.arrived.len = 0;
+        len
+    }
+
+    fn transmit(&mut self, packet: &[u8]) {
+        let len = packet.len().min(1500);
+        self.sent.bytes[..len].copy_from_slice(&packet[..len]);
+        self.sent.len = len;
+    }
+}
+
+fn poll(host: &mut OneSocket<'_>, now: Instant) {
+    let (mut packet, mut reply) = ([0u8; 1500], [0u8; 1500]);
+    let _ = host.interface.poll(
+        &mut host.sockets,
+        now,
+        &mut host.port,
+        &mut packet,
+        &mut reply,
+    );
+}
+
+// What one host sent arrives at the other.
+fn pass(a: &mut Port, b: &mut Port) {
+    mem::swap(&mut a.sent, &mut b.arrived);
+    mem::swap(&mut b.sent, &mut a.arrived);
 }

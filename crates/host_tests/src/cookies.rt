@@ -1,13 +1,15 @@
 //! A connection that begins with a cookie.
 
-use crate::hosts::{CLIENT, Host, OneSocket, SERVER, connect, emit, listen, receive, state};
+use crate::hosts::{
+    CLIENT, Host, OneSocket, SERVER, connect, emit, listen, receive, say, state, waiting,
+};
 use net_host::SynCookies;
 use smoltcp_socket::storage::RingBuffer;
 use smoltcp_socket::tcp::{self, State};
 use std::alloc::AllocError;
 
-// What came of cookies, and the state of the socket.
-fn told(host: &OneSocket<'_>) -> ([u64; 3], Option<State>) {
+// What came of cookies, the state of the socket, and how many bytes wait there to be read.
+fn told(host: &OneSocket<'_>) -> ([u64; 3], Option<State>, usize) {
     let counters = host.interface.counters();
     (
         [
@@ -16,16 +18,19 @@ fn told(host: &OneSocket<'_>) -> ([u64; 3], Option<State>) {
             counters.cookies_wrong,
         ],
         state(host),
+        waiting(host),
     )
 }
 
-// The client's SYN is answered, and no socket takes it; its acknowledgement, at that moment, opens one.
+// The client's SYN is answered, and no socket takes it; its acknowledgement, with two bytes and at that moment, opens
+// one.
 fn opens(client: &mut OneSocket<'_>, server: &mut OneSocket<'_>, heard: u8) -> bool {
     let (mut packet, mut reply) = ([0u8; 1500], [0u8; 1500]);
     let count = emit(client, 0, &mut packet);
     let count = receive(server, 1, &packet[..count], &mut reply);
-    let waits = told(server) == ([1, 0, 0], Some(State::Listen));
+    let waits = told(server) == ([1, 0, 0], Some(State::Listen), 0);
     receive(client, 1, &reply[..count], &mut packet);
+    say(client, b"hi");
     let count = emit(client, 1, &mut packet);
     receive(server, heard, &packet[..count], &mut reply);
     waits
@@ -37,7 +42,7 @@ fn run(
     server: tcp::Socket<'_>,
     kept_from: usize,
     heard: u8,
-) -> Result<(bool, [u64; 3], Option<State>), AllocError> {
+) -> Result<(bool, [u64; 3], Option<State>, usize), AllocError> {
     let mut client = Host::new(rt, CLIENT, client)?;
     let mut server = Host::new(rt, SERVER, server)?;
     let cookies = SynCookies::new([9; 32], kept_from);
@@ -45,15 +50,15 @@ fn run(
     listen(&mut server);
     connect(&mut client);
     let waits = opens(&mut client, &mut server, heard);
-    let (counts, state) = told(&server);
-    Ok((waits, counts, state))
+    let (counts, state, bytes) = told(&server);
+    Ok((waits, counts, state, bytes))
 }
 
 fn came(
     rt: &HostRuntime,
     kept_from: usize,
     heard: u8,
-) -> Result<(bool, [u64; 3], Option<State>), AllocError> {
+) -> Result<(bool, [u64; 3], Option<State>, usize), AllocError> {
     let (mut rx_a, mut tx_a) = ([0u8; 64], [0u8; 64]);
     let (mut rx_b, mut tx_b) = ([0u8; 64], [0u8; 64]);
     let client = tcp::Socket::new(RingBuffer::new(&mut rx_a), RingBuffer::new(&mut tx_a));
@@ -62,19 +67,19 @@ fn came(
 }
 
 #[test]
-fn a_cookie_opens_a_connection(rt: HostRuntime) -> Result<(), AllocError> {
-    assert!(rt; came(&rt, 0, 64)? == (true, [1, 1, 0], Some(State::Established)));
+fn a_cookie_opens_a_connection_that_takes_bytes_at_once(rt: HostRuntime) -> Result<(), AllocError> {
+    assert!(rt; came(&rt, 0, 64)? == (true, [1, 1, 0], Some(State::Established), 2));
     Ok(())
 }
 
 #[test]
 fn an_old_cookie_opens_none(rt: HostRuntime) -> Result<(), AllocError> {
-    assert!(rt; came(&rt, 0, 200)? == (true, [1, 0, 1], Some(State::Listen)));
+    assert!(rt; came(&rt, 0, 200)? == (true, [1, 0, 1], Some(State::Listen), 0));
     Ok(())
 }
 
 #[test]
 fn an_open_place_takes_the_syn(rt: HostRuntime) -> Result<(), AllocError> {
-    assert!(rt; came(&rt, 1, 2)? == (false, [0, 0, 0], Some(State::SynReceived)));
+    assert!(rt; came(&rt, 1, 2)? == (false, [0, 0, 0], Some(State::SynReceived), 0));
     Ok(())
 }

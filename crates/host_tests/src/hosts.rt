@@ -78,6 +78,20 @@ pub(crate) fn state(host: &OneSocket<'_>) -> Option<State> {
     }
 }
 
+/// How many bytes wait to be read.
+pub(crate) fn waiting(host: &OneSocket<'_>) -> usize {
+    match host.sockets.get(host.handle) {
+        Some(Socket::Tcp(socket)) => socket.recv_queue(),
+        _ => 0,
+    }
+}
+
+pub(crate) fn say(host: &mut OneSocket<'_>, bytes: &[u8]) {
+    if let Some(socket) = host.sockets.tcp_mut(host.handle) {
+        let _ = socket.send_slice(bytes);
+    }
+}
+
 /// So many seconds after the start.
 fn at(seconds: u8) -> Instant {
     Instant::from_micros(i64::from(seconds) * 1_000_000)

@@ -4,4 +4,6 @@
 #[cfg(test)]
 mod cookies;
 #[cfg(test)]
+mod devices;
+#[cfg(test)]
 mod hosts;

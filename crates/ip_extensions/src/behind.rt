@@ -1,6 +1,7 @@
 //! What stands behind the extension headers of a packet.
 ghost use Rattle.std.specs.Prelude.{◌≡◌, ◌≤◌, drop, length, option_map, slice_index, None};
-ghost use Rattle.ip_extensions.specs.Headers.{behind_headers, behind_of, decided, header_len, is_passed, is_routed, read};
+ghost use Rattle.ip_extensions.specs.Headers.{behind_headers, behind_of, decided, header_len, is_passed};
+ghost use Rattle.ip_extensions.specs.Headers.{is_routed, read};
 
 /// At most so many extension headers are passed over.
 pub const MOST_HEADERS: usize = 4;

@@ -24,3 +24,4 @@ pub mod KeptKeys
 pub mod KeptSleep
 pub mod CookieAnswers
 pub mod Believed
+pub mod Polled

@@ -1,6 +1,6 @@
 -- SYN cookies: who is answered without a socket, and whose answer is believed (RFC 4987, section 3.6).
-use Rattle.std.specs.Prelude.{ℕ, ℤ, ◌≡◌, ◌+◌, ◌<◌, ◌-◌, ◌⊎◌, min, nat_le, List, Option, Some, None, IfSome, option_map, slice_get}
-use Rattle.std.specs.Prelude.{Bool, true, false, ◌&&◌}
+use Rattle.std.specs.Prelude.{ℕ, ℤ, ◌≡◌, ◌+◌, ◌<◌, ◌-◌, ◌⊎◌, min, nat_le, List, Option, Some, None}
+use Rattle.std.specs.Prelude.{Bool, true, false, ◌&&◌, Result, IfSome, option_map, slice_get}
 use Rattle.ip_wire.specs.IpHeader.{dst_addr_of, src_addr_of}
 use Rattle.ip_wire.specs.declared.repr.IpRepr.{IpRepr}
 use Rattle.control_wire.specs.Segment.{Segment, bare_segment}
@@ -24,6 +24,7 @@ use Rattle.smoltcp_socket.specs.declared.socket.Socket.{Socket}
 use Rattle.smoltcp_socket.specs.declared.socket.Socket.TheVariants as socket
 use Rattle.net_host.specs.Resting.{anew, is_opening}
 use Rattle.net_host.specs.Segments.{HearsAt, IsTaker, TakenBy, TakesSegment, as_is}
+use Rattle.net_host.specs.Unsent.{PassesAt}
 use Rattle.net_host.specs.Wire.{reply_len, with_reply}
 use Rattle.net_host.specs.declared.cookies.Course.{Course}
 use Rattle.net_host.specs.declared.cookies.Course.TheVariants as course
@@ -32,6 +33,7 @@ use Rattle.net_host.specs.declared.limit.Limit.{Limit}
 use Rattle.net_host.specs.declared.segments.Taker.{Taker}
 use Rattle.net_host.specs.declared.segments.Taker.TheVariants as taker
 use Rattle.net_host.specs.declared.slot.Slot.{Slot}
+use Rattle.net_host.specs.declared.wire.TooShort.{TooShort}
 
 -- ---- the segment and its SYN
 
@@ -138,14 +140,19 @@ abbrev pub word_told : {C : Type 0} → Told C → ℕ → ℕ
 word_told t k = t.word
 
 module _ {C G : Type 0} (facts : C → Facts) (word_at : C → ℕ → ℕ) (tells : G → ℕ → Type 0) where
-  -- the slot at i, made ready for it, hears the SYN and draws this number
+  -- the slot at i, made ready for it, hears the SYN and draws this number; and as the host has sent its SYN|ACK, it
+  -- dispatches that into nothing
   pub record HearsSyn (ready : View → View) (ss : List (Slot G)) (i : ℕ) (cx : C) (number : ℕ) (ip : IpRepr)
       (s : Segment) (ts : List (Slot G)) : Type 0 where
     pub told : Told C
     pub as_told : (facts told.cx.now ≡ facts cx) × (told.word ≡ number)
     pub left : Told C
     pub reply : Option (IpRepr × TcpRepr)
-    pub heard : HearsAt (facts_told facts) word_told tells ready ss i told ip s reply ts left
+    pub opened : List (Slot G)
+    pub heard : HearsAt (facts_told facts) word_told tells ready ss i told ip s reply opened left
+    pub answer : Result (Unit {0}) TooShort
+    pub last : Told C
+    pub passed : PassesAt (facts_told facts) tells opened i left answer ts last
 
   -- the slot at i hears the segment, if its socket takes it
   abbrev pub HearsIf : List (Slot G) → ℕ → C → IpRepr → Segment → Option (IpRepr × TcpRepr) → List (Slot G) → C

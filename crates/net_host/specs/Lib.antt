@@ -17,6 +17,7 @@ pub mod Looking
 pub mod Messages
 pub mod Moments
 pub mod Passing
+pub mod Polling
 pub mod RawCopies
 pub mod Receiving
 pub mod Resting
@@ -29,6 +30,7 @@ pub mod Slots
 pub mod Speaking
 pub mod Turns
 pub mod Unreachable
+pub mod Unsent
 pub mod Walks
 pub mod Watching
 pub mod Wire

@@ -1,14 +1,15 @@
 -- What tells a sender that nobody takes its packet.
-use Rattle.std.specs.Prelude.{ℕ, ◌≡◌, ◌+◌, ◌-◌, min, Bool, not, ◌&&◌, if◌then◌else◌, List, length, take, Option, Some}
-use Rattle.std.specs.Prelude.{None, is_some}
+use Rattle.std.specs.Prelude.{ℕ, ◌≡◌, ◌+◌, ◌-◌, min, Bool, not, ◌==◌, ◌&&◌, if◌then◌else◌, List, length, take}
+use Rattle.std.specs.Prelude.{Option, Some, None, is_some}
 use Rattle.ip_wire.specs.IpHeader.{dst_addr_of}
+use Rattle.ip_wire.specs.Protocol.{number_of}
 use Rattle.ip_wire.specs.declared.protocol.IpProtocol.TheVariants as protocol
 use Rattle.ip_wire.specs.declared.repr.IpRepr.{IpRepr}
 use Rattle.ip_wire.specs.declared.repr.IpRepr.TheVariants as header
 use Rattle.ip_wire.specs.declared.repr.Ipv4Repr.{Ipv4Repr}
 use Rattle.ip_wire.specs.declared.repr.Ipv6Repr.{Ipv6Repr}
 use Rattle.net_base.specs.declared.time.Instant.{Instant}
-use Rattle.control_wire.specs.Icmp.{Unreachable}
+use Rattle.control_wire.specs.Icmp.{Problem, Unreachable}
 use Rattle.sock_core.specs.Facts.{Facts}
 use Rattle.sock_dgram.specs.Raw.{Accepts}
 use Rattle.sock_tcp.specs.View.{moment_of}
@@ -42,23 +43,31 @@ error_v4 code h body =
       hop_limit = 64;
     }) (Unreachable code h body)
 
-abbrev pub error_v6 : ℕ → Ipv6Repr → List ℕ → AnyMail
-error_v6 code h body =
-    OverV6 (record {
-      src_addr = h.dst_addr;
-      dst_addr = h.src_addr;
-      next_header = protocol.Icmpv6;
-      payload_len = 48 + length body;
-      hop_limit = 64;
-    }) (Unreachable code h body)
+-- the header of an error that quotes this one, and so many octets behind it
+abbrev pub header_v6 : Ipv6Repr → List ℕ → Ipv6Repr
+header_v6 h body = record {
+  src_addr = h.dst_addr;
+  dst_addr = h.src_addr;
+  next_header = protocol.Icmpv6;
+  payload_len = 48 + length body;
+  hop_limit = 64;
+}
 
--- RFC 792: 2 for the protocol, 3 for the port; RFC 4443, section 3.1: 4 for the port. A protocol over IPv6 would be a
--- parameter problem, and gets none
+abbrev pub error_v6 : ℕ → Ipv6Repr → List ℕ → AnyMail
+error_v6 code h body = OverV6 (header_v6 h body) (Unreachable code h body)
+
+-- a next header that is not known: code 1, and the pointer at the octet that names it, which is the seventh of what is
+-- quoted (RFC 4443, section 3.4; RFC 8200, section 4); none for 59, behind which nothing stands (RFC 8200, section 4.7)
+abbrev pub problem_of : Ipv6Repr → List ℕ → Option AnyMail
+problem_of h body =
+    if number_of h.next_header == 59 then None else Some (OverV6 (header_v6 h body) (Problem 1 6 h body))
+
+-- RFC 792: 2 for the protocol, 3 for the port; RFC 4443, section 3.1: 4 for the port
 abbrev pub error_of : Unmet → IpRepr → List ℕ → ℕ → Option AnyMail
 error_of unmet.Port (header.Ipv4 h) octets mtu = Some (error_v4 3 h (quoted_v4 octets mtu))
 error_of unmet.Protocol (header.Ipv4 h) octets mtu = Some (error_v4 2 h (quoted_v4 octets mtu))
 error_of unmet.Port (header.Ipv6 h) octets mtu = Some (error_v6 4 h (quoted_v6 octets mtu))
-error_of unmet.Protocol (header.Ipv6 h) octets mtu = None
+error_of unmet.Protocol (header.Ipv6 h) octets mtu = problem_of h (quoted_v6 octets mtu)
 
 -- ---- who gets it
 

@@ -15,6 +15,7 @@ use crate::replies::put_reply;
 use crate::segments::{Taker, hear_anew_at, hear_at, take_segment, who_takes};
 use crate::set::SocketSet;
 use crate::slot::Slot;
+use crate::unsent::pass_at;
 use host_cookies::SynCookies;
 use smoltcp_socket::Context;
 use smoltcp_socket::wire::{IpRepr, TcpRepr};
@@ -60,7 +61,8 @@ fn who_opens<C: Context, G: TsvalSource>(
     who_takes(sockets, cx, ip, &syn)
 }
 
-// The socket at this place hears the SYN, and draws this number.
+// The socket at this place hears the SYN, and draws this number. Its SYN|ACK has gone out: that it has told its window,
+// and so takes what the peer sends right behind its acknowledgement, the socket learns by a dispatch into nothing.
 fn open_with<C: Context, G: TsvalSource>(
     sockets: &mut SocketSet<'_, G>,
     i: usize,
@@ -78,6 +80,7 @@ fn open_with<C: Context, G: TsvalSource>(
 {
     let mut told = Told { cx, word: number };
     hear_at(sockets, i, &mut told, true, ip, syn);
+    let _ = pass_at(sockets, i, &mut told);
 }
 
 // The same of a socket in TIME-WAIT, which listens again.
@@ -99,6 +102,7 @@ fn open_anew_with<C: Context, G: TsvalSource>(
 {
     let mut told = Told { cx, word: number };
     hear_anew_at(sockets, i, &mut told, ip, syn);
+    let _ = pass_at(sockets, i, &mut told);
 }
 
 fn takes_there<C: Context, G: TsvalSource>(

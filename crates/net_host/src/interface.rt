@@ -55,16 +55,18 @@ impl<W: Words> Interface<W> {
     /// Takes an IP packet that arrives at this moment, and answers how long the packet is that answers it, at the
     /// beginning of `reply`; 0 where none does.
     ///
-    /// The first row that fits: a packet that is malformed or a fragment, or has a source that no single other host has,
-    /// or another destination than an address of the interface, a broadcast or a group that was joined, is dropped and
-    /// counted. Hop-by-hop, destination and routing headers of IPv6 are passed over, four at most (RFC 8200, section 4);
-    /// of a routing header with segments left the packet is dropped. Of any other packet each raw socket that accepts
-    /// it takes a copy. Then what goes to a broadcast or a group and carries no UDP datagram is dropped, and another
-    /// protocol than TCP, UDP and ICMP, of which the sender is told over IPv4 (RFC 1122, section 3.2.2.1). A segment
-    /// goes to the first connection that accepts it, in the order of handles, else to the first socket that listens and
-    /// accepts it. With SYN cookies (RFC 4987, section 3.6) a SYN for which only a socket that is kept listens is
-    /// answered, and no socket takes it; the acknowledgement of that answer, within 64 seconds, takes a socket, which
-    /// hears the SYN as it was told again, and then the acknowledgement. One for no socket is answered by an RST (RFC 9293, section 3.10.7.1), unless it is one, at most
+    /// The first row that fits: a packet that is malformed or a fragment, or has a source that no single other host
+    /// has, or another destination than an address of the interface, a broadcast or a group that was joined, is dropped
+    /// and counted. Hop-by-hop, destination and routing headers of IPv6 are passed over, four at most (RFC 8200,
+    /// section 4); of a routing header with segments left the packet is dropped. Of any other packet each raw socket
+    /// that accepts it takes a copy. Then what goes to a broadcast or a group and carries no UDP datagram is dropped,
+    /// and another protocol than TCP, UDP and ICMP, of which the sender is told (RFC 1122, section 3.2.2.1; RFC 4443,
+    /// section 3.4), but not of 59 over IPv6, behind which nothing stands (RFC 8200, section 4.7). A segment goes to
+    /// the first connection that accepts it, in the order of handles, else to the first socket that listens and accepts
+    /// it. With SYN cookies (RFC 4987, section 3.6) a SYN for which only a socket that is kept listens is answered, and
+    /// no socket takes it; the acknowledgement of that answer, within 64 seconds, takes a socket, which hears the SYN
+    /// as it was told again, dispatches its SYN|ACK into nothing, as that has gone out, and then hears the
+    /// acknowledgement. One for no socket is answered by an RST (RFC 9293, section 3.10.7.1), unless it is one, at most
     /// `ANSWERS_A_SECOND` times a second. A datagram goes to the first UDP socket that accepts it; of one that none
     /// does the sender is told by an ICMP error (RFC 1122, section 4.1.3.1; RFC 4443, section 3.1). Errors go out for
     /// packets to an own address that no raw socket takes, at most `ANSWERS_A_SECOND` times a second, and fit the MTU.
@@ -93,7 +95,7 @@ impl<W: Words> Interface<W> {
         Ok(self.receive_at(sockets, now, packet, reply))
     }
 
-    fn receive_at<G: TsvalSource>(
+    pub(crate) fn receive_at<G: TsvalSource>(
         &mut self,
         sockets: &mut SocketSet<'_, G>,
         now: Instant,

@@ -6,8 +6,8 @@ ghost use Rattle.net_host.specs.Counts.{counted};
 ghost use Rattle.ip_wire.specs.IpHeader.{dst_addr_of};
 ghost use Rattle.host_groups.specs.Joining.{has_group};
 ghost use Rattle.net_host.specs.Passing.{passed};
-ghost use Rattle.net_host.specs.Receiving.{ByAddresses, ByKind, ByPassed, IfShort, TakesDatagramOf, TakesOther, TakesPacket};
-ghost use Rattle.net_host.specs.Receiving.{TellsIf};
+ghost use Rattle.net_host.specs.Receiving.{ByAddresses, ByKind, ByPassed, IfShort, TakesDatagramOf, TakesOther};
+ghost use Rattle.net_host.specs.Receiving.{TakesPacket, TellsIf};
 ghost use Rattle.net_host.specs.Receiving.{TakesCarried, TakesIcmp, TakesMail, TakesSegment, TakesTcp, TakesUdp};
 ghost use Rattle.net_host.specs.Receiving.{counted_again, counted_for, counted_if, counted_on, datagram_in};
 ghost use Rattle.net_host.specs.Messages.{mail_of};
@@ -99,7 +99,8 @@ impl<W: Words> Interface<W> {
         ensures within { result ≤ length out.old }
         ensures table { ByAddresses ⟦<IpAddress as PartialEq>⟧.eq W.word_at G.tells
             (refusal (facts_by ⟦<IpAddress as PartialEq>⟧.eq self.old.inner.environment)
-            (has_group ⟦<IpAddress as PartialEq>⟧.eq self.old.groups (dst_addr_of ip.now)) ip.now) ip.now bytes.now self.old sockets.old.slots.items out.old result self.new sockets.new.slots.items out.new }
+            (has_group ⟦<IpAddress as PartialEq>⟧.eq self.old.groups (dst_addr_of ip.now)) ip.now) ip.now bytes.now
+            self.old sockets.old.slots.items out.old result self.new sockets.new.slots.items out.new }
     {
         let joined = self.has_joined(ip);
         match refusal(&self.inner, joined, ip) {

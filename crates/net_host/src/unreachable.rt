@@ -2,7 +2,8 @@
 ghost use Rattle.std.specs.Prelude.{◌≡◌, ◌≤◌, ◌↔◌, ◌&&◌, IsTrue, is_some, length, min, option_map};
 ghost use Rattle.net_host.specs.Limits.{allows};
 ghost use Rattle.net_host.specs.Messages.{answer_len, if_short, mail_of, with_answer};
-ghost use Rattle.net_host.specs.Unreachable.{TakesRaw, TellsOf, error_of, error_v4, error_v6, quoted_v4, quoted_v6};
+ghost use Rattle.net_host.specs.Unreachable.{TakesRaw, TellsOf, error_of, error_v4, error_v6, header_v6};
+ghost use Rattle.net_host.specs.Unreachable.{problem_of, quoted_v4, quoted_v6};
 ghost use Rattle.net_host.specs.Walks.{Finds};
 ghost use Rattle.net_host.specs.Unreachable.{spent_for, told_within, wanted};
 
@@ -29,8 +30,7 @@ const LONGEST_V6: usize = 1280;
 pub enum Unmet {
     /// A datagram to this port (RFC 1122, section 4.1.3.1; RFC 4443, section 3.1).
     Port,
-    /// A packet of this protocol (RFC 1122, section 3.2.2.1). Over IPv6 that would be a parameter problem, which is not
-    /// among the messages that are written here.
+    /// A packet of this protocol (RFC 1122, section 3.2.2.1; RFC 4443, section 3.4).
     Protocol,
 }
 
@@ -68,23 +68,55 @@ fn error_v4<'p>(reason: u8, ip: &Ipv4Repr, body: &'p [u8]) -> Mail<'p>
     Mail::V4(header, repr)
 }
 
-fn error_v6<'p>(reason: u8, ip: &Ipv6Repr, body: &'p [u8]) -> Mail<'p>
+fn header_v6(ip: &Ipv6Repr, body: &[u8]) -> Ipv6Repr
     requires { length body.now ≤ 1192 }
-    ensures { mail_of result ≡ error_v6 reason ip.now body.now }
+    ensures { result ≡ header_v6 ip.now body.now }
 {
-    let header = Ipv6Repr {
+    Ipv6Repr {
         src_addr: ip.dst_addr,
         dst_addr: ip.src_addr,
         next_header: IpProtocol::Icmpv6,
         payload_len: 48 + body.len(),
         hop_limit: 64,
-    };
+    }
+}
+
+fn error_v6<'p>(reason: u8, ip: &Ipv6Repr, body: &'p [u8]) -> Mail<'p>
+    requires { length body.now ≤ 1192 }
+    ensures { mail_of result ≡ error_v6 reason ip.now body.now }
+{
     let repr = Icmpv6Repr::DstUnreachable {
         reason,
         header: *ip,
         body,
     };
-    Mail::V6(header, repr)
+    Mail::V6(header_v6(ip, body), repr)
+}
+
+// The number that says that nothing follows (RFC 8200, section 4.7).
+const NO_NEXT_HEADER: u8 = 59;
+
+// The offset of the byte of an IPv6 header that names the next one, and the code of a next header that is not known
+// (RFC 8200, section 3; RFC 4443, section 3.4).
+const NEXT_HEADER_AT: u32 = 6;
+
+const UNKNOWN_NEXT_HEADER: u8 = 1;
+
+// The error for a next header that is not known.
+fn problem_of<'p>(ip: &Ipv6Repr, body: &'p [u8]) -> Option<Mail<'p>>
+    requires { length body.now ≤ 1192 }
+    ensures { option_map mail_of result ≡ problem_of ip.now body.now }
+{
+    if u8::from(ip.next_header) == NO_NEXT_HEADER {
+        return None;
+    }
+    let repr = Icmpv6Repr::ParamProblem {
+        reason: UNKNOWN_NEXT_HEADER,
+        pointer: NEXT_HEADER_AT,
+        header: *ip,
+        body,
+    };
+    Some(Mail::V6(header_v6(ip, body), repr))
 }
 
 // The error for a packet that nobody takes.
@@ -95,7 +127,7 @@ fn error_of<'p>(unmet: Unmet, ip: &IpRepr, bytes: &'p [u8], mtu: usize) -> Optio
         (Unmet::Port, IpRepr::Ipv4(ip)) => Some(error_v4(3, ip, quoted_v4(bytes, mtu))),
         (Unmet::Protocol, IpRepr::Ipv4(ip)) => Some(error_v4(2, ip, quoted_v4(bytes, mtu))),
         (Unmet::Port, IpRepr::Ipv6(ip)) => Some(error_v6(4, ip, quoted_v6(bytes, mtu))),
-        (Unmet::Protocol, IpRepr::Ipv6(_)) => None,
+        (Unmet::Protocol, IpRepr::Ipv6(ip)) => problem_of(ip, quoted_v6(bytes, mtu)),
     }
 }
 
