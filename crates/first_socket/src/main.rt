@@ -27,7 +27,7 @@ struct Host<S> {
     interface: Interface<Secret>,
     sockets: S,
     handle: SocketHandle,
-    port: Port,
+    port: Link,
 }
 
 type OneSocket<'a> = Host<SocketSet<'a>>;
@@ -76,7 +76,7 @@ impl<'a> Host<SocketSet<'a>> {
             interface: Interface::new(addresses, Secret::new([7; 32])),
             sockets,
             handle,
-            port: Port::new(),
+            port: Link::new(),
         })
     }
 }
@@ -166,7 +166,7 @@ fn show(rt: &HostRuntime, who: &str, bytes: &[u8]) {
 
 // 4. What carries the packets: one that arrived, and one that was sent. Nothing is told of its calls.
 #[derive(Drop)]
-struct Port {
+struct Link {
     arrived: Packet,
     sent: Packet,
 }
@@ -186,16 +186,16 @@ impl Packet {
     }
 }
 
-impl Port {
-    fn new() -> Port {
-        Port {
+impl Link {
+    fn new() -> Link {
+        Link {
             arrived: Packet::none(),
             sent: Packet::none(),
         }
     }
 }
 
-impl Device for Port {
+impl Device for Link {
     ghost mtu = { λ port. 1500 };
 
     ghost has_room = { λ port. port.sent.len == 0 };
@@ -238,7 +238,7 @@ fn poll(host: &mut OneSocket<'_>, now: Instant) {
 }
 
 // What one host sent arrives at the other.
-fn pass(a: &mut Port, b: &mut Port) {
+fn pass(a: &mut Link, b: &mut Link) {
     mem::swap(&mut a.sent, &mut b.arrived);
     mem::swap(&mut b.sent, &mut a.arrived);
 }

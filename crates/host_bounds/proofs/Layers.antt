@@ -1,6 +1,6 @@
 -- Bounds above bounds.
-use Rattle.std.proofs.Common.{◌≡◌, ℕ, ℤ, ◌/◌, ◌<◌, List, length, false, nat_eq, sym, subst, arith}
-use Rattle.std.specs.Prelude.{slice_set, ◌≤ℤ◌}
+use Rattle.std.proofs.Common.{◌≡◌, ℕ, ℤ, ◌+◌, ◌*◌, ◌/◌, ◌<◌, ◌≤◌, Bool, true, false, List, length, nat_eq, refl, sym, subst, arith}
+use Rattle.std.specs.Prelude.{slice_set, ◌≤ℤ◌, ◌<ℤ◌}
 use Rattle.std.proofs.lemmas.Int.{ints}
 use Rattle.std.proofs.lemmas.List.{length-set, get_or-set_other}
 use Rattle.host_bounds.specs.Bounding.{Covers, IsLayered, KeepsBut, Reaches, at_once, bound_at}
@@ -33,3 +33,21 @@ below_all places blocks groups m layers h k within =
     let q : bound_at groups (k / 32 / 32) ≤ℤ bound_at blocks (k / 32) = layers.groups_cover (k / 32) (layers.blocks_reach k within) in
     let r : m ≤ℤ bound_at groups (k / 32 / 32) = h (k / 32 / 32) (layers.groups_reach (k / 32) (layers.blocks_reach k within)) in
     grind (arith, ints, p, q, r)
+
+-- no place of the blocks up to the next one is reached
+pub none_between : (places blocks : List ℤ) (place next : ℕ) (now : ℤ) → Covers places blocks → now <ℤ bound_at blocks (place / 32) → ((j : ℕ) → place / 32 + 1 ≤ j → j < next → now <ℤ bound_at blocks j) → (k : ℕ) → place ≤ k → k < next * 32 → k < length places → now <ℤ bound_at places k
+none_between places blocks place next now covers here others k from to within = go (nat_eq (k / 32) (place / 32)) refl
+  where
+    go : (b : Bool) → nat_eq (k / 32) (place / 32) ≡ b → now <ℤ bound_at places k
+    go true e =
+        let same : k / 32 ≡ place / 32 = grind (arith, e) in
+        let p : bound_at blocks (k / 32) ≤ℤ bound_at places k = covers k within in
+        let q : now <ℤ bound_at blocks (k / 32) = subst (λ n. now <ℤ bound_at blocks n) (sym same) here in
+        grind (arith, ints, p, q)
+    go false e =
+        let differs : k / 32 ≡ place / 32 → ⊥ = λ f. other (k / 32) (place / 32) e f in
+        let after : place / 32 + 1 ≤ k / 32 = omega (arith, from, differs) in
+        let before : k / 32 < next = omega (arith, to) in
+        let p : bound_at blocks (k / 32) ≤ℤ bound_at places k = covers k within in
+        let q : now <ℤ bound_at blocks (k / 32) = others (k / 32) after before in
+        grind (arith, ints, p, q)

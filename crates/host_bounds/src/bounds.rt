@@ -1,7 +1,7 @@
 //! Lower bounds of the moments at which places want to be asked.
-ghost use Rattle.std.specs.Prelude.{ℕ, ◌≡◌, ◌≤◌, ◌<◌, ◌<ℤ◌, ◌≤ℤ◌, IfOk, length, slice_set, true};
+ghost use Rattle.std.specs.Prelude.{ℕ, ◌≡◌, ◌≤◌, ◌<◌, ◌/◌, ◌<ℤ◌, ◌≤ℤ◌, IfOk, length, slice_set, true};
 ghost use Rattle.std.specs.List.{All};
-ghost use Rattle.host_bounds.specs.Bounding.{FindsReached, IsBelowAll, IsLayered, at_once, bound_at};
+ghost use Rattle.host_bounds.specs.Bounding.{Covers, FindsReached, IsBelowAll, IsLayered, at_once, bound_at};
 
 use crate::levels::{FAN_OUT, first_between, least_between, least_bounds, lower_all, mend};
 use std::alloc::{AllocError, Global};
@@ -108,7 +108,8 @@ impl Bounds {
             return (group + 1) * FAN_OUT * FAN_OUT;
         }
         if now < self.blocks[block] {
-            return (block + 1) * FAN_OUT;
+            let stop = self.blocks.len().min((group + 1) * FAN_OUT);
+            return next_block(&self.places, &self.blocks, place, stop, now);
         }
         place
     }
@@ -140,4 +141,21 @@ impl Bounds {
     {
         least_between(&self.groups, 0, self.groups.len())
     }
+}
+
+// Where the next block of this place's group begins whose bound is reached by now, or the next group.
+#[tactic(auto, using(crate::proofs::Layers::none_between))]
+fn next_block(places: &[i64], blocks: &[i64], place: usize, stop: usize, now: i64) -> usize
+    requires covers { Covers places.now blocks.now }
+    requires within { stop ≤ length blocks.now }
+    requires there { place / 32 < stop }
+    requires after { now <ℤ bound_at blocks.now (place / 32) }
+    ensures behind { place ≤ result }
+    ensures before { (k : ℕ) → place ≤ k → k < result → k < length places.now → now <ℤ bound_at places.now k }
+{
+    let next = match first_between(blocks, place / FAN_OUT + 1, stop, now) {
+        Some(block) => block,
+        None => stop,
+    };
+    next.saturating_mul(FAN_OUT)
 }

@@ -30,13 +30,14 @@ pub(crate) fn lower_all(bounds: &mut Vec<i64>)
 
 /// The least of these bounds.
 pub(crate) fn least_between(bounds: &[i64], start: usize, end: usize) -> i64
-    requires { end ≤ length bounds.now }
+    requires order { start ≤ end }
+    requires within { end ≤ length bounds.now }
     ensures { IsBelow result bounds.now start end }
 {
     let mut least = i64::MAX;
-    for i in start..end {
-        if bounds[i] < least {
-            least = bounds[i];
+    for bound in &bounds[start..end] {
+        if *bound < least {
+            least = *bound;
         }
     }
     least
@@ -44,12 +45,13 @@ pub(crate) fn least_between(bounds: &[i64], start: usize, end: usize) -> i64
 
 /// The first of these bounds that is reached by now.
 pub(crate) fn first_between(bounds: &[i64], start: usize, end: usize, now: i64) -> Option<usize>
-    requires { end ≤ length bounds.now }
+    requires order { start ≤ end }
+    requires within { end ≤ length bounds.now }
     ensures { FindsReached bounds.now start end now result }
 {
-    for i in start..end {
-        if bounds[i] <= now {
-            return Some(i);
+    for (i, bound) in bounds[start..end].iter().enumerate() {
+        if *bound <= now {
+            return Some(start + i);
         }
     }
     None
