@@ -99,7 +99,7 @@ impl Reno {
         }
     }
 
-    // The same, counted in bytes (RFC 3465, sections 2.1 to 2.3).
+    // The same, counted in bytes (RFC 3465, sections 2.1 and 2.3; RFC 9406, section 4.2).
     fn growth_in_bytes(&self, len: usize, careful: bool) -> usize
         ensures { result ≡ growth_in_bytes self.now len careful }
     {
@@ -110,13 +110,14 @@ impl Reno {
         }
     }
 
+    // Eight segments, where packets are not paced (RFC 9406, section 4.3); after a timeout one (RFC 3465, section 2.3).
     fn most_growth(&self, careful: bool) -> usize
         ensures { result ≡ most_growth self.now careful }
     {
         if careful {
             self.mss
         } else {
-            self.mss.saturating_mul(2)
+            self.mss.saturating_mul(8)
         }
     }
 

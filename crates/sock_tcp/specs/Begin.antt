@@ -1,5 +1,5 @@
 -- How a dispatch begins: what comes before the reasons to send.
-use Rattle.std.specs.Prelude.{ℕ, length, min, Option, Some, None, Bool, true, false, not, if◌then◌else◌}
+use Rattle.std.specs.Prelude.{ℕ, length, max, min, Option, Some, None, Bool, true, false, not, if◌then◌else◌}
 use Rattle.net_base.specs.declared.time.Instant.{Instant}
 use Rattle.sock_core.specs.Congestion.{congestion_window, lost, pre_transmitted, timed_out}
 use Rattle.sock_core.specs.Estimator.{backed_off, retransmitted}
@@ -71,11 +71,16 @@ retransmission_begun v now =
       sacked = nothing_told;
     }
 
--- what was in flight when a loss is told: by the RFCs' rules without what the first two duplicates let out beyond the
--- congestion window (RFC 5681, section 3.2, step 2)
-abbrev pub flight_lost : Rules → ℕ → ℕ → ℕ
-flight_lost rules.Smoltcp flight window = flight
-flight_lost rules.Rfc flight window = min flight window
+-- what was in flight when a loss is told: by the RFCs' rules as much as both windows let out of what is queued, since a
+-- host may hear many segments before it lets the socket speak, and without what the first two duplicates let out beyond
+-- the congestion window (RFC 5681, section 3.2, step 2)
+abbrev pub flight_lost : Rules → ℕ → ℕ → ℕ → ℕ
+flight_lost rules.Smoltcp flight usable window = flight
+flight_lost rules.Rfc flight usable window = min (max flight usable) window
+
+-- what the peer's window lets out of what is queued
+abbrev pub usable : View → ℕ
+usable v = min v.remote_win_len (length v.tx_buffer.bytes)
 
 -- a fast retransmission is marked (RFC 5681, section 3.2)
 unfoldable pub fast_retransmission_marked : View → Instant → View
@@ -83,7 +88,7 @@ fast_retransmission_marked v now =
     record v {
       congestion_controller =
           lost v.congestion_controller now
-          (flight_lost v.rules (flight v) (congestion_window v.congestion_controller));
+          (flight_lost v.rules (flight v) (usable v) (congestion_window v.congestion_controller));
       pending_fast_retransmit = true;
       rtte = retransmitted v.rtte;
       timer = marked_by v.rules now v.keep_alive (retransmitted v.rtte);

@@ -5,7 +5,7 @@ ghost use Rattle.sock_tcp.specs.View.{moment_of};
 ghost use Rattle.sock_tcp.specs.Due.{flight, is_due};
 ghost use Rattle.sock_tcp.specs.Begin.{last_ts_set, readied, retransmission_begun, fast_retransmission_marked};
 ghost use Rattle.sock_core.specs.Congestion.{congestion_window};
-ghost use Rattle.sock_tcp.specs.Begin.{after_timers, flight_lost, probing_begun};
+ghost use Rattle.sock_tcp.specs.Begin.{after_timers, flight_lost, probing_begun, usable};
 ghost use Rattle.sock_tcp.specs.Rfc.Recovery.{marked_by};
 ghost use Rattle.sock_tcp.specs.Timers.{IsTimer};
 ghost use Rattle.sock_tcp.specs.Begin.{is_paused, begun, nothing_due, before_emit_to, before_emit};
@@ -72,14 +72,25 @@ impl<'a> ControlBlock<'a> {
         self.timer = self.timer_begun(now);
     }
 
-    // What was in flight when a loss is told: by the RFCs' rules without what went out beyond the congestion window.
+    // What of the queue the peer's window lets out.
+    fn usable(&self) -> usize
+        ensures { result ≡ usable self.now }
+    {
+        self.remote_win_len.min(self.tx_buffer.len())
+    }
+
+    // What was in flight when a loss is told: by the RFCs' rules what both windows let out, also where the host heard
+    // many segments and has not let it out yet, without what went out beyond the congestion window.
     fn flight_lost(&self) -> usize
-        ensures { result ≡ flight_lost self.now.rules (flight self.now)
+        ensures { result ≡ flight_lost self.now.rules (flight self.now) (usable self.now)
             (congestion_window self.now.congestion_controller) }
     {
+        let flight = self.flight();
         match self.rules {
-            Rules::Smoltcp => self.flight(),
-            Rules::Rfc => self.flight().min(self.congestion_controller.window()),
+            Rules::Smoltcp => flight,
+            Rules::Rfc => flight
+                .max(self.usable())
+                .min(self.congestion_controller.window()),
         }
     }
 

@@ -31,7 +31,7 @@ pub enum Rules {
     /// window is probed for with the byte at SND.UNA, and no window is probed with nothing to send (RFC 9293, section
     /// 3.8.6.1).
     ///
-    /// The congestion window begins with ten segments (RFC 6928), grows by the bytes that are acknowledged (RFC 3465),
+    /// The congestion window begins with ten segments (RFC 6928), grows by what is acknowledged (RFC 3465, RFC 9406),
     /// and is at most ten segments again after a retransmission timeout without sending (RFC 5681, section 4.1).
     ///
     /// Of attacks: an RST counts at RCV.NXT alone; elsewhere in the window it is answered by a challenge ACK, at most
