@@ -1,5 +1,5 @@
-/* Hands packets on between a TUN device and a host that speaks pcap on its input and output: for live/bridge, which makes
- * the device and starts the host.
+/* Hands packets on between a TUN device and a host that speaks pcap on its input and output: for live/bridge, which
+ * makes the device and starts the host.
  *     bridge TUN INPUT OUTPUT SECONDS
  * The first three are open descriptors: the device, the host's input and the host's output. It ends after SECONDS, at
  * SIGINT or SIGTERM, or when the host ends, and closes the host's input then. */
@@ -117,7 +117,8 @@ static int exchange(int tun, int input, int output, int64_t wait) {
     return count + given;
 }
 
-/* The host ends once its input has: what it still writes is read, so that it does not wait for that, ten seconds long. */
+/* The host ends once its input has: what it still writes is read, so that it does not wait for that, for ten seconds at
+ * most. */
 static void wait_for(int output) {
     struct pollfd ready = {output, POLLIN, 0};
     while (poll(&ready, 1, 10000) > 0 && read(output, from_host.at, ROOM) > 0) continue;
