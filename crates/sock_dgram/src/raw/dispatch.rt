@@ -39,8 +39,12 @@ impl<'a> Socket<'a> {
         requires packet { starts_padded self.now.tx_buffer.entries ≡ false }
         ensures { Plans self.now (parsed_first (first_packet self.now.tx_buffer)) (option_map outgoing_of result) }
     {
-        let (_, bytes) = self.tx_buffer.first().ok()?;
-        let (ip_repr, payload) = parsed(bytes)?;
+        let Ok((_, bytes)) = self.tx_buffer.first() else {
+            return None;
+        };
+        let Some((ip_repr, payload)) = parsed(bytes) else {
+            return None;
+        };
         if !self.accepts(&ip_repr) {
             return None;
         }
@@ -81,9 +85,11 @@ impl<'a> Socket<'a> {
     {
         let sent = cx.checksum_caps().ipv4.tx();
         self.prepare_first(sent);
-        self.emit_first(cx, emit)?;
-        self.tx_buffer.take_first();
-        Ok(())
+        let result = self.emit_first(cx, emit);
+        if result.is_ok() {
+            self.tx_buffer.take_first();
+        }
+        result
     }
 }
 
