@@ -117,14 +117,20 @@ impl<'a, G> Socket<'a, G> {
     pub fn local_endpoint(&self) -> Option<IpEndpoint>
         ensures { result ≡ option_map (λ t. t.local) self.now.control_block.tuple }
     {
-        self.control_block.tuple.map(|tuple| tuple.local)
+        match self.control_block.tuple {
+            None => None,
+            Some(tuple) => Some(tuple.local),
+        }
     }
 
     /// The peer's endpoint, where there is a peer.
     pub fn remote_endpoint(&self) -> Option<IpEndpoint>
         ensures { result ≡ option_map (λ t. t.remote) self.now.control_block.tuple }
     {
-        self.control_block.tuple.map(|tuple| tuple.remote)
+        match self.control_block.tuple {
+            None => None,
+            Some(tuple) => Some(tuple.remote),
+        }
     }
 
     /// The state of the connection (RFC 9293, section 3.3.2). The peer's FIN has come only in CLOSE-WAIT, CLOSING,

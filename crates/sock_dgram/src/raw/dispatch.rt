@@ -124,16 +124,25 @@ fn prepare(packet: &mut [u8], sent: bool)
 fn parsed(packet: &[u8]) -> Option<(IpRepr, &[u8])>
     ensures { option_map outgoing_of result ≡ parsed packet.now }
 {
-    match IpVersion::of_packet(packet).ok()? {
-        IpVersion::Ipv4 => {
-            let packet = Ipv4Packet::new_checked(packet).ok()?;
-            let repr = Ipv4Repr::parse(&packet, &ChecksumCapabilities::ignored()).ok()?;
+    match IpVersion::of_packet(packet) {
+        Ok(IpVersion::Ipv4) => {
+            let Ok(packet) = Ipv4Packet::new_checked(packet) else {
+                return None;
+            };
+            let Ok(repr) = Ipv4Repr::parse(&packet, &ChecksumCapabilities::ignored()) else {
+                return None;
+            };
             Some((IpRepr::Ipv4(repr), packet.payload()))
         }
-        IpVersion::Ipv6 => {
-            let packet = Ipv6Packet::new_checked(packet).ok()?;
-            let repr = Ipv6Repr::parse(&packet).ok()?;
+        Ok(IpVersion::Ipv6) => {
+            let Ok(packet) = Ipv6Packet::new_checked(packet) else {
+                return None;
+            };
+            let Ok(repr) = Ipv6Repr::parse(&packet) else {
+                return None;
+            };
             Some((IpRepr::Ipv6(repr), packet.payload()))
         }
+        Err(_) => None,
     }
 }
