@@ -2,8 +2,8 @@
 use Rattle.std.proofs.Common.{◌≡◌, ℕ, ◌+◌, ◌≤◌, Bool, true, false, List, length, Option, Some, refl, sym, ap, subst, ◌∙◌, arith}
 use Rattle.std.specs.List.{Contains}
 use Rattle.std.specs.Prelude.{Result, Ok, Err, IfOk, OnErr, slice_get}
-use Rattle.pair_core.specs.PairSteps.{OneSide, OneSideAndSegments, IsUnchanged, exchanged, is_too_old, is_old, DeliversTo, Delivers}
-use Rattle.pair_core.specs.Aging.{DeliversAt}
+use Rattle.pair_core.specs.PairSteps.{OneSide, OneSideAndSegments, IsUnchanged, exchanged, is_too_old, is_old, DeliversTo, Delivers, DeliveryTakesMemory, TakesRoom}
+use Rattle.pair_core.specs.Aging.{DeliversAt, TakesRoomAt}
 use Rattle.pair_core.specs.PairNetwork.{network_of}
 use Rattle.pair_core.specs.Sides.{other_side}
 use Rattle.pair_core.specs.declared.moment.Moment.{Moment}
@@ -95,6 +95,26 @@ module _ {G : Type 0} (tells : G → ℕ → Type 0) (m : Moment) (o : Outcome) 
 pub pair_delivers_if : {G : Type 0} (tells : G → ℕ → Type 0) (m : Moment) (t : StoredView) (s : Side) (p v : PairView G) (n : ℕ) (k : HostView G) (ts : List StoredView) (released taken : ℕ) (r : Result Outcome PairError) → slice_get p.segments n ≡ Some t → t.emitter ≡ other_side s → p ≡ v → released ≡ (host_of (other_side s) p).released → taken ≡ (host_of (other_side s) p).taken → IfOk r (λ o. DeliversAt tells (slice_get p.segments n) released taken s m o (host_of s p) p.segments k ts) → IfOk r (λ o. Delivers tells (slice_get v.segments n) m v o (exchanged s p k ts))
 pair_delivers_if tells m t s p v n k ts released taken (Ok o) at e f er et d = pair_delivers tells m o t s p v n k ts at e f (delivers_to tells m o t s p n k ts released taken at e er et d)
 pair_delivers_if tells m t s p v n k ts released taken (Err x) at e f er et d = tt
+
+-- a delivery that found no memory takes some, over the counts that the code read
+pub delivery_takes_if : {G : Type 0} (t : StoredView) (s : Side) (p v : PairView G) (n : ℕ) (released taken : ℕ) (r : Result Outcome PairError) → slice_get p.segments n ≡ Some t → t.emitter ≡ other_side s → p ≡ v → released ≡ (host_of (other_side s) p).released → taken ≡ (host_of (other_side s) p).taken → OnErr r (TakesRoomAt (slice_get p.segments n) released taken (host_of s p)) → OnErr r (DeliveryTakesMemory (slice_get v.segments n) v)
+delivery_takes_if t s p v n released taken (Ok o) at e f er et d = tt
+delivery_takes_if t s p v n released taken (Err x) at e f er et d =
+    let one : TakesRoom (is_too_old t.released_at released t.taken_at taken) (host_of s p) t = subst (λ x. TakesRoomAt x released taken (host_of s p)) at d in
+    let two : TakesRoom (is_too_old t.released_at (host_of (other_side s) p).released t.taken_at taken) (host_of s p) t = subst (λ k. TakesRoom (is_too_old t.released_at k t.taken_at taken) (host_of s p) t) er one in
+    let three : TakesRoom (is_old (host_of (other_side s) p) t) (host_of s p) t = subst (λ k. TakesRoom (is_too_old t.released_at (host_of (other_side s) p).released t.taken_at k) (host_of s p) t) et two in
+    let four : TakesRoom (is_old (host_of t.emitter p) t) (host_of s p) t = subst (λ x. TakesRoom (is_old (host_of x p) t) (host_of s p) t) (sym e) three in
+    let five : DeliveryTakesMemory (Some t) p = subst (λ x. TakesRoom (is_old (host_of t.emitter p) t) (host_of x p) t) (sym (twice s) ∙ ap other_side (sym e)) four in
+    subst (λ w. DeliveryTakesMemory (slice_get w.segments n) w) f (subst (λ x. DeliveryTakesMemory x p) (sym at) five)
+  where
+    twice : (s : Side) → other_side (other_side s) ≡ s
+    twice A = refl
+    twice B = refl
+
+-- what changes nothing leaves the pair as it was
+pub unchanged_if : {G : Type 0} (s : Side) (p v : PairView G) (k : HostView G) (ts : List StoredView) (r : Result Outcome PairError) → p ≡ v → OnErr r (IsUnchanged (host_of s p) p.segments k ts) → OnErr r (exchanged s p k ts ≡ v)
+unchanged_if s p v k ts (Ok o) f d = tt
+unchanged_if s p v k ts (Err x) f d = ap (λ h. exchanged s p h ts) d.0 ∙ ap (exchanged s p (host_of s p)) d.1 ∙ same_exchange s p ∙ f
 
 -- what is read at an index is in the list
 pub contains_at : {X : Type 0} (xs : List X) (n : ℕ) (x : X) → slice_get xs n ≡ Some x → Contains xs x

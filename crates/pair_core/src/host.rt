@@ -17,6 +17,7 @@ ghost use Rattle.pair_core.specs.PairSteps.{ReadTakesMemory, processed_at};
 ghost use Rattle.pair_core.specs.Pieces.{SendsPiece, ReceivesPiece};
 ghost use Rattle.pair_core.specs.Captures.{Holds, FitsSent, SocketDispatches};
 ghost use Rattle.pair_core.specs.PairViews.{new_host};
+ghost use Rattle.pair_core.specs.Settings.{set_in};
 
 use crate::capture::{Capture, EmitFailed, Sent};
 use crate::moment::Moment;
@@ -252,7 +253,9 @@ impl<'a, G: TsvalSource> Host<'a, G> {
         ensures takes_memory { OnErr result (ReadTakesMemory size self.old) }
     {
         let count = size.min(self.socket.recv_queue());
-        let mut bytes = room(&mut self.handed_out, alloc, count)?;
+        let Ok(mut bytes) = room(&mut self.handed_out, alloc, count) else {
+            return Err(PairError::Memory);
+        };
         match self.socket.recv_slice(bytes.as_mut_slice()) {
             Err(e) => Ok(Outcome::RecvRefused(e)),
             Ok(_) => {
@@ -299,18 +302,7 @@ impl<'a, G: TsvalSource> Host<'a, G> {
     fn set(&mut self, setting: Setting) -> Outcome
         ensures { Sets setting self.old result self.new }
     {
-        match setting {
-            Setting::Timeout(t) => self.socket.set_timeout(t.duration),
-            Setting::AckDelay(t) => self.socket.set_ack_delay(t.duration),
-            Setting::KeepAlive(t) => self.socket.set_keep_alive(t.duration),
-            Setting::Nagle(on) => self.socket.set_nagle_enabled(on),
-            Setting::HopLimit(n) => self.socket.set_hop_limit(n.hop_limit),
-            Setting::Congestion(kind) => self.socket.set_congestion_control(kind),
-            Setting::Pause(on) => self.socket.pause_synack(on),
-            Setting::Rules(rules) => {
-                let _ = self.socket.set_rules(rules);
-            }
-        }
+        set(&mut self.socket, setting);
         Outcome::Done
     }
 
@@ -400,6 +392,25 @@ impl<'a, G: TsvalSource> Host<'a, G> {
         self.released += unacknowledged.saturating_sub(left) as u64;
         self.taken += joined.saturating_sub(queued) as u64;
         reply
+    }
+}
+
+// One setter of a socket.
+fn set<G: TsvalSource>(socket: &mut Socket<'_, G>, setting: Setting)
+    ensures view { socket.new.control_block ≡ set_in setting socket.old.control_block }
+    ensures generator { socket.new.tsval_generator ≡ socket.old.tsval_generator }
+{
+    match setting {
+        Setting::Timeout(t) => socket.set_timeout(t.duration),
+        Setting::AckDelay(t) => socket.set_ack_delay(t.duration),
+        Setting::KeepAlive(t) => socket.set_keep_alive(t.duration),
+        Setting::Nagle(on) => socket.set_nagle_enabled(on),
+        Setting::HopLimit(n) => socket.set_hop_limit(n.hop_limit),
+        Setting::Congestion(kind) => socket.set_congestion_control(kind),
+        Setting::Pause(on) => socket.pause_synack(on),
+        Setting::Rules(rules) => {
+            let _ = socket.set_rules(rules);
+        }
     }
 }
 

@@ -131,7 +131,7 @@ impl<'a, G: TsvalSource> Pair<'a, G> {
     ghost use Rattle.control_wire.specs.Fits.{FitsPacket, HasPorts};
     ghost use Rattle.std.specs.Prelude.{map};
     ghost use Rattle.pair_core.specs.PairViews.{host_of};
-    ghost use Rattle.pair_core.specs.PairCalls.{Calls, connecting, OpensAs, is_over, Sends, Receives};
+    ghost use Rattle.pair_core.specs.PairCalls.{Aborts, Calls, connecting, OpensAs, is_over, Sends, Receives};
     ghost use Rattle.pair_core.specs.PairSteps.{OneSide, OneSideAndSegments, Dispatches, Delivers};
     ghost use Rattle.pair_core.specs.PairSteps.{DeliveryTakesMemory, ReadTakesMemory, TakesMemory, EventStep};
     ghost use Rattle.pair_core.specs.PairRuns.{Ran};
@@ -392,6 +392,12 @@ impl<'a, G: TsvalSource> Pair<'a, G> {
         self.a.in_range(); // for its contract
     }
 
+    fn abort(&mut self, side: Side) -> Outcome
+        ensures { OneSide side self.old self.new (λ h k. Aborts h result k) }
+    {
+        self.call(side, Call::Abort)
+    }
+
     fn perform(&mut self, event: &Event) -> Result<Outcome, PairError>
         ensures step { IfOk result (λ o. EventStep G.tells event.entry.now self.old o self.new) }
         ensures prompt { IfOk result (λ o. Prompt event.entry.now self.old o self.new) }
@@ -406,7 +412,7 @@ impl<'a, G: TsvalSource> Pair<'a, G> {
             Event::RecvSlice { side, size } => self.recv(*side, *size, false),
             Event::Recv { side, take } => self.recv(*side, *take, true),
             Event::Close { side } => Ok(self.call(*side, Call::Close)),
-            Event::Abort { side } => Ok(self.call(*side, Call::Abort)),
+            Event::Abort { side } => Ok(self.abort(*side)),
             Event::Set { side, setting } => Ok(self.call(*side, Call::Set(*setting))),
             Event::Dispatch { side, moment, fail } => self.dispatch(*side, moment, *fail),
             Event::Deliver { index, moment } => self.deliver(*index, moment),

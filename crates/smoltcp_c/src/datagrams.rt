@@ -205,8 +205,10 @@ fn peeked(
     ensures bytes { «data».new ≡ copied (first_packet socket.old.rx_buffer) «data».old }
     ensures same { socket.new ≡ record socket.old { rx_buffer = skipped socket.old.rx_buffer } }
 {
-    let (size, meta) = socket.peek_slice(data)?;
-    Ok((size, *meta))
+    match socket.peek_slice(data) {
+        Ok((size, meta)) => Ok((size, *meta)),
+        Err(error) => Err(error),
+    }
 }
 
 // Writes where a datagram came from, where one did, and answers how many bytes it has: at most as many as there was

@@ -40,8 +40,10 @@ pub enum Packet<'p> {
 pub fn read(packet: &[u8]) -> Option<Packet<'_>>
     ensures { option_map icmp_packet_of result ≡ carried_message packet.now }
 {
-    let (ip, bytes) = carried(packet, &ChecksumCapabilities::default())?;
-    behind(&ip, bytes)
+    match carried(packet, &ChecksumCapabilities::default()) {
+        None => None,
+        Some((ip, bytes)) => behind(&ip, bytes),
+    }
 }
 
 // The message behind this header.
@@ -60,8 +62,10 @@ fn behind_v4<'p>(ip: &Ipv4Repr, bytes: &'p [u8]) -> Option<Packet<'p>>
     if u8::from(ip.next_header) != ICMP {
         return None;
     }
-    let repr = Icmpv4Repr::parse(bytes, &ChecksumCapabilities::default()).ok()?;
-    Some(Packet::V4(*ip, repr))
+    match Icmpv4Repr::parse(bytes, &ChecksumCapabilities::default()) {
+        Ok(repr) => Some(Packet::V4(*ip, repr)),
+        Err(_) => None,
+    }
 }
 
 fn behind_v6<'p>(ip: &Ipv6Repr, bytes: &'p [u8]) -> Option<Packet<'p>>
@@ -71,8 +75,10 @@ fn behind_v6<'p>(ip: &Ipv6Repr, bytes: &'p [u8]) -> Option<Packet<'p>>
         return None;
     }
     let caps = ChecksumCapabilities::default();
-    let repr = Icmpv6Repr::parse(&ip.src_addr, &ip.dst_addr, bytes, &caps).ok()?;
-    Some(Packet::V6(*ip, repr))
+    match Icmpv6Repr::parse(&ip.src_addr, &ip.dst_addr, bytes, &caps) {
+        Ok(repr) => Some(Packet::V6(*ip, repr)),
+        Err(_) => None,
+    }
 }
 
 impl Packet<'_> {

@@ -27,7 +27,9 @@ impl<'a> Socket<'a> {
             ≡ from_ipv4 (hops_of self.now.hop_limit) src_addr dst_addr (icmpv4_parsed false bytes.now) }
         ensures counted { IfSome result (λ s. Counts s.0 (any_message s.1)) }
     {
-        let repr = Icmpv4Repr::parse(bytes, &ChecksumCapabilities::ignored()).ok()?;
+        let Ok(repr) = Icmpv4Repr::parse(bytes, &ChecksumCapabilities::ignored()) else {
+            return None;
+        };
         let ip_repr = Ipv4Repr {
             src_addr,
             dst_addr,
@@ -50,7 +52,9 @@ impl<'a> Socket<'a> {
         ensures counted { IfSome result (λ s. Counts s.0 (any_message s.1)) }
     {
         let caps = ChecksumCapabilities::ignored();
-        let repr = Icmpv6Repr::parse(&src_addr, &dst_addr, bytes, &caps).ok()?;
+        let Ok(repr) = Icmpv6Repr::parse(&src_addr, &dst_addr, bytes, &caps) else {
+            return None;
+        };
         let ip_repr = Ipv6Repr {
             src_addr,
             dst_addr,
@@ -77,8 +81,10 @@ impl<'a> Socket<'a> {
     {
         match remote {
             IpAddress::Ipv4(dst) => {
-                let src = cx.get_source_address_ipv4(&dst)?;
-                self.outgoing_v4(src, dst, bytes)
+                match cx.get_source_address_ipv4(&dst) {
+                    None => None,
+                    Some(src) => self.outgoing_v4(src, dst, bytes),
+                }
             }
             IpAddress::Ipv6(dst) => {
                 let src = cx.get_source_address_ipv6(&dst);
@@ -92,7 +98,9 @@ impl<'a> Socket<'a> {
         requires packet { starts_padded self.now.tx_buffer.entries ≡ false }
         ensures { option_map outgoing_of result ≡ outgoing self.now (C.facts cx.now) }
     {
-        let (remote, bytes) = self.tx_buffer.first().ok()?;
+        let Ok((remote, bytes)) = self.tx_buffer.first() else {
+            return None;
+        };
         self.prepared(cx, *remote, bytes)
     }
 
@@ -128,8 +136,10 @@ impl<'a> Socket<'a> {
         ensures table { Dispatched F.FnOnce emit self.old (C.facts cx.old) cx.old result cx.new self.new }
     {
         self.tx_buffer.skip_padding();
-        self.emit_first(cx, emit)?;
-        self.tx_buffer.take_first();
-        Ok(())
+        let result = self.emit_first(cx, emit);
+        if result.is_ok() {
+            self.tx_buffer.take_first();
+        }
+        result
     }
 }

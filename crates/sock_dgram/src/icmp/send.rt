@@ -77,9 +77,13 @@ impl<'a> Socket<'a> {
         if endpoint.is_unspecified() {
             return Err(SendError::Unaddressable);
         }
-        self.tx_buffer
+        match self
+            .tx_buffer
             .enqueue_with_infallible(max_size, endpoint, f)
-            .map_err(|_| SendError::BufferFull)
+        {
+            Ok(kept) => Ok(kept),
+            Err(_) => Err(SendError::BufferFull),
+        }
     }
 
     /// Puts an ICMP message of these bytes into the transmit queue.

@@ -39,8 +39,12 @@ impl<'a> Socket<'a> {
         requires packet { starts_padded self.now.tx_buffer.entries ≡ false }
         ensures { Plans self.now (parsed_first (first_packet self.now.tx_buffer)) (option_map outgoing_of result) }
     {
-        let (_, bytes) = self.tx_buffer.first().ok()?;
-        let (ip_repr, payload) = parsed(bytes)?;
+        let Ok((_, bytes)) = self.tx_buffer.first() else {
+            return None;
+        };
+        let Some((ip_repr, payload)) = parsed(bytes) else {
+            return None;
+        };
         if !self.accepts(&ip_repr) {
             return None;
         }
@@ -81,9 +85,11 @@ impl<'a> Socket<'a> {
     {
         let sent = cx.checksum_caps().ipv4.tx();
         self.prepare_first(sent);
-        self.emit_first(cx, emit)?;
-        self.tx_buffer.take_first();
-        Ok(())
+        let result = self.emit_first(cx, emit);
+        if result.is_ok() {
+            self.tx_buffer.take_first();
+        }
+        result
     }
 }
 
@@ -118,16 +124,25 @@ fn prepare(packet: &mut [u8], sent: bool)
 fn parsed(packet: &[u8]) -> Option<(IpRepr, &[u8])>
     ensures { option_map outgoing_of result ≡ parsed packet.now }
 {
-    match IpVersion::of_packet(packet).ok()? {
-        IpVersion::Ipv4 => {
-            let packet = Ipv4Packet::new_checked(packet).ok()?;
-            let repr = Ipv4Repr::parse(&packet, &ChecksumCapabilities::ignored()).ok()?;
+    match IpVersion::of_packet(packet) {
+        Ok(IpVersion::Ipv4) => {
+            let Ok(packet) = Ipv4Packet::new_checked(packet) else {
+                return None;
+            };
+            let Ok(repr) = Ipv4Repr::parse(&packet, &ChecksumCapabilities::ignored()) else {
+                return None;
+            };
             Some((IpRepr::Ipv4(repr), packet.payload()))
         }
-        IpVersion::Ipv6 => {
-            let packet = Ipv6Packet::new_checked(packet).ok()?;
-            let repr = Ipv6Repr::parse(&packet).ok()?;
+        Ok(IpVersion::Ipv6) => {
+            let Ok(packet) = Ipv6Packet::new_checked(packet) else {
+                return None;
+            };
+            let Ok(repr) = Ipv6Repr::parse(&packet) else {
+                return None;
+            };
             Some((IpRepr::Ipv6(repr), packet.payload()))
         }
+        Err(_) => None,
     }
 }

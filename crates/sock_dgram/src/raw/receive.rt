@@ -18,7 +18,9 @@ impl<'a> Socket<'a> {
         ensures answer { answered result ≡ take_answer (first_packet self.old.rx_buffer) }
         ensures value { IfOk result (λ bytes. first_packet self.old.rx_buffer ≡ Some (tt, bytes.now)) }
     {
-        let (_, (from, size)) = self.rx_buffer.take_first().ok_or(RecvError::Exhausted)?;
+        let Some((_, (from, size))) = self.rx_buffer.take_first() else {
+            return Err(RecvError::Exhausted);
+        };
         Ok(self.rx_buffer.part(from, size))
     }
 
@@ -29,8 +31,10 @@ impl<'a> Socket<'a> {
         ensures value { IfOk result (λ bytes. first_packet self.old.rx_buffer ≡ Some (tt, bytes.now)) }
     {
         self.rx_buffer.skip_padding();
-        let (_, bytes) = self.rx_buffer.first().map_err(|_| RecvError::Exhausted)?;
-        Ok(bytes)
+        match self.rx_buffer.first() {
+            Ok((_, bytes)) => Ok(bytes),
+            Err(_) => Err(RecvError::Exhausted),
+        }
     }
 
     /// Copies the bytes of the first packet of the receive queue into `data`; the packet stays. Answers how many they
@@ -44,8 +48,10 @@ impl<'a> Socket<'a> {
         ensures effect { Effect Peek self.old self.new }
     {
         self.rx_buffer.skip_padding();
-        let (size, _) = copy_first(&self.rx_buffer, data)?;
-        Ok(size)
+        match copy_first(&self.rx_buffer, data) {
+            Ok((size, _)) => Ok(size),
+            Err(error) => Err(error),
+        }
     }
 
     /// Takes the first packet of the receive queue and copies its bytes into `data`. Answers how many they are.
@@ -59,7 +65,9 @@ impl<'a> Socket<'a> {
         ensures same { self.new ≡ record self.old { rx_buffer = self.new.rx_buffer } }
         ensures effect { Effect (RecvSlice «data».old «data».new result) self.old self.new }
     {
-        let (size, _) = take_into(&mut self.rx_buffer, data)?;
-        Ok(size)
+        match take_into(&mut self.rx_buffer, data) {
+            Ok((size, _)) => Ok(size),
+            Err(error) => Err(error),
+        }
     }
 }

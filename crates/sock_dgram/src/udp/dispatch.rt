@@ -20,8 +20,10 @@ impl<'a> Socket<'a> {
     fn source_of<C: Context>(&self, cx: &C, meta: &UdpMetadata) -> Option<IpAddress>
         ensures { result ≡ source_of self.now (C.facts cx.now) meta.now }
     {
-        self.known_source(meta)
-            .or_else(|| cx.get_source_address(&meta.endpoint.addr))
+        match self.known_source(meta) {
+            None => cx.get_source_address(&meta.endpoint.addr),
+            known => known,
+        }
     }
 
     /// The headers with which `dispatch` sends a datagram of these bytes: for a caller that keeps no queue.
@@ -38,7 +40,9 @@ impl<'a> Socket<'a> {
         ensures counted { IfSome result (λ h. payload_len_of h.0 ≡ udp_header_len + length payload.now) }
         ensures protocol { IfSome result (λ h. next_header_of h.0 ≡ Udp) }
     {
-        let source = self.source_of(cx, meta)?;
+        let Some(source) = self.source_of(cx, meta) else {
+            return None;
+        };
         if source.version() != meta.endpoint.addr.version() {
             return None;
         }
@@ -61,8 +65,12 @@ impl<'a> Socket<'a> {
         requires packet { starts_padded self.now.tx_buffer.entries ≡ false }
         ensures { option_map outgoing_of result ≡ outgoing self.now (C.facts cx.now) }
     {
-        let (meta, payload) = self.tx_buffer.first().ok()?;
-        let (ip_repr, repr) = self.prepared(cx, meta, payload)?;
+        let Ok((meta, payload)) = self.tx_buffer.first() else {
+            return None;
+        };
+        let Some((ip_repr, repr)) = self.prepared(cx, meta, payload) else {
+            return None;
+        };
         Some((ip_repr, repr, payload))
     }
 
@@ -98,9 +106,11 @@ impl<'a> Socket<'a> {
         ensures table { Dispatched F.FnOnce emit self.old (C.facts cx.old) cx.old result cx.new self.new }
     {
         self.tx_buffer.skip_padding();
-        self.emit_first(cx, emit)?;
-        self.tx_buffer.take_first();
-        Ok(())
+        let result = self.emit_first(cx, emit);
+        if result.is_ok() {
+            self.tx_buffer.take_first();
+        }
+        result
     }
 
     /// When the socket wants its next `dispatch`: `Ingress` where no place of the transmit buffer is taken, else `Now`.

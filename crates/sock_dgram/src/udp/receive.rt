@@ -18,7 +18,9 @@ impl<'a> Socket<'a> {
         ensures answer { answered result ≡ take_answer (first_packet self.old.rx_buffer) }
         ensures value { IfOk result (λ r. first_packet self.old.rx_buffer ≡ Some (r.1, r.0.now)) }
     {
-        let (meta, (from, size)) = self.rx_buffer.take_first().ok_or(RecvError::Exhausted)?;
+        let Some((meta, (from, size))) = self.rx_buffer.take_first() else {
+            return Err(RecvError::Exhausted);
+        };
         Ok((self.rx_buffer.part(from, size), meta))
     }
 
@@ -29,8 +31,10 @@ impl<'a> Socket<'a> {
         ensures value { IfOk result (λ r. first_packet self.old.rx_buffer ≡ Some (r.1.now, r.0.now)) }
     {
         self.rx_buffer.skip_padding();
-        let (meta, bytes) = self.rx_buffer.first().map_err(|_| RecvError::Exhausted)?;
-        Ok((bytes, meta))
+        match self.rx_buffer.first() {
+            Ok((meta, bytes)) => Ok((bytes, meta)),
+            Err(_) => Err(RecvError::Exhausted),
+        }
     }
 
     /// Copies the bytes of the first datagram of the receive queue into `data`; the datagram stays. Answers how many

@@ -56,7 +56,9 @@ pub fn event(alloc: Global, line: &Line<'_>) -> Result<Event, ScriptError>
 fn listen(line: usize, values: &[u8]) -> Result<Event, ScriptError>
     ensures { Gives event_value (listen_line line (words_of values.now)) result }
 {
-    let word = one_word(values).ok_or(ScriptError::WrongNumberOfWords { line })?;
+    let Some(word) = one_word(values) else {
+        return Err(ScriptError::WrongNumberOfWords { line });
+    };
     match side(word) {
         Some(side) => Ok(Event::Listen { side }),
         None => Err(ScriptError::BadWord { line }),
@@ -68,7 +70,9 @@ fn listen(line: usize, values: &[u8]) -> Result<Event, ScriptError>
 fn close(line: usize, values: &[u8]) -> Result<Event, ScriptError>
     ensures { Gives event_value (close_line line (words_of values.now)) result }
 {
-    let word = one_word(values).ok_or(ScriptError::WrongNumberOfWords { line })?;
+    let Some(word) = one_word(values) else {
+        return Err(ScriptError::WrongNumberOfWords { line });
+    };
     match side(word) {
         Some(side) => Ok(Event::Close { side }),
         None => Err(ScriptError::BadWord { line }),
@@ -80,7 +84,9 @@ fn close(line: usize, values: &[u8]) -> Result<Event, ScriptError>
 fn abort(line: usize, values: &[u8]) -> Result<Event, ScriptError>
     ensures { Gives event_value (abort_line line (words_of values.now)) result }
 {
-    let word = one_word(values).ok_or(ScriptError::WrongNumberOfWords { line })?;
+    let Some(word) = one_word(values) else {
+        return Err(ScriptError::WrongNumberOfWords { line });
+    };
     match side(word) {
         Some(side) => Ok(Event::Abort { side }),
         None => Err(ScriptError::BadWord { line }),
@@ -92,7 +98,9 @@ fn abort(line: usize, values: &[u8]) -> Result<Event, ScriptError>
 fn connect(line: usize, values: &[u8]) -> Result<Event, ScriptError>
     ensures { Gives event_value (connect_line line (words_of values.now)) result }
 {
-    let (who, word) = two_words(values).ok_or(ScriptError::WrongNumberOfWords { line })?;
+    let Some((who, word)) = two_words(values) else {
+        return Err(ScriptError::WrongNumberOfWords { line });
+    };
     match (side(who), number(word, WORD)) {
         (Some(side), Some(word)) => Ok(Event::Connect {
             side,
@@ -107,11 +115,15 @@ fn connect(line: usize, values: &[u8]) -> Result<Event, ScriptError>
 fn send(alloc: Global, line: usize, values: &[u8]) -> Result<Event, ScriptError>
     ensures { Gives event_value (send_line line (words_of values.now)) result }
 {
-    let (who, text) = one_word_and_text(values).ok_or(ScriptError::WrongNumberOfWords { line })?;
+    let Some((who, text)) = one_word_and_text(values) else {
+        return Err(ScriptError::WrongNumberOfWords { line });
+    };
     match side(who) {
         Some(side) if is_text(text) => {
-            let bytes = Vec::from_slice(alloc, text)?;
-            Ok(Event::SendSlice { side, bytes })
+            match Vec::from_slice(alloc, text) {
+                Ok(bytes) => Ok(Event::SendSlice { side, bytes }),
+                Err(_) => Err(ScriptError::Memory),
+            }
         }
         _ => Err(ScriptError::BadWord { line }),
     }
@@ -122,7 +134,9 @@ fn send(alloc: Global, line: usize, values: &[u8]) -> Result<Event, ScriptError>
 fn recv(line: usize, values: &[u8]) -> Result<Event, ScriptError>
     ensures { Gives event_value (recv_line line (words_of values.now)) result }
 {
-    let (who, size) = two_words(values).ok_or(ScriptError::WrongNumberOfWords { line })?;
+    let Some((who, size)) = two_words(values) else {
+        return Err(ScriptError::WrongNumberOfWords { line });
+    };
     match (side(who), number(size, SIZE)) {
         (Some(side), Some(size)) => Ok(Event::RecvSlice { side, size }),
         _ => Err(ScriptError::BadWord { line }),
@@ -134,7 +148,9 @@ fn recv(line: usize, values: &[u8]) -> Result<Event, ScriptError>
 fn nagle(line: usize, values: &[u8]) -> Result<Event, ScriptError>
     ensures { Gives event_value (nagle_line line (words_of values.now)) result }
 {
-    let (who, word) = two_words(values).ok_or(ScriptError::WrongNumberOfWords { line })?;
+    let Some((who, word)) = two_words(values) else {
+        return Err(ScriptError::WrongNumberOfWords { line });
+    };
     match (side(who), switch(word)) {
         (Some(side), Some(on)) => Ok(Event::Set {
             side,
@@ -149,7 +165,9 @@ fn nagle(line: usize, values: &[u8]) -> Result<Event, ScriptError>
 fn set_rules(line: usize, values: &[u8]) -> Result<Event, ScriptError>
     ensures { Gives event_value (rules_line line (words_of values.now)) result }
 {
-    let (who, word) = two_words(values).ok_or(ScriptError::WrongNumberOfWords { line })?;
+    let Some((who, word)) = two_words(values) else {
+        return Err(ScriptError::WrongNumberOfWords { line });
+    };
     match (side(who), rules(word)) {
         (Some(side), Some(rules)) => Ok(Event::Set {
             side,
@@ -164,7 +182,9 @@ fn set_rules(line: usize, values: &[u8]) -> Result<Event, ScriptError>
 fn dispatch(line: usize, values: &[u8], has_address: bool, fail: bool) -> Result<Event, ScriptError>
     ensures { Gives event_value (dispatch_line has_address fail line (words_of values.now)) result }
 {
-    let (who, millis) = two_words(values).ok_or(ScriptError::WrongNumberOfWords { line })?;
+    let Some((who, millis)) = two_words(values) else {
+        return Err(ScriptError::WrongNumberOfWords { line });
+    };
     match (side(who), number(millis, MILLIS)) {
         (Some(side), Some(millis)) => Ok(Event::Dispatch {
             side,
@@ -180,9 +200,9 @@ fn dispatch(line: usize, values: &[u8], has_address: bool, fail: bool) -> Result
 fn deliver(line: usize, values: &[u8]) -> Result<Event, ScriptError>
     ensures { Gives event_value (deliver_line line (words_of values.now)) result }
 {
-    let (index, millis, word) = three_words(values).ok_or(ScriptError::WrongNumberOfWords {
-        line,
-    })?;
+    let Some((index, millis, word)) = three_words(values) else {
+        return Err(ScriptError::WrongNumberOfWords { line });
+    };
     match (
         number(index, INDEX),
         number(millis, MILLIS),

@@ -1,5 +1,5 @@
 //! The lines that a replay prints. They go to the sink piece by piece, so they take no memory.
-ghost use Rattle.std.specs.Prelude.{◌≡◌, ◌++◌, ◌∷◌, [], decimal, false, map};
+ghost use Rattle.std.specs.Prelude.{◌≡◌, ◌++◌, ◌∷◌, [], codes, decimal, false, length, map};
 ghost use Rattle.pair_core.specs.Holding.{stored_of};
 ghost use Rattle.sock_pair.specs.ReplayLines.{ack_text, bytes_text, closing_text, flags_text, numbered_text};
 ghost use Rattle.sock_pair.specs.ReplayLines.{outcome_line, outcome_lines, outcome_text, reply_text, segment_text};
@@ -173,8 +173,29 @@ fn put_bytes<W: Sink>(sink: &mut W, bytes: &[u8]) -> Result<(), StreamFault>
     }
 }
 
-// The line of an outcome without its line feed.
+// `read N BYTES`
 #[tactic(auto, using(crate::proofs::ReplaySinks::takes_after))]
+fn put_read<W: Sink>(sink: &mut W, bytes: &[u8]) -> Result<(), StreamFault>
+    requires { W.has_failed sink.old ≡ false }
+    ensures { Takes (W.contents sink.old) result ((codes "read " ++ decimal (length bytes.now)) ++ bytes_text bytes.now)
+        (W.contents sink.new) (W.has_failed sink.new) }
+{
+    put_count(sink, "read ", bytes.len())?;
+    put_bytes(sink, bytes)
+}
+
+// `emitted K SEG`
+#[tactic(auto, using(crate::proofs::ReplaySinks::takes_after))]
+fn put_emitted<W: Sink>(sink: &mut W, segments: &[Segment], index: usize) -> Result<(), StreamFault>
+    requires { W.has_failed sink.old ≡ false }
+    ensures { Takes (W.contents sink.old) result (codes "emitted " ++ numbered_text (map stored_of segments.now) index)
+        (W.contents sink.new) (W.has_failed sink.new) }
+{
+    put(sink, "emitted ")?;
+    put_numbered(sink, segments, index)
+}
+
+// The line of an outcome without its line feed.
 fn put_outcome<W: Sink>(
     sink: &mut W,
     segments: &[Segment],
@@ -189,16 +210,10 @@ fn put_outcome<W: Sink>(
         Outcome::Done => put(sink, "done"),
         Outcome::Accepted(count) => put_count(sink, "accepted ", *count),
         Outcome::SendRefused(error) => put_two(sink, "send-refused ", error.text()),
-        Outcome::Read(bytes) => {
-            put_count(sink, "read ", bytes.len())?;
-            put_bytes(sink, bytes.as_slice())
-        }
+        Outcome::Read(bytes) => put_read(sink, bytes.as_slice()),
         Outcome::RecvRefused(error) => put_two(sink, "recv-refused ", error.text()),
         Outcome::Quiet => put(sink, "quiet"),
-        Outcome::Emitted(index) => {
-            put(sink, "emitted ")?;
-            put_numbered(sink, segments, *index)
-        }
+        Outcome::Emitted(index) => put_emitted(sink, segments, *index),
         Outcome::EmitFailed => put(sink, "emit-failed"),
         Outcome::Delivered(reply) => put_replied(sink, "delivered", segments, *reply),
         Outcome::AlreadyOpened => put(sink, "already-opened"),

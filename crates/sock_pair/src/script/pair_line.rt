@@ -38,9 +38,9 @@ fn pair_line(line: usize, values: &[u8]) -> Result<PairLine, ScriptError>
     ensures value { result ≡ pair_line line (words_of values.now) }
     ensures playable { IfOk result (λ h. IsPlayable h.sizes h.limit) }
 {
-    let (arx, atx, brx, btx, last) = five_words(values).ok_or(ScriptError::WrongNumberOfWords {
-        line,
-    })?;
+    let Some((arx, atx, brx, btx, last)) = five_words(values) else {
+        return Err(ScriptError::WrongNumberOfWords { line });
+    };
     match (sizes(arx, atx, brx, btx), limit(last)) {
         (Some(sizes), Some(limit)) => Ok(PairLine { sizes, limit }),
         _ => Err(ScriptError::BadWord { line }),
@@ -52,9 +52,13 @@ fn sizes(arx: &[u8], atx: &[u8], brx: &[u8], btx: &[u8]) -> Option<[usize; 4]>
         result ≡ sizes_of (size arx.now) (size atx.now) (size brx.now) (size btx.now) }
     ensures within { IfSome result AreSizes }
 {
-    let arx = number(arx, BUFFER)?;
-    let atx = number(atx, BUFFER)?;
-    let brx = number(brx, BUFFER)?;
-    let btx = number(btx, BUFFER)?;
-    Some([arx, atx, brx, btx])
+    match (
+        number(arx, BUFFER),
+        number(atx, BUFFER),
+        number(brx, BUFFER),
+        number(btx, BUFFER),
+    ) {
+        (Some(arx), Some(atx), Some(brx), Some(btx)) => Some([arx, atx, brx, btx]),
+        _ => None,
+    }
 }

@@ -69,8 +69,10 @@ pub fn limit(word: &[u8]) -> Option<Option<u32>>
     if word == b"-".as_slice() {
         return Some(None);
     }
-    let limit = number(word, 536_870_911)?;
-    Some(Some(limit as u32))
+    match number(word, 536_870_911) {
+        None => None,
+        Some(limit) => Some(Some(limit as u32)),
+    }
 }
 
 /// Whether a word has only bytes from 33 to 126.

@@ -56,7 +56,9 @@ pub fn split_word(line: &[u8]) -> Option<(&[u8], &[u8])>
 pub fn one_word(line: &[u8]) -> Option<&[u8]>
     ensures { option_copied result ≡ one_of (words_of line.now) }
 {
-    let (first, rest) = split_word(line)?;
+    let Some((first, rest)) = split_word(line) else {
+        return None;
+    };
     match split_word(rest) {
         None => Some(first),
         Some(_) => None,
@@ -68,9 +70,13 @@ pub fn two_words(line: &[u8]) -> Option<(&[u8], &[u8])>
     ensures { let words = two_of (words_of line.now) in
         MatchOption result (words ≡ None) (λ w. words ≡ Some (w.0.now, w.1.now)) }
 {
-    let (first, rest) = split_word(line)?;
-    let second = one_word(rest)?;
-    Some((first, second))
+    let Some((first, rest)) = split_word(line) else {
+        return None;
+    };
+    match one_word(rest) {
+        None => None,
+        Some(second) => Some((first, second)),
+    }
 }
 
 /// The words of a line that has just three.
@@ -78,9 +84,13 @@ pub fn three_words(line: &[u8]) -> Option<(&[u8], &[u8], &[u8])>
     ensures { let words = three_of (words_of line.now) in
         MatchOption result (words ≡ None) (λ w. words ≡ Some (w.0.now, w.1.now, w.2.now)) }
 {
-    let (first, rest) = split_word(line)?;
-    let (second, third) = two_words(rest)?;
-    Some((first, second, third))
+    let Some((first, rest)) = split_word(line) else {
+        return None;
+    };
+    match two_words(rest) {
+        None => None,
+        Some((second, third)) => Some((first, second, third)),
+    }
 }
 
 /// The words of a line that has just five.
@@ -99,7 +109,9 @@ pub fn one_word_and_text(line: &[u8]) -> Option<(&[u8], &[u8])>
     ensures { let words = one_and_text_of (words_of line.now) in
         MatchOption result (words ≡ None) (λ w. words ≡ Some (w.0.now, w.1.now)) }
 {
-    let (first, rest) = split_word(line)?;
+    let Some((first, rest)) = split_word(line) else {
+        return None;
+    };
     let Some((text, rest)) = split_word(rest) else {
         return Some((first, &[]));
     };

@@ -8,7 +8,7 @@ use Rattle.pair_core.proofs.Deliveries.{get_map}
 use Rattle.pair_core.proofs.PairGoes.{deliver_all, goes_at}
 use Rattle.pair_core.proofs.PairHosts.{host_at, peer_at, deliver_stays, pair_exchanged}
 use Rattle.pair_core.proofs.PairReaches.{deliver_keeps}
-use Rattle.pair_core.proofs.PairReturns.{bounded, contains_at, delivers_to, pair_delivers_if, kept_with_segments_if}
+use Rattle.pair_core.proofs.PairReturns.{bounded, contains_at, delivers_to, delivery_takes_if, pair_delivers_if, kept_with_segments_if, unchanged_if}
 use Rattle.pair_core.proofs.pair.Pair.deliver.Goals as goal
 
 pub deliver-requires-clause-released : goal.deliver-requires-clause-released
@@ -68,3 +68,27 @@ returns-in-B-clause-step g c =
     let t = stored_of c.index-segment.result.now in
     let at : slice_get p.segments c.args.index ≡ Some t = get_map stored_of c.self.inside.segments.items c.args.index c.index-segment.result.now (omega (arith, c.if-index-len.false, c.len.ensures, c.self.inside.segments.ok.0)) ∙ ap (λ x. Some (stored_of x)) (sym c.index-segment.ensures) in
     pair_delivers_if g.G.TsvalSource.tells c.args.moment.now t A p c.args.self.now c.args.index c.deliver-in-B.new.host (map stored_of c.deliver-in-B.new.segments.items) c.counts-counts-in-B.result.released c.counts-counts-in-B.result.taken c.deliver-in-B.result at c.in-B.is c.self.view_is c.counts-counts-in-B.ensures.released c.counts-counts-in-B.ensures.taken c.deliver-in-B.ensures.step
+
+pub returns-in-A-clause-memory : goal.returns-in-A-clause-memory
+returns-in-A-clause-memory g c =
+    let p : PairView _ = record { a = c.self.inside.a; b = c.self.inside.b; segments = map stored_of c.self.inside.segments.items; limit = c.self.inside.limit } in
+    unchanged_if B p c.args.self.now c.deliver.new.host (map stored_of c.deliver.new.segments.items) c.deliver.result c.self.view_is c.deliver.ensures.memory
+
+pub returns-in-A-clause-takes_memory : goal.returns-in-A-clause-takes_memory
+returns-in-A-clause-takes_memory g c =
+    let p : PairView _ = record { a = c.self.inside.a; b = c.self.inside.b; segments = map stored_of c.self.inside.segments.items; limit = c.self.inside.limit } in
+    let t = stored_of c.index-segment.result.now in
+    let at : slice_get p.segments c.args.index ≡ Some t = get_map stored_of c.self.inside.segments.items c.args.index c.index-segment.result.now (omega (arith, c.if-index-len.false, c.len.ensures, c.self.inside.segments.ok.0)) ∙ ap (λ x. Some (stored_of x)) (sym c.index-segment.ensures) in
+    delivery_takes_if t B p c.args.self.now c.args.index c.counts-counts.result.released c.counts-counts.result.taken c.deliver.result at c.in-A.is c.self.view_is c.counts-counts.ensures.released c.counts-counts.ensures.taken c.deliver.ensures.takes_memory
+
+pub returns-in-B-clause-memory : goal.returns-in-B-clause-memory
+returns-in-B-clause-memory g c =
+    let p : PairView _ = record { a = c.self.inside.a; b = c.self.inside.b; segments = map stored_of c.self.inside.segments.items; limit = c.self.inside.limit } in
+    unchanged_if A p c.args.self.now c.deliver-in-B.new.host (map stored_of c.deliver-in-B.new.segments.items) c.deliver-in-B.result c.self.view_is c.deliver-in-B.ensures.memory
+
+pub returns-in-B-clause-takes_memory : goal.returns-in-B-clause-takes_memory
+returns-in-B-clause-takes_memory g c =
+    let p : PairView _ = record { a = c.self.inside.a; b = c.self.inside.b; segments = map stored_of c.self.inside.segments.items; limit = c.self.inside.limit } in
+    let t = stored_of c.index-segment.result.now in
+    let at : slice_get p.segments c.args.index ≡ Some t = get_map stored_of c.self.inside.segments.items c.args.index c.index-segment.result.now (omega (arith, c.if-index-len.false, c.len.ensures, c.self.inside.segments.ok.0)) ∙ ap (λ x. Some (stored_of x)) (sym c.index-segment.ensures) in
+    delivery_takes_if t A p c.args.self.now c.args.index c.counts-counts-in-B.result.released c.counts-counts-in-B.result.taken c.deliver-in-B.result at c.in-B.is c.self.view_is c.counts-counts-in-B.ensures.released c.counts-counts-in-B.ensures.taken c.deliver-in-B.ensures.takes_memory
