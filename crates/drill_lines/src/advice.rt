@@ -1,6 +1,6 @@
 //! What is wrong with a line of a drill, and what would be right.
 
-use crate::shapes::{SHAPES, Shape, shape_of};
+use crate::shapes::{Shape, shape_of, shapes};
 use sock_pair::script::ScriptError;
 use sock_pair::script::lines::{Line, Lines};
 use std::fmt;
@@ -63,19 +63,23 @@ impl fmt::Display for Advice {
                 f.write_str("the line ends in a carriage return; right is a line feed alone")
             }
             Advice::Names => write_names(f),
-            Advice::Words(shape) => {
-                let Shape(name, rest) = *shape;
-                write!(f, "right is: {name} {rest}")
-            }
+            Advice::Words(shape) => write_shape(f, shape),
         }
     }
 }
 
 fn write_names<W: fmt::Write>(f: &mut fmt::Formatter<W>) -> fmt::Result {
     f.write_str("right is one of:")?;
-    for shape in SHAPES {
-        let name = shape.0;
-        write!(f, " {name}")?;
+    for shape in shapes() {
+        f.write_str(" ")?;
+        f.write_str(shape.0)?;
     }
     Ok(())
+}
+
+fn write_shape<W: fmt::Write>(f: &mut fmt::Formatter<W>, shape: &Shape) -> fmt::Result {
+    f.write_str("right is: ")?;
+    f.write_str(shape.0)?;
+    f.write_str(" ")?;
+    f.write_str(shape.1)
 }

@@ -169,11 +169,16 @@ pub const SHAPES: &[Shape] = &[
     Shape(">", "LINE"),
 ];
 
+/// All kinds of lines, for whoever goes over them: a function that names a long table itself is proved at its length.
+pub fn shapes() -> &'static [Shape] {
+    SHAPES
+}
+
 /// The kind of the lines that begin with this word.
 pub fn shape_of(name: &[u8]) -> Option<Shape>
     ensures { IfSome result (λ shape. shape.0.now ≡ name.now) }
 {
-    for shape in SHAPES {
+    for shape in shapes() {
         if shape.0.as_bytes() == name {
             return Some(*shape);
         }

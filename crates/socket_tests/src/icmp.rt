@@ -45,6 +45,15 @@ fn gives(socket: &mut Socket<'_>, answer: Result<(&[u8], IpAddress), RecvError>)
     socket.recv() == answer
 }
 
+fn lends_both_ways(socket: &mut Socket<'_>) -> [bool; 3] {
+    hears(socket);
+    [
+        gives(socket, Ok((&ECHO, THERE))),
+        lends(socket, &ECHO).is_ok(),
+        sends_two(socket) == Ok(2),
+    ]
+}
+
 #[test]
 fn icmp_lends_its_slices(rt: HostRuntime) -> Result<(), Fail> {
     let (mut rx_places, mut tx_places) = ([PacketMetadata::EMPTY; 1], [PacketMetadata::EMPTY; 2]);
@@ -53,8 +62,6 @@ fn icmp_lends_its_slices(rt: HostRuntime) -> Result<(), Fail> {
         PacketBuffer::new(&mut rx_places, &mut rx_bytes),
         PacketBuffer::new(&mut tx_places, &mut tx_bytes),
     );
-    hears(&mut socket);
-    assert!(rt; gives(&mut socket, Ok((&ECHO, THERE))));
-    assert!(rt; lends(&mut socket, &ECHO) == Ok(()) && sends_two(&mut socket) == Ok(2));
+    assert!(rt; lends_both_ways(&mut socket) == [true; 3]);
     Ok(())
 }

@@ -80,10 +80,13 @@ fn ping() -> Icmpv4Repr<'static> {
 #[test]
 fn icmpv4_echo(rt: HostRuntime) {
     let mut bytes = [0; 40];
-    assert!(rt; writes(ping(), &mut bytes) == 40);
-    assert!(rt; first(&bytes, 8) == [8, 0, 0x4d, 0x5a, 0, 1, 0, 1].as_slice());
-    assert!(rt; parsed(&bytes) == Some(ping()));
-    assert!(rt; parsed(first(&bytes, 39)).is_none());
+    let answers = [
+        writes(ping(), &mut bytes) == 40,
+        first(&bytes, 8) == [8, 0, 0x4d, 0x5a, 0, 1, 0, 1].as_slice(),
+        parsed(&bytes) == Some(ping()),
+        parsed(first(&bytes, 39)).is_none(),
+    ];
+    assert!(rt; answers == [true; 4]);
 }
 
 #[test]
@@ -94,9 +97,12 @@ fn icmpv6_echo(rt: HostRuntime) {
         body: b"x",
     };
     let mut bytes = [0; 9];
-    assert!(rt; writes_v6(echo, &mut bytes) == 9);
-    assert!(rt; bytes == [128, 0, 0x98, 0x12, 0x12, 0x34, 0, 7, b'x']);
-    assert!(rt; parsed_v6(V6, &bytes) == Some(echo));
-    // the addresses are summed too
-    assert!(rt; parsed_v6(Ipv6Address([0; 16]), &bytes).is_none());
+    let answers = [
+        writes_v6(echo, &mut bytes) == 9,
+        bytes == [128, 0, 0x98, 0x12, 0x12, 0x34, 0, 7, b'x'],
+        parsed_v6(V6, &bytes) == Some(echo),
+        // the addresses are summed too
+        parsed_v6(Ipv6Address([0; 16]), &bytes).is_none(),
+    ];
+    assert!(rt; answers == [true; 4]);
 }

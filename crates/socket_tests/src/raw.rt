@@ -40,6 +40,15 @@ fn first_is(socket: &mut Socket<'_>, packet: Result<&[u8], RecvError>) -> bool {
     socket.peek() == packet && socket.recv() == packet
 }
 
+fn lends_both_ways(socket: &mut Socket<'_>) -> [bool; 3] {
+    hears(socket);
+    [
+        first_is(socket, Ok(&PACKET)),
+        lends(socket, &PACKET).is_ok(),
+        sends_two(socket) == Ok(2),
+    ]
+}
+
 #[test]
 fn raw_lends_its_slices(rt: HostRuntime) -> Result<(), Fail> {
     let (mut rx_places, mut tx_places) = ([PacketMetadata::EMPTY; 1], [PacketMetadata::EMPTY; 2]);
@@ -50,8 +59,6 @@ fn raw_lends_its_slices(rt: HostRuntime) -> Result<(), Fail> {
         PacketBuffer::new(&mut rx_places, &mut rx_bytes),
         PacketBuffer::new(&mut tx_places, &mut tx_bytes),
     );
-    hears(&mut socket);
-    assert!(rt; first_is(&mut socket, Ok(&PACKET)));
-    assert!(rt; lends(&mut socket, &PACKET) == Ok(()) && sends_two(&mut socket) == Ok(2));
+    assert!(rt; lends_both_ways(&mut socket) == [true; 3]);
     Ok(())
 }

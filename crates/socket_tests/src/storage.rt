@@ -24,21 +24,27 @@ fn begins(ring: &RingBuffer<'_, u8>, want: &[u8]) -> bool {
     ring.get_allocated(0, 9) == want
 }
 
-// How many items leave, and which.
-fn taken(ring: &mut RingBuffer<'_, u8>) -> (usize, [u8; 3]) {
+// Whether three items leave, and these.
+fn gives_three(ring: &mut RingBuffer<'_, u8>, want: [u8; 3]) -> bool {
     let mut out = [0u8; 3];
-    (ring.dequeue_slice(&mut out), out)
+    ring.dequeue_slice(&mut out) == 3 && out == want
+}
+
+fn goes_around(ring: &mut RingBuffer<'_, u8>) -> [bool; 5] {
+    [
+        enqueued(ring, b"abcd") == 4,
+        gives_three(ring, *b"abc"),
+        enqueued(ring, b"efghi") == 4,
+        ring.is_full() && begins(ring, b"de"),
+        gives_three(ring, *b"def"),
+    ]
 }
 
 #[test]
 fn a_ring_goes_around_its_end(rt: HostRuntime) -> Result<(), Fail> {
     let mut places = [0u8; 5];
     let mut ring = RingBuffer::new(&mut places);
-    assert!(rt; enqueued(&mut ring, b"abcd") == 4);
-    assert!(rt; taken(&mut ring) == (3, *b"abc"));
-    assert!(rt; enqueued(&mut ring, b"efghi") == 4);
-    assert!(rt; ring.is_full() && begins(&ring, b"de"));
-    assert!(rt; taken(&mut ring) == (3, *b"def"));
+    assert!(rt; goes_around(&mut ring) == [true; 5]);
     Ok(())
 }
 
@@ -59,13 +65,22 @@ fn gives(packets: &mut PacketBuffer<'_, u16>, header: u16, bytes: &[u8]) -> bool
     }
 }
 
+// Two packets, of which there is room for the first alone.
+fn goes_in_and_out(packets: &mut PacketBuffer<'_, u16>) -> [bool; 4] {
+    [
+        puts(packets, 7, b"abc"),
+        puts(packets, 8, b"de"),
+        gives(packets, 7, b"abc"),
+        gives(packets, 8, b"de"),
+    ]
+}
+
 #[test]
 fn a_packet_goes_in_and_out(rt: HostRuntime) -> Result<(), Fail> {
     let mut places = [PacketMetadata::EMPTY; 2];
     let mut bytes = [0u8; 4];
     let mut packets = PacketBuffer::new(&mut places, &mut bytes);
-    assert!(rt; puts(&mut packets, 7, b"abc") && !puts(&mut packets, 8, b"de"));
-    assert!(rt; gives(&mut packets, 7, b"abc") && !gives(&mut packets, 8, b"de"));
+    assert!(rt; goes_in_and_out(&mut packets) == [true, false, true, false]);
     Ok(())
 }
 
@@ -81,12 +96,19 @@ fn ahead(held: &Assembler) -> Option<(usize, usize)> {
     held.iter_data().next()
 }
 
+fn takes_out(held: &mut Assembler) -> [bool; 5] {
+    [
+        adds(held, 4, 2) == Ok(0),
+        adds(held, 8, 2) == Ok(0),
+        adds(held, 0, 5) == Ok(6),
+        ahead(held) == Some((2, 4)),
+        held.is_empty(),
+    ]
+}
+
 #[test]
 fn an_assembler_takes_out_what_is_in_front(rt: HostRuntime) -> Result<(), Fail> {
     let mut held = Assembler::new();
-    assert!(rt; adds(&mut held, 4, 2) == Ok(0));
-    assert!(rt; adds(&mut held, 8, 2) == Ok(0));
-    assert!(rt; adds(&mut held, 0, 5) == Ok(6));
-    assert!(rt; ahead(&held) == Some((2, 4)) && !held.is_empty());
+    assert!(rt; takes_out(&mut held) == [true, true, true, true, false]);
     Ok(())
 }

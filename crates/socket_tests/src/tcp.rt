@@ -26,12 +26,13 @@ fn at(endpoint: IpEndpoint) -> IpListenEndpoint {
     }
 }
 
-// Takes a segment where the socket accepts it.
-fn hear(socket: &mut Tcp<'_>, cx: &mut Host, ip_repr: &IpRepr, repr: &TcpRepr<'_>) -> bool {
-    if repr.payload.len() > 65535 || !socket.0.accepts(cx, ip_repr, repr) {
+// Takes a segment of the peer where the socket accepts it.
+fn hear(socket: &mut Tcp<'_>, cx: &mut Host, repr: &TcpRepr<'_>) -> bool {
+    let ip_repr = IpRepr::new(B.addr, A.addr, IpProtocol::Tcp, 20, 64);
+    if repr.payload.len() > 65535 || !socket.0.accepts(cx, &ip_repr, repr) {
         return false;
     }
-    socket.0.process(cx, ip_repr, repr).is_none()
+    socket.0.process(cx, &ip_repr, repr).is_none()
 }
 
 fn answer<'a>(control: TcpControl, seq: u32, payload: &'a [u8]) -> TcpRepr<'a> {
@@ -73,10 +74,9 @@ fn reads(socket: &mut Tcp<'_>, want: &[u8]) -> bool {
 
 // Connects a new socket, by a SYN|ACK made by hand.
 fn establish(socket: &mut Tcp<'_>, cx: &mut Host) {
-    let ip_repr = IpRepr::new(B.addr, A.addr, IpProtocol::Tcp, 20, 64);
     let _ = socket.connect(cx, B, at(A));
     let _ = emitted(socket, cx);
-    let _ = hear(socket, cx, &ip_repr, &answer(TcpControl::Syn, 5000, &[]));
+    let _ = hear(socket, cx, &answer(TcpControl::Syn, 5000, &[]));
 }
 
 // How many bytes a closure is lent that takes none, for sending and for receiving.
@@ -120,10 +120,9 @@ fn sends_by_a_closure(socket: &mut Tcp<'_>, cx: &mut Host) -> bool {
 
 // Takes three bytes from the peer, which acknowledges two.
 fn hears_three(socket: &mut Tcp<'_>, cx: &mut Host) -> bool {
-    let ip_repr = IpRepr::new(B.addr, A.addr, IpProtocol::Tcp, 20, 64);
     let mut data = answer(TcpControl::Psh, 5001, b"xyz");
     data.ack_number = Some(TcpSeqNumber(1003));
-    hear(socket, cx, &ip_repr, &data)
+    hear(socket, cx, &data)
 }
 
 // Peeks leave what came; a closure takes a byte, and a slice the others.
@@ -188,12 +187,15 @@ fn replies_turn_the_segment_round(rt: HostRuntime) -> Result<(), Fail> {
     let ip_repr = IpRepr::new(B.addr, A.addr, IpProtocol::Tcp, 24, 255);
     let mut syn = answer(TcpControl::Syn, 5000, &[]);
     syn.ack_number = None;
-    let rst = (TcpControl::Rst, 0, Some(TcpSeqNumber(5001)));
-    assert!(rt; rst_of(&ip_repr, &syn) == Some((A, B, rst)));
     let data = answer(TcpControl::None, 5001, b"x");
-    let rst = (TcpControl::Rst, 1001, None);
-    assert!(rt; rst_of(&ip_repr, &data) == Some((A, B, rst)));
-    assert!(rt; reply_to(&ip_repr, &syn) == ((TcpControl::None, 0, None), 20, 64));
+    let of_syn = (TcpControl::Rst, 0, Some(TcpSeqNumber(5001)));
+    let of_data = (TcpControl::Rst, 1001, None);
+    let answers = [
+        rst_of(&ip_repr, &syn) == Some((A, B, of_syn)),
+        rst_of(&ip_repr, &data) == Some((A, B, of_data)),
+        reply_to(&ip_repr, &syn) == ((TcpControl::None, 0, None), 20, 64),
+    ];
+    assert!(rt; answers == [true; 3]);
     Ok(())
 }
 

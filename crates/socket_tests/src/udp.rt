@@ -6,7 +6,6 @@ use smoltcp_socket::udp::*;
 use smoltcp_socket::wire::{
     IpAddress, IpEndpoint, IpListenEndpoint, IpProtocol, IpRepr, Ipv4Address, UdpRepr,
 };
-use std::process::Abort;
 use std::test::Fail;
 
 const HERE: IpAddress = IpAddress::Ipv4(Ipv4Address([192, 168, 1, 1]));
@@ -81,25 +80,31 @@ fn emits(socket: &mut Socket<'_>, payload: &[u8]) -> bool {
 }
 
 // What comes is lent, and a datagram for which no source is found leaves without an emit.
-fn lends_what_came(rt: &(impl Abort), socket: &mut Socket<'_>) {
-    assert!(rt; binds(socket, None));
+fn lends_what_came(socket: &mut Socket<'_>) -> bool {
+    let is_bound = binds(socket, None);
     hear(socket, b"abcdef");
-    assert!(rt; [shows(socket, b"abcdef"), gives(socket, b"abcdef")] == [true; 2]);
-    assert!(rt; lends(socket, b"lost") == Ok(()) && !emits(socket, b"lost"));
+    let came = [
+        is_bound,
+        shows(socket, b"abcdef"),
+        gives(socket, b"abcdef"),
+        lends(socket, b"lost").is_ok(),
+        emits(socket, b"lost"),
+    ];
     socket.close();
-    assert!(rt; binds(socket, Some(HERE)));
+    came == [true, true, true, true, false]
 }
 
 // Around the end of 64, of which the last four are left out.
-fn goes_around(rt: &(impl Abort), socket: &mut Socket<'_>) {
-    let sent = (lends(socket, first(TEXT, 40)), sends_sevens(socket, 21));
-    assert!(rt; sent == (Ok(()), Ok(20)));
-    let around = (
+fn goes_around(socket: &mut Socket<'_>) -> [bool; 7] {
+    [
+        binds(socket, Some(HERE)),
+        lends(socket, first(TEXT, 40)).is_ok(),
+        sends_sevens(socket, 21) == Ok(20),
         emits(socket, first(TEXT, 40)),
-        lends(socket, first(TEXT, 10)),
-    );
-    assert!(rt; around == (true, Ok(())));
-    assert!(rt; [emits(socket, &[7; 20]), emits(socket, first(TEXT, 10))] == [true; 2]);
+        lends(socket, first(TEXT, 10)).is_ok(),
+        emits(socket, &[7; 20]),
+        emits(socket, first(TEXT, 10)),
+    ]
 }
 
 #[test]
@@ -112,7 +117,7 @@ fn udp_lends_its_slices_around_the_end(rt: HostRuntime) -> Result<(), Fail> {
         PacketBuffer::new(&mut rx_places, &mut rx_bytes),
         PacketBuffer::new(&mut tx_places, &mut tx_bytes),
     );
-    lends_what_came(&rt, &mut socket);
-    goes_around(&rt, &mut socket);
+    assert!(rt; lends_what_came(&mut socket));
+    assert!(rt; goes_around(&mut socket) == [true; 7]);
     Ok(())
 }
