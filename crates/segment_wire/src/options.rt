@@ -54,6 +54,7 @@ pub fn read_options(options: &[u8]) -> Option<TcpOptions>
 }
 
 // What is known at the end of the options, of which one byte at most is left.
+#[inline(always)]
 fn end(options: &[u8], at: usize, found: TcpOptions) -> Option<TcpOptions>
     requires within { at ≤ length options.now }
     requires last { length options.now ≤ at + 1 }

@@ -1,8 +1,10 @@
 //! Packets that go out.
-ghost use Rattle.std.specs.Prelude.{◌≡◌, ◌↔◌, IsTrue, Err, false, option_map};
+ghost use Rattle.std.specs.Prelude.{◌≡◌, ◌↔◌, IsTrue, Err, Some, false, option_map};
 ghost use Rattle.net_base.specs.Packets.{first_packet, starts_padded};
 ghost use Rattle.ip_wire.specs.Checksum.{is_sent};
 ghost use Rattle.ip_wire.specs.Packet.{IsIpv4};
+ghost use Rattle.ip_wire.specs.Protocol.{version_of_packet};
+ghost use Rattle.ip_wire.specs.declared.protocol.IpVersion.TheVariants as version;
 ghost use Rattle.sock_dgram.specs.Raw.{waiting};
 ghost use Rattle.sock_dgram.specs.RawDispatch.{outgoing_of, Plans, parsed_first, is_sound_ipv4, prepared, parsed};
 ghost use Rattle.sock_dgram.specs.RawDispatch.{EmitsFirst, first_prepared, offered, prepared_buffer, Dispatched};
@@ -125,24 +127,36 @@ fn parsed(packet: &[u8]) -> Option<(IpRepr, &[u8])>
     ensures { option_map outgoing_of result ≡ parsed packet.now }
 {
     match IpVersion::of_packet(packet) {
-        Ok(IpVersion::Ipv4) => {
-            let Ok(packet) = Ipv4Packet::new_checked(packet) else {
-                return None;
-            };
-            let Ok(repr) = Ipv4Repr::parse(&packet, &ChecksumCapabilities::ignored()) else {
-                return None;
-            };
-            Some((IpRepr::Ipv4(repr), packet.payload()))
-        }
-        Ok(IpVersion::Ipv6) => {
-            let Ok(packet) = Ipv6Packet::new_checked(packet) else {
-                return None;
-            };
-            let Ok(repr) = Ipv6Repr::parse(&packet) else {
-                return None;
-            };
-            Some((IpRepr::Ipv6(repr), packet.payload()))
-        }
+        Ok(IpVersion::Ipv4) => parsed_v4(packet),
+        Ok(IpVersion::Ipv6) => parsed_v6(packet),
         Err(_) => None,
     }
+}
+
+#[tactic(auto, unfolding(crate::specs::RawDispatch::parsed))]
+fn parsed_v4(packet: &[u8]) -> Option<(IpRepr, &[u8])>
+    requires { version_of_packet packet.now ≡ Some version.Ipv4 }
+    ensures { option_map outgoing_of result ≡ parsed packet.now }
+{
+    let Ok(packet) = Ipv4Packet::new_checked(packet) else {
+        return None;
+    };
+    let Ok(repr) = Ipv4Repr::parse(&packet, &ChecksumCapabilities::ignored()) else {
+        return None;
+    };
+    Some((IpRepr::Ipv4(repr), packet.payload()))
+}
+
+#[tactic(auto, unfolding(crate::specs::RawDispatch::parsed))]
+fn parsed_v6(packet: &[u8]) -> Option<(IpRepr, &[u8])>
+    requires { version_of_packet packet.now ≡ Some version.Ipv6 }
+    ensures { option_map outgoing_of result ≡ parsed packet.now }
+{
+    let Ok(packet) = Ipv6Packet::new_checked(packet) else {
+        return None;
+    };
+    let Ok(repr) = Ipv6Repr::parse(&packet) else {
+        return None;
+    };
+    Some((IpRepr::Ipv6(repr), packet.payload()))
 }

@@ -25,8 +25,10 @@ fn put_two<W: Sink>(sink: &mut W, first: &str, second: &str) -> Result<(), Strea
     ensures { Takes (W.contents sink.old) result (first.now ++ second.now) (W.contents sink.new)
         (W.has_failed sink.new) }
 {
-    put(sink, first)?;
-    put(sink, second)
+    match put(sink, first) {
+        Ok(()) => put(sink, second),
+        Err(fault) => Err(fault),
+    }
 }
 
 fn put_byte<W: Sink>(sink: &mut W, byte: u8) -> Result<(), StreamFault>
@@ -55,8 +57,10 @@ fn put_count<W: Sink>(sink: &mut W, label: &str, number: usize) -> Result<(), St
     ensures { Takes (W.contents sink.old) result (label.now ++ decimal number) (W.contents sink.new)
         (W.has_failed sink.new) }
 {
-    put(sink, label)?;
-    put_number(sink, number)
+    match put(sink, label) {
+        Ok(()) => put_number(sink, number),
+        Err(fault) => Err(fault),
+    }
 }
 
 /// The control bits of a segment, as a replay prints them. None, PSH and FIN are printed with `ACK`, since each such
@@ -154,8 +158,10 @@ fn put_replied<W: Sink>(
     ensures { Takes (W.contents sink.old) result (word.now ++ reply_text (map stored_of segments.now) reply)
         (W.contents sink.new) (W.has_failed sink.new) }
 {
-    put(sink, word)?;
-    put_reply(sink, segments, reply)
+    match put(sink, word) {
+        Ok(()) => put_reply(sink, segments, reply),
+        Err(fault) => Err(fault),
+    }
 }
 
 // ` BYTES`, or nothing.
@@ -180,8 +186,10 @@ fn put_read<W: Sink>(sink: &mut W, bytes: &[u8]) -> Result<(), StreamFault>
     ensures { Takes (W.contents sink.old) result ((codes "read " ++ decimal (length bytes.now)) ++ bytes_text bytes.now)
         (W.contents sink.new) (W.has_failed sink.new) }
 {
-    put_count(sink, "read ", bytes.len())?;
-    put_bytes(sink, bytes)
+    match put_count(sink, "read ", bytes.len()) {
+        Ok(()) => put_bytes(sink, bytes),
+        Err(fault) => Err(fault),
+    }
 }
 
 // `emitted K SEG`
@@ -191,8 +199,10 @@ fn put_emitted<W: Sink>(sink: &mut W, segments: &[Segment], index: usize) -> Res
     ensures { Takes (W.contents sink.old) result (codes "emitted " ++ numbered_text (map stored_of segments.now) index)
         (W.contents sink.new) (W.has_failed sink.new) }
 {
-    put(sink, "emitted ")?;
-    put_numbered(sink, segments, index)
+    match put(sink, "emitted ") {
+        Ok(()) => put_numbered(sink, segments, index),
+        Err(fault) => Err(fault),
+    }
 }
 
 // The line of an outcome without its line feed.
@@ -234,8 +244,10 @@ fn write_outcome<W: Sink>(
     ensures { Takes (W.contents sink.old) result (outcome_line (map stored_of segments.now) outcome.now)
         (W.contents sink.new) (W.has_failed sink.new) }
 {
-    put_outcome(sink, segments, outcome)?;
-    put_byte(sink, b'\n')
+    match put_outcome(sink, segments, outcome) {
+        Ok(()) => put_byte(sink, b'\n'),
+        Err(fault) => Err(fault),
+    }
 }
 
 fn side_name(side: Side) -> &'static str
@@ -295,8 +307,10 @@ pub fn write_sides<W: Sink, G: TsvalSource>(
     requires { W.has_failed sink.old ≡ false }
     ensures { Takes (W.contents sink.old) result (side_lines pair.now) (W.contents sink.new) (W.has_failed sink.new) }
 {
-    write_side(sink, pair, Side::A)?;
-    write_side(sink, pair, Side::B)
+    match write_side(sink, pair, Side::A) {
+        Ok(()) => write_side(sink, pair, Side::B),
+        Err(fault) => Err(fault),
+    }
 }
 
 /// Writes the lines of outcomes, whose segments stand in `segments`.
