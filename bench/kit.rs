@@ -1,4 +1,4 @@
-//! What the toolchain's own library has and Rust's has not, for plain builds of the programs: vectors that ask for memory
+//! What the toolchain's library has and Rust's has not, for plain builds of the programs: vectors that ask for memory
 //! by a handle, and what a program gets of its surroundings. Nothing of it is proved, nor as careful.
 use std::fmt::Display;
 use std::ops::{Deref, DerefMut};
