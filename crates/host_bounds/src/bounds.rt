@@ -35,11 +35,11 @@ impl Bounds {
         ensures len { IfOk result (λ b. length b ≡ count) }
         ensures least { IfOk result (λ b. All (λ m. m ≡ at_once) b) }
     {
-        let blocks = count / FAN_OUT + 1;
+        let blocks = count.div_ceil(FAN_OUT);
         Ok(Bounds {
             places: least_bounds(alloc, count)?,
             blocks: least_bounds(alloc, blocks)?,
-            groups: least_bounds(alloc, blocks / FAN_OUT + 1)?,
+            groups: least_bounds(alloc, blocks.div_ceil(FAN_OUT))?,
         })
     }
 
@@ -54,7 +54,7 @@ impl Bounds {
     pub fn set(&mut self, place: usize, bound: i64)
         ensures { self.new ≡ slice_set self.old place bound }
     {
-        if place < self.places.len() {
+        if place < self.places.len() && self.get(place) != bound {
             self.set_there(place, bound);
         }
     }

@@ -44,6 +44,22 @@ has_in (e ∷ es) x (suc k) within is = go (is_entry e x) (has_in es x k (omega 
     go true h = refl
     go false h = h
 
+-- where the first entry is not less, none is
+pub splits_at_0 : (es : List Entry) (n : ℕ) → IsSortedByRank es → (0 < length es → n ≤ rank_at es 0) → Splits es n 0
+splits_at_0 es n sorted first = record {
+  within = omega arith;
+  below = λ k h. absurd (omega (arith, h));
+  above = above;
+}
+  where
+    above : (k : ℕ) → 0 ≤ k → k < length es → n ≤ rank_at es k
+    above zero from within = first within
+    above (suc k) from within =
+        let there : 0 < length es = omega (arith, within) in
+        let p : n ≤ rank_at es 0 = first there in
+        let q : rank_at es 0 ≤ rank_at es (suc k) = sorted 0 (suc k) (omega arith) within in
+        omega (arith, p, q)
+
 -- ---- a binary search
 
 module _ (es : List Entry) (n m : ℕ) (x : Entry) (sorted : IsSortedByRank es) (within : m < length es) (is : x ≡ get_or es m x) where

@@ -40,9 +40,9 @@ listener_key port = record { major = 0; minor = port; place = 0 }
 abbrev pub server_key : ℕ → Entry
 server_key port = record { major = 1; minor = port; place = 0 }
 
--- of raw and of ICMP sockets
+-- of raw sockets, which is the least, and of ICMP sockets
 abbrev pub raw_key : Entry
-raw_key = record { major = 2; minor = 0; place = 0 }
+raw_key = record { major = 0; minor = 0; place = 0 }
 
 abbrev pub icmp_key : Entry
 icmp_key = record { major = 2; minor = 1; place = 0 }

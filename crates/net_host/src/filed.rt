@@ -84,18 +84,19 @@ impl<T: Keyed> Filed<T> {
         ensures marked { bound_at self.new.bounds place ≡ at_once }
         ensures terms { self.new.terms ≡ self.old.terms }
     {
-        if !self.is_lent(place) {
+        if self.is_lent(place) {
+            self.mark(place);
+        } else {
             self.lend_anew(place);
         }
     }
 
-    // Whether the place is lent already, and was not asked since.
+    // Whether the place is lent already.
     fn is_lent(&self, place: usize) -> bool
-        ensures lent { result ≡ true → IsLentAt place (slice_get self.now.slots.items place) self.now.lent }
-        ensures marked { result ≡ true → bound_at self.now.bounds place ≡ at_once }
+        ensures { result ≡ true → IsLentAt place (slice_get self.now.slots.items place) self.now.lent }
     {
         match &self.lent {
-            Some(lent) => lent.place == place && self.bounds.get(place) == i64::MIN,
+            Some(lent) => lent.place == place,
             None => false,
         }
     }
@@ -107,18 +108,31 @@ impl<T: Keyed> Filed<T> {
         ensures terms { self.new.terms ≡ self.old.terms }
     {
         self.settle();
+        self.mark(place);
         self.lent = lent_at(&self.slots, place);
+    }
+
+    // The place is to be asked at once.
+    fn mark(&mut self, place: usize)
+        ensures slots { self.new.slots ≡ self.old.slots }
+        ensures lent { self.new.lent ≡ self.old.lent }
+        ensures marked { bound_at self.new.bounds place ≡ at_once }
+        ensures terms { self.new.terms ≡ self.old.terms }
+    {
         self.bounds.set(place, i64::MIN);
     }
 
     /// The places are asked under these terms from now on: all of them at once, where the terms are others than before.
-    pub(crate) fn heed(&mut self, terms: Terms)
+    pub(crate) fn heed(&mut self, mtu: usize, guards: &GuardSettings)
         ensures slots { self.new.slots ≡ self.old.slots }
-        ensures terms { self.new.terms ≡ terms }
+        ensures terms { self.new.terms ≡ record { mtu = mtu; guards = guards.now } }
     {
-        if !self.terms.are(&terms) {
+        if !self.terms.are(mtu, guards) {
             self.bounds.reset();
-            self.terms = terms;
+            self.terms = Terms {
+                mtu,
+                guards: *guards,
+            };
         }
     }
 

@@ -61,12 +61,12 @@ pub(crate) fn server_key(port: u16) -> Entry
     }
 }
 
-/// The key of the raw sockets.
+/// The key of the raw sockets: the least, so that whether there is one is seen at once.
 pub(crate) fn raw_key() -> Entry
     ensures { result ≡ raw_key }
 {
     Entry {
-        major: 2,
+        major: 0,
         minor: 0,
         place: 0,
     }

@@ -23,7 +23,6 @@ use crate::polling::earliest;
 use crate::replies::LONGEST_REPLY;
 use crate::set::SocketSet;
 use crate::speak::speak;
-use crate::terms::Terms;
 use crate::wire::TooShort;
 use host_context::Words;
 use host_cookies::SynCookies;
@@ -161,10 +160,7 @@ impl<W: Words> Interface<W> {
         ensures seen { result ≡ Ok 0 → Nowhere (Unseen self.old.guards) sockets.new.slots.items }
     {
         self.set_now(now);
-        sockets.heed(Terms {
-            mtu: self.inner.environment.mtu,
-            guards: self.guards,
-        });
+        sockets.heed(self.inner.environment.mtu, &self.guards);
         speak(sockets, &mut self.turn, &self.inner, out)
     }
 }

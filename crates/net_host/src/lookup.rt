@@ -18,6 +18,17 @@ fn is_entry(a: Entry, b: Entry) -> bool
     a.major == b.major && a.minor == b.minor && a.place == b.place
 }
 
+// Whether no entry stands before the key.
+fn is_before_all(entries: &[Entry], key: Entry) -> bool
+    requires { IsSortedByRank entries.now }
+    ensures { result ≡ true → Splits entries.now (rank key) 0 }
+{
+    match entries.first() {
+        None => true,
+        Some(first) => !is_less(*first, key),
+    }
+}
+
 fn lower(entries: &[Entry], key: Entry) -> usize
     requires { IsSortedByRank entries.now }
     ensures { Splits entries.now (rank key) result }
@@ -48,6 +59,9 @@ impl Index {
     pub fn lower(&self, key: Entry) -> usize
         ensures { Splits self.now.entries.items (rank key) result }
     {
+        if is_before_all(&self.entries, key) {
+            return 0;
+        }
         lower(&self.entries, key)
     }
 

@@ -34,9 +34,9 @@ fn same_guards(a: &GuardSettings, b: &GuardSettings) -> bool
 
 impl Terms {
     /// Whether they are the same.
-    pub(crate) fn are(&self, other: &Terms) -> bool
-        ensures { result ≡ true → self.now ≡ other.now }
+    pub(crate) fn are(&self, mtu: usize, guards: &GuardSettings) -> bool
+        ensures { result ≡ true → self.now ≡ record { mtu = mtu; guards = guards.now } }
     {
-        self.mtu == other.mtu && same_guards(&self.guards, &other.guards)
+        self.mtu == mtu && same_guards(&self.guards, guards)
     }
 }
