@@ -13,24 +13,69 @@ pub struct Call<'a> {
 
 impl fmt::Display for Call<'_> {
     fn fmt<W: fmt::Write>(&self, f: &mut fmt::Formatter<W>) -> fmt::Result {
-        write_event(f, self.event)?;
+        let (event, outcome) = (self.event, self.outcome);
+        write_words(
+            f,
+            event_name(event),
+            event_number(event),
+            event_bytes(event),
+        )?;
         f.write_str(": ")?;
-        write_outcome(f, self.outcome)
+        write_words(
+            f,
+            outcome_name(outcome),
+            outcome_number(outcome),
+            outcome_bytes(outcome),
+        )
     }
 }
 
-fn write_event<W: fmt::Write>(f: &mut fmt::Formatter<W>, event: &Event) -> fmt::Result {
-    let name = event_name(event);
+// A name, with a number or bytes behind it, or both.
+fn write_words<W: fmt::Write>(
+    f: &mut fmt::Formatter<W>,
+    name: &str,
+    number: Option<usize>,
+    bytes: Option<&[u8]>,
+) -> fmt::Result {
+    f.write_str(name)?;
+    if let Some(number) = number {
+        write!(f, " {number}")?;
+    }
+    match bytes {
+        Some(bytes) => write!(f, " {}", Quoted(bytes)),
+        None => Ok(()),
+    }
+}
+
+fn event_number(event: &Event) -> Option<usize> {
     match event {
-        Event::Connect { moment, .. } => write!(f, "{name} {}", moment.word),
-        Event::SendSlice { bytes, .. } | Event::Send { bytes, .. } => {
-            write!(f, "{name} {}", Quoted(bytes.as_slice()))
-        }
-        Event::RecvSlice { size, .. } | Event::Recv { take: size, .. } => {
-            write!(f, "{name} {size}")
-        }
-        Event::Deliver { index, .. } => write!(f, "{name} {index}"),
-        _ => f.write_str(name),
+        Event::Connect { moment, .. } => Some(moment.word as usize),
+        Event::RecvSlice { size, .. } => Some(*size),
+        Event::Recv { take, .. } => Some(*take),
+        Event::Deliver { index, .. } => Some(*index),
+        _ => None,
+    }
+}
+
+fn event_bytes(event: &Event) -> Option<&[u8]> {
+    match event {
+        Event::SendSlice { bytes, .. } | Event::Send { bytes, .. } => Some(bytes.as_slice()),
+        _ => None,
+    }
+}
+
+fn outcome_number(outcome: &Outcome) -> Option<usize> {
+    match outcome {
+        Outcome::Accepted(number) | Outcome::Emitted(number) => Some(*number),
+        Outcome::Read(bytes) => Some(bytes.len()),
+        _ => None,
+    }
+}
+
+fn outcome_bytes(outcome: &Outcome) -> Option<&[u8]> {
+    match outcome {
+        Outcome::Read(bytes) if !bytes.is_empty() => Some(bytes.as_slice()),
+        _ => None,
     }
 }
 
@@ -61,16 +106,6 @@ fn setting_name(setting: Setting) -> &'static str {
         Setting::Congestion(_) => "congestion control",
         Setting::Pause(_) => "pause SYN|ACK",
         Setting::Rules(_) => "rules",
-    }
-}
-
-fn write_outcome<W: fmt::Write>(f: &mut fmt::Formatter<W>, outcome: &Outcome) -> fmt::Result {
-    let name = outcome_name(outcome);
-    match outcome {
-        Outcome::Accepted(number) | Outcome::Emitted(number) => write!(f, "{name} {number}"),
-        Outcome::Read(bytes) if bytes.is_empty() => write!(f, "{name} 0"),
-        Outcome::Read(bytes) => write!(f, "{name} {} {}", bytes.len(), Quoted(bytes.as_slice())),
-        _ => f.write_str(name),
     }
 }
 

@@ -115,16 +115,25 @@ fn count_rows(steps: &[Step<'_>]) -> usize {
 
 impl<W: Write> Chart<'_, '_, W> {
     fn draw(&mut self, steps: &[Step<'_>]) -> io::Result<()> {
-        let height = height(count_rows(steps));
+        self.begin(height(count_rows(steps)))?;
+        self.steps(steps)?;
+        self.end()
+    }
+
+    // What stands above and behind the rows.
+    fn begin(&mut self, height: usize) -> io::Result<()> {
         self.open(height)?;
         self.ground()?;
         self.head(Side::A, height)?;
-        self.head(Side::B, height)?;
-        self.steps(steps)?;
+        self.head(Side::B, height)
+    }
+
+    // What stands over the arrows.
+    fn end(&mut self) -> io::Result<()> {
         self.lost()?;
         self.names()?;
         self.labels()?;
-        writeln!(self.out, "</svg>")
+        self.out.write_all(b"</svg>\n")
     }
 
     // The root element, and the style sheet.
@@ -195,11 +204,7 @@ impl<W: Write> Chart<'_, '_, W> {
     // How many steps this row stands for, with the line and the moment of the last.
     fn repeated(&mut self, last: &Step<'_>, count: usize) -> io::Result<()> {
         let y = self.row.second_line();
-        self.number(LINE, y, last.line)?;
-        if let Some(millis) = last.millis() {
-            self.millis = Some(millis);
-            self.number(TIME, y, millis)?;
-        }
+        self.time(y, last)?;
         match last.event {
             Event::Dispatch { side, .. } => { self.beside(*side, "quiet", Times(count)) }
             _ => Ok(()),
@@ -209,23 +214,27 @@ impl<W: Write> Chart<'_, '_, W> {
     // Where time went on by much more than a row tells: a break in both lifelines, with its length.
     fn gap(&mut self, millis: u64) -> io::Result<()> {
         let gap = millis.saturating_sub(self.millis.unwrap_or(millis));
-        self.millis = Some(millis);
         if gap < GAP {
             return Ok(());
         }
         let y = self.row.edge();
+        self.interrupt(lifeline(Side::A), y)?;
+        self.interrupt(lifeline(Side::B), y)?;
         let base = y.saturating_add(4);
-        for x in [lifeline(Side::A), lifeline(Side::B)] {
-            let (left, right) = (x.saturating_sub(6), x.saturating_add(6));
-            let (low, high) = (y.saturating_add(5), y.saturating_sub(1));
-            writeln!(
-                self.out,
-                "<path class=\"gap\" d=\"M{left} {y} {right} {high}M{left} {low} {right} {base}\"/>"
-            )?;
-        }
         writeln!(
             self.out,
             "<text class=\"time\" x=\"{NEITHER}\" y=\"{base}\">+{gap} ms</text>"
+        )
+    }
+
+    // A break in a lifeline at this height.
+    fn interrupt(&mut self, x: usize, y: usize) -> io::Result<()> {
+        let (left, right) = (x.saturating_sub(6), x.saturating_add(6));
+        let (low, high) = (y.saturating_add(5), y.saturating_sub(1));
+        let base = y.saturating_add(4);
+        writeln!(
+            self.out,
+            "<path class=\"gap\" d=\"M{left} {y} {right} {high}M{left} {low} {right} {base}\"/>"
         )
     }
 
@@ -235,11 +244,24 @@ impl<W: Write> Chart<'_, '_, W> {
             self.gap(millis)?;
         }
         let y = self.time_line(step);
-        self.number(LINE, y, step.line)?;
-        if let Some(millis) = step.millis() {
-            self.number(TIME, y, millis)?;
-        }
+        self.time(y, step)?;
         self.call(step)?;
+        self.states(step)
+    }
+
+    // The number of a step's line and its moment.
+    fn time(&mut self, y: usize, step: &Step<'_>) -> io::Result<()> {
+        self.number(LINE, y, step.line)?;
+        match step.millis() {
+            None => Ok(()),
+            Some(millis) => {
+                self.millis = Some(millis);
+                self.number(TIME, y, millis)
+            }
+        }
+    }
+
+    fn states(&mut self, step: &Step<'_>) -> io::Result<()> {
         self.state(Side::A, step.a)?;
         self.state(Side::B, step.b)?;
         self.reply_mark(step)
@@ -361,33 +383,38 @@ impl<W: Write> Chart<'_, '_, W> {
 
     // The segment of this index comes to the other side in this row, which may refuse it.
     fn arrive(&mut self, index: usize, refusal: Option<&str>) -> io::Result<()> {
-        let arrival = self.row.arrival();
-        let (Some(departure), Some(segment)) = (
-            self.departures.get_mut(index),
-            self.segments.get(index),
-        ) else {
+        let Some(arrow) = self.arrow_of(index, refusal.is_some()) else {
             return Ok(());
         };
-        let from = segment.from;
-        let arrow = Arrow {
-            from,
-            departure: departure.row.departure(),
-            ending: match refusal {
-                None => Ending::Delivered(arrival),
-                Some(_) => Ending::Refused(arrival),
-            },
-            reply: departure.reply,
-            again: departure.arrived,
-        };
-        departure.arrived = true;
         writeln!(self.out, "{arrow}")?;
-        match refusal {
-            None => {
+        match (refusal, self.segments.get(index)) {
+            (None, Some(segment)) => {
                 self.marker.hear(segment);
                 Ok(())
             }
-            Some(why) => self.beside(from.other(), "refused-text", why),
+            (Some(why), _) => self.beside(arrow.from.other(), "refused-text", why),
+            _ => Ok(()),
         }
+    }
+
+    // Its arrow, and that it came.
+    fn arrow_of(&mut self, index: usize, is_refused: bool) -> Option<Arrow> {
+        let arrival = self.row.arrival();
+        let from = self.segments.get(index)?.from;
+        let departure = self.departures.get_mut(index)?;
+        let again = departure.arrived;
+        departure.arrived = true;
+        Some(Arrow {
+            from,
+            departure: departure.row.departure(),
+            ending: if is_refused {
+                Ending::Refused(arrival)
+            } else {
+                Ending::Delivered(arrival)
+            },
+            reply: departure.reply,
+            again,
+        })
     }
 
     // Writes the state of a side where it is another one now.
@@ -463,7 +490,7 @@ impl<W: Write> Chart<'_, '_, W> {
                 numbers: self.numbers,
                 y: departure.row.label(),
             };
-            writeln!(self.out, "{label}")?;
+            draw_label(self.out, &label)?;
         }
         Ok(())
     }
@@ -475,6 +502,10 @@ fn is_repeated(step: &Step<'_>, next: Option<&Step<'_>>) -> bool {
         Some(next) => next.repeats(step),
         None => false,
     }
+}
+
+fn draw_label<W: Write>(out: &mut W, label: &Label<'_>) -> io::Result<()> {
+    writeln!(out, "{label}")
 }
 
 // Draws a segment that never came.

@@ -91,15 +91,11 @@ struct Headers<'a> {
 
 impl fmt::Display for Headers<'_> {
     fn fmt<W: fmt::Write>(&self, f: &mut fmt::Formatter<W>) -> fmt::Result {
-        let (header, from) = (&self.segment.header.repr, self.segment.from);
-        let flags = flags(header.control, header.ack_number.is_some());
-        let seq = self.numbers.of(from, header.seq_number.0);
-        write!(f, "{flags} seq {seq} ack ")?;
-        match header.ack_number {
-            None => f.write_str("-")?,
-            Some(ack) => write!(f, "{}", self.numbers.of(from.other(), ack.0))?,
-        }
-        let (win, len) = (header.window_len, self.segment.payload.len());
+        self.write_numbers(f)?;
+        let (win, len) = (
+            self.segment.header.repr.window_len,
+            self.segment.payload.len(),
+        );
         write!(f, " win {win} len {len}")?;
         write_syn_options(f, self.segment)?;
         self.write_sack(f)
@@ -121,6 +117,18 @@ fn write_syn_options<W: fmt::Write>(f: &mut fmt::Formatter<W>, segment: &Segment
 }
 
 impl Headers<'_> {
+    // `FLAGS seq N ack N`, or `-` for the last number.
+    fn write_numbers<W: fmt::Write>(&self, f: &mut fmt::Formatter<W>) -> fmt::Result {
+        let (header, from) = (&self.segment.header.repr, self.segment.from);
+        let flags = flags(header.control, header.ack_number.is_some());
+        let seq = self.numbers.of(from, header.seq_number.0);
+        write!(f, "{flags} seq {seq} ack ")?;
+        match header.ack_number {
+            None => f.write_str("-"),
+            Some(ack) => write!(f, "{}", self.numbers.of(from.other(), ack.0)),
+        }
+    }
+
     // The ranges of the other side's numbers that came out of order: the first number, and that behind the last.
     fn write_sack<W: fmt::Write>(&self, f: &mut fmt::Formatter<W>) -> fmt::Result {
         let segment = self.segment;

@@ -5,7 +5,7 @@ use sock_pair::{Segment, Side};
 use std::fmt;
 
 /// What a segment repeats of those that its side emitted before, or what it asks.
-#[derive(Debug, Clone, Copy, PartialEq, Eq)]
+#[derive(Clone, Copy)]
 pub enum Mark {
     /// Nothing.
     New,

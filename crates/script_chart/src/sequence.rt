@@ -196,15 +196,25 @@ impl Heard<'_> {
 impl<W: Write> Picture<'_, '_, W> {
     fn draw(&mut self, steps: &[Step<'_>]) -> io::Result<()> {
         self.open()?;
-        self.times(last_moment(steps))?;
+        self.marks(last_moment(steps))?;
+        self.lines(steps)?;
+        self.out.write_all(b"</svg>\n")
+    }
+
+    // The frame, with the marks beside it.
+    fn marks(&mut self, end: u64) -> io::Result<()> {
+        self.times(end)?;
         self.numbers()?;
-        self.frame()?;
+        self.frame()
+    }
+
+    // What happened.
+    fn lines(&mut self, steps: &[Step<'_>]) -> io::Result<()> {
         self.line(steps, "acked", false)?;
         self.line(steps, "window", true)?;
         self.bars(steps)?;
         self.answers(steps)?;
-        self.resets(steps)?;
-        writeln!(self.out, "</svg>")
+        self.resets(steps)
     }
 
     // The root element, the style sheet, the page, the legend, and what is drawn.
@@ -236,6 +246,11 @@ impl<W: Write> Picture<'_, '_, W> {
             self.moment(late, y)?;
             self.fold()?;
         }
+        self.end_of_times(end)
+    }
+
+    // What these marks are of, and how long nothing happens behind them.
+    fn end_of_times(&mut self, end: u64) -> io::Result<()> {
         let y = BOTTOM + 36;
         write!(
             self.out,
@@ -275,16 +290,21 @@ impl<W: Write> Picture<'_, '_, W> {
         )?;
         for index in 0..16u64 {
             if let Some(mark) = self.number.mark(index) {
-                let y = self.number.place(mark);
-                let base = y.saturating_add(4);
-                writeln!(
-                    self.out,
-                    "<path class=\"grid\" d=\"M{LEFT} {y}H{RIGHT}\"/>\
-                    <text class=\"mark\" x=\"{end}\" text-anchor=\"end\" y=\"{base}\">{mark}</text>"
-                )?;
+                self.number_mark(mark, end)?;
             }
         }
         Ok(())
+    }
+
+    // The mark of this number, whose text ends at `end`.
+    fn number_mark(&mut self, mark: u64, end: u64) -> io::Result<()> {
+        let y = self.number.place(mark);
+        let base = y.saturating_add(4);
+        writeln!(
+            self.out,
+            "<path class=\"grid\" d=\"M{LEFT} {y}H{RIGHT}\"/>\
+            <text class=\"mark\" x=\"{end}\" text-anchor=\"end\" y=\"{base}\">{mark}</text>"
+        )
     }
 
     fn frame(&mut self) -> io::Result<()> {
@@ -412,12 +432,8 @@ impl<W: Write> Picture<'_, '_, W> {
             _ => 0,
         };
         let middle = from.saturating_add(again);
-        if from < middle {
-            self.range_sent("again", x, from, middle)?;
-        }
-        if middle < to {
-            self.range_sent("sent", x, middle, to)?;
-        }
+        self.range_sent("again", x, from, middle)?;
+        self.range_sent("sent", x, middle, to)?;
         if !arrived {
             self.cross(x, from.saturating_add(to) / 2)?;
         }
@@ -425,6 +441,9 @@ impl<W: Write> Picture<'_, '_, W> {
     }
 
     fn range_sent(&mut self, class: &str, x: u64, from: u64, to: u64) -> io::Result<()> {
+        if to <= from {
+            return Ok(());
+        }
         let (from, to) = (self.number.place(from), self.number.place(to));
         let left = x.saturating_sub(3);
         writeln!(

@@ -4,6 +4,7 @@ ghost use Rattle.sock_tcp.specs.View.{IsShort};
 use crate::clock::Clock;
 use crate::getters::{endpoints, measures, poll, queues, settings, state};
 use crate::memory::NoMemory;
+use crate::outbox::Host;
 use crate::seat::{Now, Seat};
 use crate::shown::{Address, ReadBytes};
 use crate::takes::take;
@@ -259,28 +260,38 @@ fn perform_counted(
 ) -> Result<(), NoMemory> {
     match which {
         Counted::Connect => connect(seat, alloc, now, line),
-        Counted::Fill => {
-            let bytes = vec![in alloc; b'x'; count as usize]?;
-            send(seat, bytes.as_slice(), line)
-        }
+        Counted::Fill => fill(seat, alloc, count as usize, line),
         Counted::Recv => read(seat, alloc, count as usize, true, line),
         Counted::Peek => read(seat, alloc, count as usize, false, line),
-        Counted::Dispatch => {
-            let mut host = seat.host(alloc, now, false);
+        Counted::Poll => tell_poll(seat, alloc, now, line),
+        Counted::Dispatch | Counted::Fail | Counted::Gone => {
+            let mut host = host_for(seat, alloc, now, which);
             seat.dispatch(&mut host, line)
         }
-        Counted::Fail => {
-            let mut host = seat.host(alloc, now, true);
-            seat.dispatch(&mut host, line)
-        }
-        Counted::Gone => {
-            let mut host = seat.host_elsewhere(alloc, now);
-            seat.dispatch(&mut host, line)
-        }
-        Counted::Poll => {
-            let host = seat.host(alloc, now, false);
-            poll(&seat.socket, &host, line)
-        }
+    }
+}
+
+fn fill(
+    seat: &mut Seat<'_>,
+    alloc: Global,
+    count: usize,
+    line: &mut String,
+) -> Result<(), NoMemory> {
+    let bytes = vec![in alloc; b'x'; count]?;
+    send(seat, bytes.as_slice(), line)
+}
+
+fn tell_poll(seat: &Seat<'_>, alloc: Global, now: Now, line: &mut String) -> Result<(), NoMemory> {
+    let host = seat.host(alloc, now, false);
+    poll(&seat.socket, &host, line)
+}
+
+// The context of a dispatch.
+fn host_for(seat: &Seat<'_>, alloc: Global, now: Now, which: Counted) -> Host {
+    match which {
+        Counted::Gone => seat.host_elsewhere(alloc, now),
+        Counted::Fail => seat.host(alloc, now, true),
+        _ => seat.host(alloc, now, false),
     }
 }
 
@@ -407,34 +418,54 @@ fn read(
     line: &mut String,
 ) -> Result<(), NoMemory> {
     let mut bytes = vec![in alloc; 0u8; size]?;
-    let out = bytes.as_mut_slice();
-    match &mut seat.socket {
-        Socket::Tcp(socket) => {
-            let answer = match takes {
-                true => socket.recv_slice(out),
-                false => socket.peek_slice(out),
-            };
-            read_bytes(answer, out, line)
-        }
-        Socket::Udp(socket) => {
-            let answer = match takes {
-                true => socket.recv_slice(out),
-                false => peek_udp(socket, out),
-            };
-            came_udp(answer, out, line)
-        }
-        Socket::Icmp(socket) if takes => {
-            let answer = socket.recv_slice(out);
-            came_icmp(answer, out, line)
-        }
+    read_into(&mut seat.socket, bytes.as_mut_slice(), takes, line)
+}
+
+fn read_into(
+    socket: &mut Socket<'_, Clock>,
+    out: &mut [u8],
+    takes: bool,
+    line: &mut String,
+) -> Result<(), NoMemory> {
+    match socket {
+        Socket::Tcp(socket) => read_bytes(read_tcp(socket, out, takes), out, line),
+        Socket::Udp(socket) => came_udp(read_udp(socket, out, takes), out, line),
+        Socket::Icmp(socket) if takes => came_icmp(socket.recv_slice(out), out, line),
         Socket::Icmp(_) => say(line, NO_SUCH_CALL),
-        Socket::Raw(socket) => {
-            let answer = match takes {
-                true => socket.recv_slice(out),
-                false => socket.peek_slice(out),
-            };
-            read_bytes(answer, out, line)
-        }
+        Socket::Raw(socket) => read_bytes(read_raw(socket, out, takes), out, line),
+    }
+}
+
+fn read_tcp(
+    socket: &mut tcp::Socket<'_, Clock>,
+    out: &mut [u8],
+    takes: bool,
+) -> Result<usize, tcp::RecvError> {
+    match takes {
+        true => socket.recv_slice(out),
+        false => socket.peek_slice(out),
+    }
+}
+
+fn read_udp(
+    socket: &mut udp::Socket<'_>,
+    out: &mut [u8],
+    takes: bool,
+) -> Result<(usize, UdpMetadata), udp::RecvError> {
+    match takes {
+        true => socket.recv_slice(out),
+        false => peek_udp(socket, out),
+    }
+}
+
+fn read_raw(
+    socket: &mut raw::Socket<'_>,
+    out: &mut [u8],
+    takes: bool,
+) -> Result<usize, raw::RecvError> {
+    match takes {
+        true => socket.recv_slice(out),
+        false => socket.peek_slice(out),
     }
 }
 

@@ -9,7 +9,7 @@ use control_wire::{Icmpv4Repr, Icmpv6Repr, TcpControl, TcpRepr, TcpSeqNumber, Ud
 use drill_lines::fields::{Carried, Fields, PAYLOAD};
 use drill_lines::places::bytes_of_hex;
 use ip_wire::{IpEndpoint, IpProtocol, IpRepr};
-use smoltcp_socket::{Context, Socket, icmp, tcp};
+use smoltcp_socket::{Context, Socket, icmp, raw, tcp, udp};
 use std::alloc::{AllocError, Global};
 
 /// A packet that is written by hand comes to the socket.
@@ -160,22 +160,36 @@ fn heard_by(socket: &mut Socket<'_, Clock>, host: &mut Host, packet: &Packet) ->
             hear_segment(socket, host, ip, &repr)
         }
         (Socket::Udp(socket), Kind::Udp(repr)) => {
-            let is_taken = socket.accepts(host, ip, repr);
-            if is_taken {
-                socket.process(host, ip, repr, payload);
-            }
-            without_reply(is_taken)
+            without_reply(hear_datagram(socket, host, ip, repr, payload))
         }
         (Socket::Icmp(socket), Kind::Icmp) => hear_message(socket, host, ip, payload),
-        (Socket::Raw(socket), Kind::Raw) => {
-            let is_taken = socket.accepts(ip);
-            if is_taken {
-                socket.process(host, ip, payload);
-            }
-            without_reply(is_taken)
-        }
+        (Socket::Raw(socket), Kind::Raw) => without_reply(hear_packet(socket, host, ip, payload)),
         _ => without_reply(false),
     }
+}
+
+// Whether the socket takes a datagram.
+fn hear_datagram(
+    socket: &mut udp::Socket<'_>,
+    host: &mut Host,
+    ip: &IpRepr,
+    repr: &UdpRepr,
+    payload: &[u8],
+) -> bool {
+    let is_taken = socket.accepts(host, ip, repr);
+    if is_taken {
+        socket.process(host, ip, repr, payload);
+    }
+    is_taken
+}
+
+// Whether the socket takes a packet of its protocol.
+fn hear_packet(socket: &mut raw::Socket<'_>, host: &mut Host, ip: &IpRepr, payload: &[u8]) -> bool {
+    let is_taken = socket.accepts(ip);
+    if is_taken {
+        socket.process(host, ip, payload);
+    }
+    is_taken
 }
 
 // A segment that is refused is answered by an RST, unless it is one.
