@@ -6,7 +6,7 @@ use crate::text::Text;
 use std::alloc::{AllocError, Global};
 
 /// A kind of script.
-#[derive(Debug, Clone, Copy, PartialEq, Eq)]
+#[derive(Clone, Copy)]
 pub enum Kind {
     /// Pieces of some 1,000 bytes, four of them before an acknowledgement.
     Bulk,
@@ -54,7 +54,7 @@ pub fn script(
     let mut text = Text::new(alloc, random)?;
     text.put(OPENING)?;
     text.count(3);
-    if kind == Kind::Bulk {
+    if let Kind::Bulk = kind {
         begin_slowly(&mut text, random)?;
     }
     for _ in 0..rounds {

@@ -2,7 +2,7 @@
 ghost use Rattle.std.specs.Prelude.{◌<◌};
 
 /// A linear congruential generator modulo 2^64 (Knuth, MMIX).
-#[derive(Debug, Drop)]
+#[derive(Drop)]
 pub struct Random {
     state: u64,
 }
