@@ -53,3 +53,8 @@ pub record IsLayered (places blocks groups : List ℤ) : Type 0 where
   pub groups_reach : Reaches blocks groups
   pub blocks_cover : Covers places blocks
   pub groups_cover : Covers blocks groups
+
+-- and what is below all groups
+pub record IsTopped (least : ℤ) (places blocks groups : List ℤ) : Type 0 where
+  pub layers : IsLayered places blocks groups
+  pub below : IsBelowAll least groups

@@ -1,9 +1,11 @@
 //! Lower bounds of the moments at which places want to be asked.
-ghost use Rattle.std.specs.Prelude.{ℕ, ◌≡◌, ◌≤◌, ◌<◌, ◌/◌, ◌<ℤ◌, ◌≤ℤ◌, IfOk, length, slice_set, true};
+ghost use Rattle.std.specs.Prelude.{ℕ, ◌≡◌, ◌≤◌, ◌<◌, ◌<ℤ◌, IfOk, length, slice_set, true};
 ghost use Rattle.std.specs.List.{All};
-ghost use Rattle.host_bounds.specs.Bounding.{Covers, FindsReached, IsBelowAll, IsLayered, at_once, bound_at};
+ghost use Rattle.host_bounds.specs.Bounding.{FindsReached, IsBelowAll, at_once, bound_at};
 
-use crate::levels::{FAN_OUT, first_between, least_between, least_bounds, lower_all, mend};
+use crate::levels::{first_between, least_bounds, lower_all};
+use crate::marks::{all_ones, first_in, put_on, set_all, take_off};
+use crate::times::Times;
 use std::alloc::{AllocError, Global};
 use std::marker::Model;
 
@@ -12,34 +14,37 @@ use std::marker::Model;
 #[derive(Drop)]
 pub struct Bounds {
     places: Vec<i64>,
-    // of each 32 places, none of which has a lower one
-    blocks: Vec<i64>,
-    // of each 32 blocks
-    groups: Vec<i64>,
+    // a bit for each place, set where it is to be asked at once
+    marks: Vec<u64>,
+    // a bit for each word of these, set where it is not 0
+    words: Vec<u64>,
+    // of each place what its bound was last, when it was not the least
+    times: Times,
 }
 
 impl Model for Bounds {
     ghost use Rattle.std.specs.Prelude.{ℤ, List};
-    ghost use Rattle.host_bounds.specs.Bounding.{IsLayered};
+    ghost use Rattle.host_bounds.specs.Marking.{IsMarked};
 
     ghost Value = { List ℤ };
 
     ghost view = { λ b. b.places.items };
 
-    ghost invariant = { λ b. IsLayered b.places.items b.blocks.items b.groups.items };
+    ghost invariant = { λ b. IsMarked b.places.items b.times b.marks.items b.words.items };
 }
 
 impl Bounds {
-    /// Bounds of so many places, each of which is to be asked at once. They take 8.3 bytes a place.
+    /// Bounds of so many places, each of which is to be asked at once. They take 16.4 bytes a place.
     pub fn new(alloc: Global, count: usize) -> Result<Bounds, AllocError>
         ensures len { IfOk result (λ b. length b ≡ count) }
         ensures least { IfOk result (λ b. All (λ m. m ≡ at_once) b) }
     {
-        let blocks = count.div_ceil(FAN_OUT);
+        let words = count / 64 + 1;
         Ok(Bounds {
             places: least_bounds(alloc, count)?,
-            blocks: least_bounds(alloc, blocks)?,
-            groups: least_bounds(alloc, blocks.div_ceil(FAN_OUT))?,
+            marks: all_ones(alloc, words)?,
+            words: all_ones(alloc, words / 64 + 1)?,
+            times: Times::new(alloc, count)?,
         })
     }
 
@@ -55,18 +60,30 @@ impl Bounds {
         ensures { self.new ≡ slice_set self.old place bound }
     {
         if place < self.places.len() && self.get(place) != bound {
-            self.set_there(place, bound);
+            if bound == i64::MIN {
+                self.mark(place);
+            } else {
+                self.time(place, bound);
+            }
         }
     }
 
-    fn set_there(&mut self, place: usize, bound: i64)
+    fn mark(&mut self, place: usize)
         requires { place < length self.old }
+        ensures { self.new ≡ slice_set self.old place at_once }
+    {
+        self.places[place] = i64::MIN;
+        put_on(&mut self.marks, &mut self.words, place);
+    }
+
+    fn time(&mut self, place: usize, bound: i64)
+        requires there { place < length self.old }
+        requires later { at_once <ℤ bound }
         ensures { self.new ≡ slice_set self.old place bound }
     {
-        let was = self.places[place];
         self.places[place] = bound;
-        let was = mend(&self.places, &mut self.blocks, place, was);
-        mend(&self.blocks, &mut self.groups, place / FAN_OUT, was);
+        take_off(&mut self.marks, &mut self.words, place);
+        self.times.set(place, bound);
     }
 
     /// Each place is to be asked at once.
@@ -75,8 +92,8 @@ impl Bounds {
         ensures least { All (λ m. m ≡ at_once) self.new }
     {
         lower_all(&mut self.places);
-        lower_all(&mut self.blocks);
-        lower_all(&mut self.groups);
+        set_all(&mut self.marks);
+        set_all(&mut self.words);
     }
 
     /// The bound of a place; the least where it is not there.
@@ -96,22 +113,20 @@ impl Bounds {
         now < self.least()
     }
 
-    // The next place whose block may have one that wants to be asked by now: this one, or one before which none does.
-    fn skip(&self, place: usize, now: i64) -> usize
-        requires { place < length self.now }
-        ensures behind { place ≤ result }
-        ensures before { (k : ℕ) → place ≤ k → k < result → k < length self.now → now <ℤ bound_at self.now k }
+    // Before this place, or the end, no place from one on wants to be asked by now.
+    fn first(&self, start: usize, end: usize, now: i64) -> usize
+        requires { end ≤ length self.now }
+        ensures within { result ≤ end }
+        ensures before { (k : ℕ) → start ≤ k → k < result → now <ℤ bound_at self.now k }
     {
-        let block = place / FAN_OUT;
-        let group = block / FAN_OUT;
-        if now < self.groups[group] {
-            return (group + 1) * FAN_OUT * FAN_OUT;
+        let near = first_in(&self.marks, &self.words, start).min(end);
+        if now < self.times.least() {
+            return near;
         }
-        if now < self.blocks[block] {
-            let stop = self.blocks.len().min((group + 1) * FAN_OUT);
-            return next_block(&self.places, &self.blocks, place, stop, now);
+        match self.times.next(start, near, now) {
+            Some(place) => place,
+            None => near,
         }
-        place
     }
 
     /// The first place that may want to be asked by now, from one on and before another.
@@ -119,43 +134,20 @@ impl Bounds {
         requires { end ≤ length self.now }
         ensures { FindsReached self.now start end now result }
     {
-        let mut place = start;
-        while place < end {
-            let next = self.skip(place, now);
-            if next == place {
-                let stop = end.min((place / FAN_OUT + 1) * FAN_OUT);
-                if let Some(found) = first_between(&self.places, place, stop, now) {
-                    return Some(found);
-                }
-                place = stop;
-            } else {
-                place = next;
-            }
+        let first = self.first(start, end, now).max(start);
+        if end <= first {
+            return None;
         }
-        None
+        first_between(&self.places, first, end, now)
     }
 
     /// A moment before which no place need be asked.
     pub fn least(&self) -> i64
         ensures { IsBelowAll result self.now }
     {
-        least_between(&self.groups, 0, self.groups.len())
+        if first_in(&self.marks, &self.words, 0) < self.places.len() {
+            return i64::MIN;
+        }
+        self.times.least()
     }
-}
-
-// Where the next block of this place's group begins whose bound is reached by now, or the next group.
-#[tactic(auto, using(crate::proofs::Layers::none_between))]
-fn next_block(places: &[i64], blocks: &[i64], place: usize, stop: usize, now: i64) -> usize
-    requires covers { Covers places.now blocks.now }
-    requires within { stop ≤ length blocks.now }
-    requires there { place / 32 < stop }
-    requires after { now <ℤ bound_at blocks.now (place / 32) }
-    ensures behind { place ≤ result }
-    ensures before { (k : ℕ) → place ≤ k → k < result → k < length places.now → now <ℤ bound_at places.now k }
-{
-    let next = match first_between(blocks, place / FAN_OUT + 1, stop, now) {
-        Some(block) => block,
-        None => stop,
-    };
-    next.saturating_mul(FAN_OUT)
 }

@@ -3,5 +3,7 @@
 
 pub mod bounds;
 pub mod levels;
+pub mod marks;
+pub mod times;
 
 pub use bounds::Bounds;

@@ -21,7 +21,7 @@ pub type SocketSet<'a, G = Generator> = Filed<Slot<'a, G>>;
 const KEYS: usize = 2;
 
 impl<'a, G: TsvalSource> Filed<Slot<'a, G>> {
-    /// A set with room for so many sockets. Nothing is allocated afterwards. Its index and its bounds take 73 bytes a
+    /// A set with room for so many sockets. Nothing is allocated afterwards. Its index and its bounds take 81 bytes a
     /// socket.
     pub fn new(alloc: Global, capacity: usize) -> Result<SocketSet<'a, G>, AllocError>
         ensures capacity { IfOk result (λ s. length s.slots.items ≡ capacity) }

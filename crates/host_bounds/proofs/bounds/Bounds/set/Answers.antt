@@ -1,7 +1,7 @@
 use Rattle.std.proofs.Common.{rules, ◌≡◌, ◌∙◌, ◌≤◌, length, sym, subst}
 use Rattle.std.specs.Prelude.{slice_set}
 use Rattle.std.proofs.lemmas.List.{set-get_or, set_past}
-use Rattle.host_bounds.specs.Bounding.{at_once, bound_at}
+use Rattle.host_bounds.specs.Bounding.{at_once}
 use Rattle.host_bounds.proofs.bounds.Bounds.set.Goals.{else-place-len-via-else-place-len, else-place-len-via-then-place-len+else-get-bound}
 use Rattle.host_bounds.proofs.bounds.Bounds.set.Goals as goal
 

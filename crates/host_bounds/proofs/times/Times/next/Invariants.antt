@@ -1,6 +1,6 @@
 use Rattle.std.proofs.Common.{◌-◌, ◌≤◌, ◌<◌, ◌<ℤ◌, length, ℕ}
 use Rattle.host_bounds.specs.Bounding.{bound_at}
-use Rattle.host_bounds.proofs.bounds.Bounds.next.Given as goal
+use Rattle.host_bounds.proofs.times.Times.next.Given as goal
 
 abbrev pub invariant-loop-place : goal.invariant-loop-place
 invariant-loop-place l = record {

@@ -1,6 +1,6 @@
 use Rattle.std.proofs.Common.{rules, ℕ, ◌≤◌, ◌<◌, ◌<ℤ◌, length, subst}
 use Rattle.host_bounds.specs.Bounding.{bound_at}
-use Rattle.host_bounds.proofs.bounds.Bounds.skip.Goals as goal
+use Rattle.host_bounds.proofs.times.Times.skip.Goals as goal
 
 pub returns-then-now-index-2-clause-before : goal.returns-then-now-index-2-clause-before
 returns-then-now-index-2-clause-before c =
