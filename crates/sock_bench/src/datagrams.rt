@@ -13,6 +13,7 @@ use smoltcp_socket::wire::{
 };
 use smoltcp_socket::{Context, PollAt, icmp, raw, udp};
 use std::alloc::{AllocError, Global};
+use std::slice::IterMut;
 
 const HERE: Ipv4Address = Ipv4Address([10, 0, 0, 1]);
 
@@ -57,27 +58,15 @@ struct Node<'a> {
     refused: u64,
 }
 
-// The places and bytes of the queues of a UDP socket.
-#[derive(Drop)]
-struct Queues {
-    rx_places: Vec<udp::PacketMetadata>,
-    rx: Vec<u8>,
-    tx_places: Vec<udp::PacketMetadata>,
-    tx: Vec<u8>,
-}
-
-// The same of all sockets of a host.
+// The places and bytes of the queues of a host's sockets.
 #[derive(Drop)]
 struct Memory {
-    udp: Vec<Queues>,
-    icmp_rx_places: [icmp::PacketMetadata; 8],
-    icmp_rx: [u8; 4096],
-    icmp_tx_places: [icmp::PacketMetadata; 8],
-    icmp_tx: [u8; 4096],
-    raw_rx_places: [raw::PacketMetadata; 8],
-    raw_rx: [u8; 4096],
-    raw_tx_places: [raw::PacketMetadata; 8],
-    raw_tx: [u8; 4096],
+    udp_places: Vec<Vec<udp::PacketMetadata>>,
+    icmp_rx: Vec<icmp::PacketMetadata>,
+    icmp_tx: Vec<icmp::PacketMetadata>,
+    raw_rx: Vec<raw::PacketMetadata>,
+    raw_tx: Vec<raw::PacketMetadata>,
+    bytes: Vec<Vec<u8>>,
 }
 
 /// Runs the job, and adds to the digest what each socket read.
@@ -88,88 +77,51 @@ pub fn datagrams(
     random: &mut Random,
     digest: &mut Digest,
 ) -> Result<(), AllocError> {
-    let moments = MOMENTS / 1000 * share.min(1000);
     let (mut memory_a, mut memory_b) = (Memory::new(alloc)?, Memory::new(alloc)?);
-    let (a, b) = (&mut memory_a, &mut memory_b);
-    with_memory(alloc, a, b, moments, source, random, digest)
-}
-
-fn with_memory(
-    alloc: Global,
-    a: &mut Memory,
-    b: &mut Memory,
-    moments: u32,
-    source: &[u8],
-    random: &mut Random,
-    digest: &mut Digest,
-) -> Result<(), AllocError> {
-    let a = Node::new(alloc, HERE, a)?;
-    let b = Node::new(alloc, THERE, b)?;
-    run((a, b), moments, source, random, digest)
-}
-
-// So many moments of two hosts.
-fn run(
-    nodes: (Node<'_>, Node<'_>),
-    moments: u32,
-    source: &[u8],
-    random: &mut Random,
-    digest: &mut Digest,
-) -> Result<(), AllocError> {
-    let (mut a, mut b) = nodes;
+    let (Some(mut a), Some(mut b)) = (
+        Node::new(alloc, HERE, &mut memory_a)?,
+        Node::new(alloc, THERE, &mut memory_b)?,
+    ) else {
+        return Ok(());
+    };
+    let moments = MOMENTS / 1000 * share.min(1000);
     for now in 0..moments {
         a.host.set_millis(now);
         b.host.set_millis(now);
         a.send(THERE, source, random, digest);
         b.send(HERE, source, random, digest);
-        exchange(&mut a, &mut b, random, digest)?;
+        a.dispatch()?;
+        b.receive_from(&mut a)?;
+        b.read(random, digest);
+        b.dispatch()?;
+        a.receive_from(&mut b)?;
+        a.read(random, digest);
     }
     digest.number(a.refused);
     digest.number(b.refused);
     Ok(())
 }
 
-// What a emits is read by b, and then what b emits by a.
-fn exchange(
-    a: &mut Node<'_>,
-    b: &mut Node<'_>,
-    random: &mut Random,
-    digest: &mut Digest,
-) -> Result<(), AllocError> {
-    b.receive_from(a)?;
-    b.read(random, digest);
-    a.receive_from(b)?;
-    a.read(random, digest);
-    Ok(())
-}
-
-impl Queues {
-    fn new(alloc: Global, places: usize, size: usize) -> Result<Queues, AllocError> {
-        Ok(Queues {
-            rx_places: vec![in alloc; udp::PacketMetadata::EMPTY; places]?,
-            rx: vec![in alloc; 0u8; size]?,
-            tx_places: vec![in alloc; udp::PacketMetadata::EMPTY; places]?,
-            tx: vec![in alloc; 0u8; size]?,
-        })
-    }
-}
-
 impl Memory {
     fn new(alloc: Global) -> Result<Memory, AllocError> {
-        let mut udp = Vec::new(alloc);
+        let mut udp_places = Vec::new(alloc);
+        let mut bytes = Vec::new(alloc);
         for [places, size] in SIZES {
-            udp.push(Queues::new(alloc, places, size)?)?;
+            for _ in 0..2 {
+                udp_places.push(vec![in alloc; udp::PacketMetadata::EMPTY; places]?)?;
+                bytes.push(vec![in alloc; 0u8; size]?)?;
+            }
+        }
+        for _ in 0..4 {
+            bytes.push(vec![in alloc; 0u8; 4096]?)?;
         }
         Ok(Memory {
-            udp,
-            icmp_rx_places: [icmp::PacketMetadata::EMPTY; 8],
-            icmp_rx: [0; 4096],
-            icmp_tx_places: [icmp::PacketMetadata::EMPTY; 8],
-            icmp_tx: [0; 4096],
-            raw_rx_places: [raw::PacketMetadata::EMPTY; 8],
-            raw_rx: [0; 4096],
-            raw_tx_places: [raw::PacketMetadata::EMPTY; 8],
-            raw_tx: [0; 4096],
+            udp_places,
+            icmp_rx: vec![in alloc; icmp::PacketMetadata::EMPTY; 8]?,
+            icmp_tx: vec![in alloc; icmp::PacketMetadata::EMPTY; 8]?,
+            raw_rx: vec![in alloc; raw::PacketMetadata::EMPTY; 8]?,
+            raw_tx: vec![in alloc; raw::PacketMetadata::EMPTY; 8]?,
+            bytes,
         })
     }
 }
@@ -180,68 +132,78 @@ impl<'a> Node<'a> {
         alloc: Global,
         addr: Ipv4Address,
         memory: &'a mut Memory,
-    ) -> Result<Node<'a>, AllocError> {
+    ) -> Result<Option<Node<'a>>, AllocError> {
         let Memory {
-            udp,
-            icmp_rx_places,
+            udp_places,
             icmp_rx,
-            icmp_tx_places,
             icmp_tx,
-            raw_rx_places,
             raw_rx,
-            raw_tx_places,
             raw_tx,
+            bytes,
         } = memory;
-        Ok(Node {
-            udps: udp_sockets(alloc, udp)?,
+        let mut bytes = bytes.iter_mut();
+        let udps = udp_sockets(alloc, udp_places, &mut bytes)?;
+        let (Some(icmp_in), Some(icmp_out)) = (bytes.next(), bytes.next()) else {
+            return Ok(None);
+        };
+        let (Some(raw_in), Some(raw_out)) = (bytes.next(), bytes.next()) else {
+            return Ok(None);
+        };
+        Ok(Some(Node {
             host: Interface::new(addr, Seeded { state: 1 }, Outbox::new(alloc)),
-            icmp: icmp_socket(
-                PacketBuffer::new(icmp_rx_places, icmp_rx),
-                PacketBuffer::new(icmp_tx_places, icmp_tx),
-            ),
-            raw: raw::Socket::new(
-                Some(IpVersion::Ipv4),
-                Some(EXPERIMENT),
-                PacketBuffer::new(raw_rx_places, raw_rx),
-                PacketBuffer::new(raw_tx_places, raw_tx),
-            ),
+            udps,
+            icmp: icmp_socket((icmp_rx, icmp_in), (icmp_tx, icmp_out)),
+            raw: raw_socket((raw_rx, raw_in), (raw_tx, raw_out)),
             refused: 0,
-        })
+        }))
     }
 }
 
-// The UDP sockets, each bound to its port.
+// The UDP sockets, each over two of the places and two of the bytes, and each bound to its port.
 fn udp_sockets<'a>(
     alloc: Global,
-    queues: &'a mut Vec<Queues>,
+    places: &'a mut Vec<Vec<udp::PacketMetadata>>,
+    bytes: &mut IterMut<'a, Vec<u8>>,
 ) -> Result<Vec<udp::Socket<'a>>, AllocError> {
     let mut udps = Vec::new(alloc);
-    let mut port = PORT;
-    for one in queues {
-        udps.push(udp_socket(one, port))?;
-        port = port.saturating_add(1);
+    let mut places = places.iter_mut();
+    for i in 0..SOCKETS as u16 {
+        let (Some(rx), Some(tx)) = (bytes.next(), bytes.next()) else {
+            break;
+        };
+        let (Some(rx_places), Some(tx_places)) = (places.next(), places.next()) else {
+            break;
+        };
+        let rx = PacketBuffer::new(rx_places.as_mut_slice(), rx.as_mut_slice());
+        let tx = PacketBuffer::new(tx_places.as_mut_slice(), tx.as_mut_slice());
+        let mut socket = udp::Socket::new(rx, tx);
+        let _ = socket.bind(IpListenEndpoint {
+            addr: None,
+            port: PORT + i,
+        });
+        udps.push(socket)?;
     }
     Ok(udps)
 }
 
-fn udp_socket(queues: &mut Queues, port: u16) -> udp::Socket<'_> {
-    let Queues {
-        rx_places,
-        rx,
-        tx_places,
-        tx,
-    } = queues;
-    let rx = PacketBuffer::new(rx_places.as_mut_slice(), rx.as_mut_slice());
-    let tx = PacketBuffer::new(tx_places.as_mut_slice(), tx.as_mut_slice());
-    let mut socket = udp::Socket::new(rx, tx);
-    let _ = socket.bind(IpListenEndpoint { addr: None, port });
-    socket
-}
-
-fn icmp_socket<'a>(rx: icmp::PacketBuffer<'a>, tx: icmp::PacketBuffer<'a>) -> icmp::Socket<'a> {
+fn icmp_socket<'a>(
+    rx: (&'a mut Vec<icmp::PacketMetadata>, &'a mut Vec<u8>),
+    tx: (&'a mut Vec<icmp::PacketMetadata>, &'a mut Vec<u8>),
+) -> icmp::Socket<'a> {
+    let rx = PacketBuffer::new(rx.0.as_mut_slice(), rx.1.as_mut_slice());
+    let tx = PacketBuffer::new(tx.0.as_mut_slice(), tx.1.as_mut_slice());
     let mut socket = icmp::Socket::new(rx, tx);
     let _ = socket.bind(icmp::Endpoint::Ident(7));
     socket
+}
+
+fn raw_socket<'a>(
+    rx: (&'a mut Vec<raw::PacketMetadata>, &'a mut Vec<u8>),
+    tx: (&'a mut Vec<raw::PacketMetadata>, &'a mut Vec<u8>),
+) -> raw::Socket<'a> {
+    let rx = PacketBuffer::new(rx.0.as_mut_slice(), rx.1.as_mut_slice());
+    let tx = PacketBuffer::new(tx.0.as_mut_slice(), tx.1.as_mut_slice());
+    raw::Socket::new(Some(IpVersion::Ipv4), Some(EXPERIMENT), rx, tx)
 }
 
 // 20 to 200 bytes, and of some up to 1,460.
@@ -304,38 +266,30 @@ impl Node<'_> {
 impl Node<'_> {
     fn dispatch(&mut self) -> Result<(), AllocError> {
         for socket in &mut self.udps {
-            dispatch_udp(socket, &mut self.host)?;
+            for _ in 0..64 {
+                if socket.poll_at(&self.host) != PollAt::Now {
+                    break;
+                }
+                socket.dispatch(
+                    &mut self.host,
+                    |cx: &mut Host, sent: (IpRepr, UdpRepr, &[u8])| {
+                        emit_udp(cx, &sent.0, &sent.1, sent.2)
+                    },
+                )?;
+            }
         }
         for _ in 0..8 {
-            dispatch_icmp(&mut self.icmp, &mut self.host)?;
-            dispatch_raw(&mut self.raw, &mut self.host)?;
+            self.icmp.dispatch(
+                &mut self.host,
+                |cx: &mut Host, sent: (IpRepr, IcmpRepr<'_>)| { emit_icmp(cx, &sent.0, &sent.1) },
+            )?;
+            self.raw
+                .dispatch(&mut self.host, |cx: &mut Host, sent: (IpRepr, &[u8])| {
+                    emit_raw(cx, &sent.0, sent.1)
+                })?;
         }
         Ok(())
     }
-}
-
-fn dispatch_udp(socket: &mut udp::Socket<'_>, host: &mut Host) -> Result<(), AllocError> {
-    for _ in 0..64 {
-        if socket.poll_at(host) != PollAt::Now {
-            break;
-        }
-        socket.dispatch(host, |cx: &mut Host, sent: (IpRepr, UdpRepr, &[u8])| {
-            emit_udp(cx, &sent.0, &sent.1, sent.2)
-        })?;
-    }
-    Ok(())
-}
-
-fn dispatch_icmp(socket: &mut icmp::Socket<'_>, host: &mut Host) -> Result<(), AllocError> {
-    socket.dispatch(host, |cx: &mut Host, sent: (IpRepr, IcmpRepr<'_>)| {
-        emit_icmp(cx, &sent.0, &sent.1)
-    })
-}
-
-fn dispatch_raw(socket: &mut raw::Socket<'_>, host: &mut Host) -> Result<(), AllocError> {
-    socket.dispatch(host, |cx: &mut Host, sent: (IpRepr, &[u8])| {
-        emit_raw(cx, &sent.0, sent.1)
-    })
 }
 
 fn emit_udp(cx: &mut Host, ip: &IpRepr, repr: &UdpRepr, payload: &[u8]) -> Result<(), AllocError> {
@@ -356,9 +310,7 @@ fn emit_raw(cx: &mut Host, ip: &IpRepr, payload: &[u8]) -> Result<(), AllocError
 
 // What arrives.
 impl Node<'_> {
-    // Takes what the other emits.
     fn receive_from(&mut self, other: &mut Node<'_>) -> Result<(), AllocError> {
-        other.dispatch()?;
         for packet in take_packets(&mut other.host) {
             self.receive(packet.as_slice())?;
         }

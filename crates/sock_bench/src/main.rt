@@ -51,15 +51,12 @@ fn task_of(rt: &HostRuntime) -> Option<Task> {
     let mut args = env::args(rt).ok()?;
     let _program = args.next();
     let job = args.next()?;
-    let (seed, share) = (number(args.next()), number(args.next()));
-    match (seed, share, args.next()) {
-        (Some(seed), Some(share), None) if share <= 1000 => Some(Task { job, seed, share }),
-        _ => None,
+    let seed = args.next()?.as_str().parse::<u32>().ok()?;
+    let share = args.next()?.as_str().parse::<u32>().ok()?;
+    if share > 1000 || args.next().is_some() {
+        return None;
     }
-}
-
-fn number(word: Option<String>) -> Option<u32> {
-    word?.as_str().parse::<u32>().ok()
+    Some(Task { job, seed, share })
 }
 
 fn run(rt: &HostRuntime, task: &Task) -> Result<(), AllocError> {
@@ -67,22 +64,22 @@ fn run(rt: &HostRuntime, task: &Task) -> Result<(), AllocError> {
     let source = source(rt.alloc(), &mut random)?;
     for job in ["bytes", "lossy", "conversations", "datagrams"] {
         if task.job.as_str() == job || task.job.as_str() == "all" {
-            run_alone(rt, job, task.share, source.as_slice(), &mut random)?;
+            let mut digest = Digest::new();
+            run_job(
+                rt.alloc(),
+                job,
+                task.share,
+                source.as_slice(),
+                &mut random,
+                &mut digest,
+            )?;
+            let _ = rt.println(format_args!(
+                "{job} {:016x} of {} bytes",
+                digest.value(),
+                digest.bytes
+            ));
         }
     }
-    Ok(())
-}
-
-fn run_alone(
-    rt: &HostRuntime,
-    job: &str,
-    share: u32,
-    source: &[u8],
-    random: &mut Random,
-) -> Result<(), AllocError> {
-    let mut digest = Digest::new();
-    run_job(rt.alloc(), job, share, source, random, &mut digest)?;
-    let _ = rt.println(format_args!("{job} {:016x} of {} bytes", digest.value(), digest.bytes));
     Ok(())
 }
 

@@ -9,7 +9,7 @@ use smoltcp_socket::tcp::CongestionControl;
 use std::alloc::{AllocError, Global};
 
 /// A transfer over one connection.
-#[derive(Clone, Copy)]
+#[derive(Debug, Clone, Copy)]
 pub struct Plan {
     /// Whether over IPv6.
     pub v6: bool,

@@ -48,23 +48,6 @@ impl<'a> Slot<'a> {
         self.talk.begin(request, answer);
     }
 
-    fn serve(
-        &mut self,
-        scratch: &mut [u8],
-        source: &[u8],
-        random: &mut Random,
-        digest: &mut Digest,
-    ) {
-        self.talk
-            .serve(&mut self.socket, scratch, source, random, digest);
-    }
-
-    // Whether the server has no conversation.
-    fn is_over(&self) -> bool {
-        self.talk.role == Role::Server
-            && matches!(self.socket.state(), State::Closed | State::TimeWait)
-    }
-
     /// Whether the client may begin another one; it counts what came of the last.
     pub fn is_idle(&self) -> bool {
         self.talk.role == Role::Client && self.socket.state() == State::Closed
@@ -94,7 +77,9 @@ impl<'a> Station<'a> {
     /// Keeps the sockets of the server open.
     pub fn listen(&mut self) {
         for slot in &mut self.slots {
-            if slot.is_over() {
+            if slot.talk.role == Role::Server
+                && matches!(slot.socket.state(), State::Closed | State::TimeWait)
+            {
                 slot.listen();
             }
         }
@@ -110,7 +95,8 @@ impl<'a> Station<'a> {
     ) -> Result<(), AllocError> {
         for slot in &mut self.slots {
             slot.guard.watch(&mut slot.socket, self.host.now());
-            slot.serve(scratch, source, random, digest);
+            slot.talk
+                .serve(&mut slot.socket, scratch, source, random, digest);
             emit(slot, &mut self.host)?;
         }
         Ok(())

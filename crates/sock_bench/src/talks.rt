@@ -1,5 +1,7 @@
 //! Many short conversations between two hosts: small requests and answers of up to some thousand bytes, each over a
 //! connection of its own, beside sockets that sleep, with a few hostile packets.
+ghost use Rattle.std.specs.Prelude.{◌≤◌, length};
+
 use crate::station::{Slot, Station};
 use bench_parts::conversation::{Role, SERVICE};
 use bench_parts::digest::Digest;
@@ -20,126 +22,100 @@ pub fn talks(
     random: &mut Random,
     digest: &mut Digest,
 ) -> Result<(), AllocError> {
-    for [sockets, sleepers, conversations] in SIZES {
+    for size in SIZES {
+        let [sockets, sleepers, conversations] = size;
         let left = conversations.min(1_000_000) * share.min(1000) as usize / 1000;
-        let mut bytes = vec![in alloc; 0u8; sockets.min(1000) * 4 * BUFFER]?;
-        let mut hosts = Hosts::new(alloc, left, random)?;
-        hosts.fill(bytes.as_mut_slice(), sleepers)?;
-        hosts.run(source, random, digest)?;
+        let sockets = sockets.min(1000);
+        let mut bytes = vec![in alloc; 0u8; sockets * 4 * BUFFER]?;
+        let mut client = Station::new(alloc, CLIENT, random.word());
+        let mut server = Station::new(alloc, SERVER, random.word());
+        fill(bytes.as_mut_slice(), sleepers, &mut client, &mut server)?;
+        let work = Work::new(left);
+        run(
+            alloc,
+            work,
+            (&mut client, &mut server),
+            source,
+            random,
+            digest,
+        )?;
+        client.add_to(digest);
+        server.add_to(digest);
     }
     Ok(())
 }
 
-// Two hosts, the wires between them, and what is left to do.
-#[derive(Drop)]
-struct Hosts<'a> {
-    client: Station<'a>,
-    server: Station<'a>,
-    there: Wire,
-    back: Wire,
-    scratch: Vec<u8>,
-    work: Work,
+// Makes the sockets of both hosts.
+fn fill<'a>(
+    bytes: &'a mut [u8],
+    sleepers: usize,
+    client: &mut Station<'a>,
+    server: &mut Station<'a>,
+) -> Result<(), AllocError> {
+    let mut made: usize = 0;
+    let mut buffers = bytes.chunks_exact_mut(BUFFER);
+    for _ in 0..1000 {
+        let (Some(rx), Some(tx)) = (buffers.next(), buffers.next()) else {
+            break;
+        };
+        let role = if made < sleepers {
+            Role::Sleeper
+        } else {
+            Role::Client
+        };
+        add(client, rx, tx, role)?;
+        let (Some(rx), Some(tx)) = (buffers.next(), buffers.next()) else {
+            break;
+        };
+        add(server, rx, tx, Role::Server)?;
+        made = made.saturating_add(1);
+    }
+    Ok(())
 }
 
-impl<'a> Hosts<'a> {
-    // Hosts without sockets, for so many conversations.
-    fn new(alloc: Global, left: usize, random: &mut Random) -> Result<Hosts<'a>, AllocError> {
-        Ok(Hosts {
-            scratch: vec![in alloc; 0u8; PIECE]?,
-            client: Station::new(alloc, CLIENT, random.word()),
-            server: Station::new(alloc, SERVER, random.word()),
-            there: Wire::new(alloc, FAULTS),
-            back: Wire::new(alloc, FAULTS),
-            work: Work::new(left),
-        })
-    }
-
-    // Makes the sockets of both hosts.
-    fn fill(&mut self, bytes: &'a mut [u8], sleepers: usize) -> Result<(), AllocError> {
-        let mut buffers = bytes.chunks_exact_mut(BUFFER);
-        for made in 0..1000 {
-            let role = if made < sleepers {
-                Role::Sleeper
-            } else {
-                Role::Client
-            };
-            let (rx, tx) = (buffers.next(), buffers.next());
-            let is_added = add(&mut self.client, rx, tx, role)?;
-            let (rx, tx) = (buffers.next(), buffers.next());
-            if !is_added || !add(&mut self.server, rx, tx, Role::Server)? {
-                break;
-            }
-        }
-        Ok(())
-    }
-
-    // Moment after moment, until all conversations were had.
-    fn run(
-        &mut self,
-        source: &[u8],
-        random: &mut Random,
-        digest: &mut Digest,
-    ) -> Result<(), AllocError> {
-        wake_sleepers(&mut self.client, &mut self.work);
-        for now in 0..MOMENTS {
-            if !self.moment(now, source, random, digest)? {
-                break;
-            }
-        }
-        self.client.add_to(digest);
-        self.server.add_to(digest);
-        Ok(())
-    }
-
-    // Whether there are still conversations.
-    fn moment(
-        &mut self,
-        now: u32,
-        source: &[u8],
-        random: &mut Random,
-        digest: &mut Digest,
-    ) -> Result<bool, AllocError> {
-        self.client.host.set_millis(now);
-        self.server.host.set_millis(now);
-        self.server.listen();
-        let busy = begin(&mut self.client, &mut self.work, random, digest);
-        if busy {
-            self.exchange(source, random, digest)?;
-        }
-        Ok(busy)
-    }
-
-    // Each host does what it can, and what it emitted goes to the other.
-    fn exchange(
-        &mut self,
-        source: &[u8],
-        random: &mut Random,
-        digest: &mut Digest,
-    ) -> Result<(), AllocError> {
-        let scratch = self.scratch.as_mut_slice();
-        self.client.serve(scratch, source, random, digest)?;
-        self.client.pass(&mut self.server, &mut self.there, random)?;
-        self.server.serve(scratch, source, random, digest)?;
-        self.server.pass(&mut self.client, &mut self.back, random)
-    }
-}
-
-// Adds a socket over two buffers; false where there are none.
 fn add<'a>(
     station: &mut Station<'a>,
-    rx: Option<&'a mut [u8]>,
-    tx: Option<&'a mut [u8]>,
+    rx: &'a mut [u8],
+    tx: &'a mut [u8],
     role: Role,
-) -> Result<bool, AllocError> {
-    let (Some(rx), Some(tx)) = (rx, tx) else {
-        return Ok(false);
-    };
+) -> Result<(), AllocError> {
     // a socket wants to know that its buffers are no longer
-    if rx.len() <= BUFFER && tx.len() <= BUFFER {
-        let socket = Socket::closed(RingBuffer::new(rx), RingBuffer::new(tx), None);
-        station.slots.push(Slot::new(socket, role))?;
+    if rx.len() > BUFFER || tx.len() > BUFFER {
+        return Ok(());
     }
-    Ok(true)
+    let socket = Socket::closed(RingBuffer::new(rx), RingBuffer::new(tx), None);
+    station.slots.push(Slot::new(socket, role))?;
+    Ok(())
+}
+
+// Moment after moment, until all conversations were had.
+fn run(
+    alloc: Global,
+    mut work: Work,
+    hosts: (&mut Station<'_>, &mut Station<'_>),
+    source: &[u8],
+    random: &mut Random,
+    digest: &mut Digest,
+) -> Result<(), AllocError> {
+    let (client, server) = hosts;
+    let mut there = Wire::new(alloc, FAULTS);
+    let mut back = Wire::new(alloc, FAULTS);
+    let mut scratch = vec![in alloc; 0u8; PIECE]?;
+    wake_sleepers(client, &mut work);
+    for now in 0..MOMENTS {
+        client.host.set_millis(now);
+        server.host.set_millis(now);
+        server.listen();
+        let busy = begin(client, &mut work, random, digest);
+        if !busy {
+            break;
+        }
+        client.serve(scratch.as_mut_slice(), source, random, digest)?;
+        client.pass(server, &mut there, random)?;
+        server.serve(scratch.as_mut_slice(), source, random, digest)?;
+        server.pass(client, &mut back, random)?;
+    }
+    Ok(())
 }
 
 // Begins a conversation on each socket that has none; whether there are still conversations.
@@ -151,24 +127,20 @@ fn begin(
 ) -> bool {
     let mut busy = work.left > 0;
     for slot in &mut client.slots {
-        if slot.is_idle() {
-            slot.talk.add_to(digest);
-            begin_next(slot, &mut client.host, work, random);
-        } else {
+        if !slot.is_idle() {
             busy = busy || slot.talk.role == Role::Client;
+            continue;
         }
-    }
-    busy
-}
-
-// Begins the next conversation, if one is left.
-fn begin_next<C: Context>(slot: &mut Slot<'_>, host: &mut C, work: &mut Work, random: &mut Random) {
-    if work.left > 0 {
+        slot.talk.add_to(digest);
+        if work.left == 0 {
+            continue;
+        }
         work.left -= 1;
         let answer = answer_len(random);
         slot.begin(20 + random.below(480) as usize, answer);
-        connect(slot, host, work, random.happens(20));
+        connect(slot, &mut client.host, work, random.happens(20));
     }
+    busy
 }
 
 // The sockets that sleep are connected at the beginning.

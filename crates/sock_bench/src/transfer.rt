@@ -1,5 +1,5 @@
 //! Bytes through a connection: two hosts, whose applications read and write, and the packets between them.
-ghost use Rattle.std.specs.Prelude.{◌≡◌, ◌≤◌, ◌^◌, [], length};
+ghost use Rattle.std.specs.Prelude.{◌≤◌, ◌^◌, length};
 
 use crate::plan::Plan;
 use bench_parts::clock::Clock;
@@ -43,26 +43,6 @@ struct End<'a> {
     received: usize,
 }
 
-// What the sockets of both ends queue their bytes in.
-#[derive(Drop)]
-struct Buffers {
-    rx_a: Vec<u8>,
-    tx_a: Vec<u8>,
-    rx_b: Vec<u8>,
-    tx_b: Vec<u8>,
-}
-
-impl Buffers {
-    fn new(alloc: Global, size: usize) -> Result<Buffers, AllocError> {
-        Ok(Buffers {
-            rx_a: vec![in alloc; 0u8; size]?,
-            tx_a: vec![in alloc; 0u8; size]?,
-            rx_b: vec![in alloc; 0u8; size]?,
-            tx_b: vec![in alloc; 0u8; size]?,
-        })
-    }
-}
-
 /// Runs a transfer, and adds to the digest what each side read and how it ended.
 pub fn transfer(
     alloc: Global,
@@ -71,28 +51,26 @@ pub fn transfer(
     random: &mut Random,
     digest: &mut Digest,
 ) -> Result<(), AllocError> {
-    let mut buffers = Buffers::new(alloc, plan.buffer.min(LONGEST))?;
-    over(alloc, plan, &mut buffers, source, random, digest)
-}
-
-fn over(
-    alloc: Global,
-    plan: &Plan,
-    buffers: &mut Buffers,
-    source: &[u8],
-    random: &mut Random,
-    digest: &mut Digest,
-) -> Result<(), AllocError> {
-    let Buffers {
-        rx_a,
-        tx_a,
-        rx_b,
-        tx_b,
-    } = buffers;
+    let size = plan.buffer.min(LONGEST);
+    let (mut rx_a, mut tx_a) = (vec![in alloc; 0u8; size]?, vec![in alloc; 0u8; size]?);
+    let (mut rx_b, mut tx_b) = (vec![in alloc; 0u8; size]?, vec![in alloc; 0u8; size]?);
+    let (rx_a, tx_a) = (rx_a.as_mut_slice(), tx_a.as_mut_slice());
+    let (rx_b, tx_b) = (rx_b.as_mut_slice(), tx_b.as_mut_slice());
     let [one, other] = plan.total;
-    let client = End::new(alloc, CLIENT, plan, one, (rx_a, tx_a), random.word());
-    let server = End::new(alloc, SERVER, plan, other, (rx_b, tx_b), random.word());
-    run(alloc, plan, (client, server), source, random, digest)
+    let mut client = End::new(alloc, CLIENT, plan, one, (rx_a, tx_a), random.word());
+    let mut server = End::new(alloc, SERVER, plan, other, (rx_b, tx_b), random.word());
+    open(plan, &mut client, &mut server);
+    run(
+        alloc,
+        plan,
+        (&mut client, &mut server),
+        source,
+        random,
+        digest,
+    )?;
+    client.add_to(digest);
+    server.add_to(digest);
+    Ok(())
 }
 
 impl<'a> End<'a> {
@@ -101,14 +79,18 @@ impl<'a> End<'a> {
         addr: Ipv4Address,
         plan: &Plan,
         total: usize,
-        buffers: (&'a mut Vec<u8>, &'a mut Vec<u8>),
+        buffers: (&'a mut [u8], &'a mut [u8]),
         seed: u32,
-    ) -> End<'a> {
+    ) -> End<'a>
+        requires rx { length buffers.0.now ≤ 2 ^ 20 }
+        requires tx { length buffers.1.now ≤ 2 ^ 20 }
+    {
         let state = u64::from(seed);
         let mut host = Interface::new(addr, Seeded { state }, Outbox::new(alloc));
         host.set_mtu(plan.mtu);
+        let (rx, tx) = buffers;
         let clock = if plan.stamped { Some(Clock) } else { None };
-        let mut socket = Socket::closed(ring(buffers.0), ring(buffers.1), clock);
+        let mut socket = Socket::closed(RingBuffer::new(rx), RingBuffer::new(tx), clock);
         socket.set_congestion_control(plan.congestion);
         socket.set_timeout(Some(TIMEOUT));
         socket.set_keep_alive(Some(KEEP_ALIVE));
@@ -122,114 +104,58 @@ impl<'a> End<'a> {
     }
 }
 
-// A socket wants to know that its buffers are no longer.
-fn ring(bytes: &mut Vec<u8>) -> RingBuffer<'_, u8>
-    ensures queue { result.queue ≡ [] }
-    ensures spare { length result.spare ≤ 2 ^ 20 }
-{
-    let len = bytes.len().min(LONGEST);
-    RingBuffer::new(&mut bytes.as_mut_slice()[..len])
+fn open(plan: &Plan, client: &mut End<'_>, server: &mut End<'_>) {
+    let addr = if plan.v6 {
+        IpAddress::Ipv6(server.host.ipv6_addr())
+    } else {
+        IpAddress::Ipv4(SERVER)
+    };
+    let _ = server.socket.listen(port(7));
+    let remote = IpEndpoint { addr, port: 7 };
+    let _ = client.socket.connect(&mut client.host, remote, port(49152));
 }
 
-// The two ends, the wires between them, and the moment.
-#[derive(Drop)]
-struct Connection<'a> {
-    client: End<'a>,
-    server: End<'a>,
-    there: Wire,
-    back: Wire,
-    scratch: Vec<u8>,
-    now: u32,
+fn port(port: u16) -> IpListenEndpoint {
+    IpListenEndpoint { addr: None, port }
 }
 
 // Moment after moment, until both are closed.
 fn run(
     alloc: Global,
     plan: &Plan,
-    ends: (End<'_>, End<'_>),
+    ends: (&mut End<'_>, &mut End<'_>),
     source: &[u8],
     random: &mut Random,
     digest: &mut Digest,
 ) -> Result<(), AllocError> {
-    let mut connection = Connection {
-        scratch: vec![in alloc; 0u8; plan.read.min(LONGEST)]?,
-        client: ends.0,
-        server: ends.1,
-        there: Wire::new(alloc, plan.faults),
-        back: Wire::new(alloc, plan.faults),
-        now: 0,
-    };
-    connection.open(plan);
+    let (client, server) = ends;
+    let mut there = Wire::new(alloc, plan.faults);
+    let mut back = Wire::new(alloc, plan.faults);
+    let mut scratch = vec![in alloc; 0u8; plan.read.min(LONGEST)]?;
+    let mut now = 0;
     for _ in 0..MOMENTS {
-        if connection.moment(plan, source, random, digest)? {
+        client.host.set_millis(now);
+        server.host.set_millis(now);
+        let reads = random.happens(plan.reads);
+        client.write(plan, source, random);
+        server.write(plan, source, random);
+        if reads {
+            client.read(scratch.as_mut_slice(), digest);
+            server.read(scratch.as_mut_slice(), digest);
+        }
+        let went = client.pass(server, &mut there, random)?;
+        let came = server.pass(client, &mut back, random)?;
+        if client.is_done() && server.is_done() {
             break;
         }
+        now = if went || came || !reads {
+            now.saturating_add(1)
+        } else {
+            next_moment(now, client, server)
+        };
     }
-    connection.add_to(digest);
+    digest.number(u64::from(now));
     Ok(())
-}
-
-impl Connection<'_> {
-    fn open(&mut self, plan: &Plan) {
-        let addr = if plan.v6 {
-            IpAddress::Ipv6(self.server.host.ipv6_addr())
-        } else {
-            IpAddress::Ipv4(SERVER)
-        };
-        let _ = self.server.socket.listen(port(7));
-        self.client.connect(IpEndpoint { addr, port: 7 });
-    }
-
-    // Lets the applications and the sockets do what they can; whether both ends are done.
-    fn moment(
-        &mut self,
-        plan: &Plan,
-        source: &[u8],
-        random: &mut Random,
-        digest: &mut Digest,
-    ) -> Result<bool, AllocError> {
-        self.client.host.set_millis(self.now);
-        self.server.host.set_millis(self.now);
-        let reads = random.happens(plan.reads);
-        self.client.write(plan, source, random);
-        self.server.write(plan, source, random);
-        if reads {
-            self.client.read(self.scratch.as_mut_slice(), digest);
-            self.server.read(self.scratch.as_mut_slice(), digest);
-        }
-        let moved = self.pass(random)?;
-        let done = self.client.is_done() && self.server.is_done();
-        if !done {
-            self.go_on(moved || !reads);
-        }
-        Ok(done)
-    }
-
-    // Packets go both ways; whether there were any.
-    fn pass(&mut self, random: &mut Random) -> Result<bool, AllocError> {
-        let went = self.client.pass(&mut self.server, &mut self.there, random)?;
-        let came = self.server.pass(&mut self.client, &mut self.back, random)?;
-        Ok(went || came)
-    }
-
-    // To the next millisecond, or to the one at which something is due.
-    fn go_on(&mut self, soon: bool) {
-        self.now = if soon {
-            self.now.saturating_add(1)
-        } else {
-            next_moment(self.now, &self.client, &self.server)
-        };
-    }
-
-    fn add_to(&self, digest: &mut Digest) {
-        digest.number(u64::from(self.now));
-        self.client.add_to(digest);
-        self.server.add_to(digest);
-    }
-}
-
-fn port(port: u16) -> IpListenEndpoint {
-    IpListenEndpoint { addr: None, port }
 }
 
 // When one of them wants to be dispatched: the next millisecond at the earliest.
@@ -248,10 +174,6 @@ fn millis_of(at: Instant) -> u32 {
 }
 
 impl End<'_> {
-    fn connect(&mut self, remote: IpEndpoint) {
-        let _ = self.socket.connect(&mut self.host, remote, port(49152));
-    }
-
     // Writes as much as the socket takes, in pieces of odd sizes, and closes behind the last.
     fn write(&mut self, plan: &Plan, source: &[u8], random: &mut Random) {
         if !self.socket.may_send() {
@@ -307,7 +229,12 @@ impl End<'_> {
         wire: &mut Wire,
         random: &mut Random,
     ) -> Result<bool, AllocError> {
-        self.emit()?;
+        for _ in 0..TURNS {
+            if !self.is_due() {
+                break;
+            }
+            dispatch_tcp(&mut self.socket, &mut self.host)?;
+        }
         let mut passed = false;
         let held = wire.held();
         for packet in take_packets(&mut self.host) {
@@ -316,24 +243,9 @@ impl End<'_> {
         }
         for packet in held {
             passed = true;
-            to.take(packet.as_slice())?;
+            receive_tcp(&mut to.socket, &mut to.host, packet.as_slice())?;
         }
         Ok(passed)
-    }
-
-    fn emit(&mut self) -> Result<(), AllocError> {
-        for _ in 0..TURNS {
-            if !self.is_due() {
-                break;
-            }
-            dispatch_tcp(&mut self.socket, &mut self.host)?;
-        }
-        Ok(())
-    }
-
-    fn take(&mut self, packet: &[u8]) -> Result<(), AllocError> {
-        receive_tcp(&mut self.socket, &mut self.host, packet)?;
-        Ok(())
     }
 
     fn arrive(
@@ -345,11 +257,14 @@ impl End<'_> {
         match wire.fate(random) {
             Fate::Lost => return Ok(()),
             Fate::Late => return wire.hold(packet),
-            Fate::Twice => self.take(packet.as_slice())?,
+            Fate::Twice => {
+                receive_tcp(&mut self.socket, &mut self.host, packet.as_slice())?;
+            }
             Fate::Flipped => flip(&mut packet, random),
             Fate::Arrives => {}
         }
-        self.take(packet.as_slice())
+        receive_tcp(&mut self.socket, &mut self.host, packet.as_slice())?;
+        Ok(())
     }
 
     fn add_to(&self, digest: &mut Digest) {
