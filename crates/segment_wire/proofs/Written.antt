@@ -29,11 +29,11 @@ two xs a b y z e f = f ∙ ap (λ us. us ++ b) e ∙ append_assoc xs a b
 pub three : (xs a b c y z w : List ℕ) → y ≡ xs ++ a → z ≡ y ++ b → w ≡ z ++ c → w ≡ xs ++ (a ++ (b ++ c))
 three xs a b c y z w e f g = two y b c z w f g ∙ ap (λ us. us ++ (b ++ c)) e ∙ append_assoc xs a (b ++ c)
 
-pub six : (xs a b c d e f x1 x2 x3 : List ℕ) → x1 ≡ xs ++ (a ++ (b ++ c)) → x2 ≡ x1 ++ (d ++ e) → x3 ≡ x2 ++ f → x3 ≡ xs ++ (a ++ (b ++ (c ++ (d ++ (e ++ f)))))
-six xs a b c d e f x1 x2 x3 p q r =
-    three xs (a ++ (b ++ c)) (d ++ e) f x1 x2 x3 p q r
-    ∙ ap (λ us. xs ++ us) (ap (λ us. (a ++ (b ++ c)) ++ us) (append_assoc d e f) ∙ append_assoc a (b ++ c) (d ++ (e ++ f))
-    ∙ ap (λ us. a ++ us) (append_assoc b c (d ++ (e ++ f))))
+pub six : (xs a b c d e f x1 x2 x3 x4 x5 x6 : List ℕ) → x1 ≡ xs ++ a → x2 ≡ x1 ++ b → x3 ≡ x2 ++ c → x4 ≡ x3 ++ d → x5 ≡ x4 ++ e → x6 ≡ x5 ++ f → x6 ≡ xs ++ (a ++ (b ++ (c ++ (d ++ (e ++ f)))))
+six xs a b c d e f x1 x2 x3 x4 x5 x6 p q r s t u =
+    three x3 d e f x4 x5 x6 s t u ∙ ap (λ us. us ++ (d ++ (e ++ f))) (three xs a b c x1 x2 x3 p q r)
+    ∙ append_assoc xs (a ++ (b ++ c)) (d ++ (e ++ f))
+    ∙ ap (λ us. xs ++ us) (append_assoc a (b ++ c) (d ++ (e ++ f)) ∙ ap (λ us. a ++ us) (append_assoc b c (d ++ (e ++ f))))
 
 mss_count : (m : Option ℕ) → length (mss_octets m) ≡ (if is_some m then 4 else 0)
 mss_count None = refl

@@ -1,5 +1,5 @@
 //! The options of a TCP header (RFC 9293, section 3.2; RFC 7323, sections 2.2 and 3.2; RFC 2018, sections 2 and 3).
-ghost use Rattle.std.specs.Prelude.{◌≡◌, ◌+◌, ◌≤◌, ◌≢◌, ◌++◌, IsTrue, drop, length, take, true, is_some};
+ghost use Rattle.std.specs.Prelude.{◌≡◌, ◌+◌, ◌≤◌, ◌≢◌, ◌++◌, IsTrue, length, take, true, is_some};
 ghost use Rattle.ip_wire.specs.Octets.{be32_at};
 ghost use Rattle.control_wire.specs.Segment.{segment_of};
 ghost use Rattle.control_wire.specs.Source.{is_option};
@@ -50,16 +50,6 @@ pub fn read_options(options: &[u8]) -> Option<TcpOptions>
         };
         at += size;
     }
-    end(options, at, found)
-}
-
-// What is known at the end of the options, of which one byte at most is left.
-#[inline(always)]
-fn end(options: &[u8], at: usize, found: TcpOptions) -> Option<TcpOptions>
-    requires within { at ≤ length options.now }
-    requires last { length options.now ≤ at + 1 }
-    ensures { result ≡ options_read 0 found (drop at options.now) }
-{
     if at == options.len() || options[at] <= 1 {
         Some(found)
     } else {

@@ -101,10 +101,8 @@ pub fn parse_tcp<'a>(
     let Some((ip, bytes)) = carried_if(packet, 6, caps) else {
         return Err(Error);
     };
-    match tcp::parse(bytes, &ip.src_addr(), &ip.dst_addr(), caps) {
-        Ok(repr) => Ok((ip, repr)),
-        Err(Error) => Err(Error),
-    }
+    let repr = tcp::parse(bytes, &ip.src_addr(), &ip.dst_addr(), caps)?;
+    Ok((ip, repr))
 }
 
 /// Reads a packet, as [`parse_tcp`], into `ip` and `repr`. Whether it carries a segment: else they say nothing.
@@ -154,15 +152,11 @@ fn whole_v4<'a>(packet: &'a [u8], caps: &ChecksumCapabilities) -> Option<(Ipv4Re
     ensures { option_map whole_v4_of result ≡ (if is_whole_v4 packet.now
         then carried_v4 packet.now (ipv4_parsed (is_received caps.now.ipv4) packet.now) else None) }
 {
-    let Ok(packet) = Ipv4Packet::new_checked(packet) else {
-        return None;
-    };
+    let packet = Ipv4Packet::new_checked(packet).ok()?;
     if is_fragment(&packet) {
         return None;
     }
-    let Ok(repr) = Ipv4Repr::parse(&packet, caps) else {
-        return None;
-    };
+    let repr = Ipv4Repr::parse(&packet, caps).ok()?;
     Some((repr, packet.payload()))
 }
 
@@ -193,12 +187,8 @@ fn whole_v6(packet: &[u8]) -> Option<(Ipv6Repr, &[u8])>
     ensures { option_map whole_v6_of result
         ≡ (if is_whole_v6 packet.now then carried_v6 packet.now (ipv6_parsed packet.now) else None) }
 {
-    let Ok(packet) = Ipv6Packet::new_checked(packet) else {
-        return None;
-    };
-    let Ok(repr) = Ipv6Repr::parse(&packet) else {
-        return None;
-    };
+    let packet = Ipv6Packet::new_checked(packet).ok()?;
+    let repr = Ipv6Repr::parse(&packet).ok()?;
     Some((repr, packet.payload()))
 }
 
@@ -215,10 +205,8 @@ pub fn parse_udp<'a>(
     let Some((ip, bytes)) = carried_if(packet, 17, caps) else {
         return Err(Error);
     };
-    match udp::parse(bytes, &ip.src_addr(), &ip.dst_addr(), caps) {
-        Ok((repr, payload)) => Ok((ip, repr, payload)),
-        Err(Error) => Err(Error),
-    }
+    let (repr, payload) = udp::parse(bytes, &ip.src_addr(), &ip.dst_addr(), caps)?;
+    Ok((ip, repr, payload))
 }
 
 // The header and what stands behind it, where that is of this protocol.
@@ -229,9 +217,7 @@ fn carried_if<'a>(
 ) -> Option<(IpRepr, &'a [u8])>
     ensures { option_map carried_of result ≡ carried_if protocol (carried (is_received caps.now.ipv4) packet.now) }
 {
-    let Some((ip, bytes)) = carried(packet, caps) else {
-        return None;
-    };
+    let (ip, bytes) = carried(packet, caps)?;
     if u8::from(ip.next_header()) != protocol {
         return None;
     }
@@ -246,10 +232,9 @@ fn carried_if<'a>(
 pub fn carried<'a>(packet: &'a [u8], caps: &ChecksumCapabilities) -> Option<(IpRepr, &'a [u8])>
     ensures { option_map carried_of result ≡ carried (is_received caps.now.ipv4) packet.now }
 {
-    match IpVersion::of_packet(packet) {
-        Ok(IpVersion::Ipv4) => carried_v4(packet, caps),
-        Ok(IpVersion::Ipv6) => carried_v6(packet),
-        Err(Error) => None,
+    match IpVersion::of_packet(packet).ok()? {
+        IpVersion::Ipv4 => carried_v4(packet, caps),
+        IpVersion::Ipv6 => carried_v6(packet),
     }
 }
 
@@ -257,10 +242,8 @@ fn carried_v4<'a>(packet: &'a [u8], caps: &ChecksumCapabilities) -> Option<(IpRe
     ensures { option_map carried_of result ≡ (if is_whole_v4 packet.now
         then carried_v4 packet.now (ipv4_parsed (is_received caps.now.ipv4) packet.now) else None) }
 {
-    match whole_v4(packet, caps) {
-        Some((repr, bytes)) => Some((IpRepr::Ipv4(repr), bytes)),
-        None => None,
-    }
+    let (repr, bytes) = whole_v4(packet, caps)?;
+    Some((IpRepr::Ipv4(repr), bytes))
 }
 
 /// Whether a packet is a fragment, that is, whether its payload is one of several pieces of another packet's: more
@@ -278,8 +261,6 @@ fn carried_v6(packet: &[u8]) -> Option<(IpRepr, &[u8])>
     ensures { option_map carried_of result
         ≡ (if is_whole_v6 packet.now then carried_v6 packet.now (ipv6_parsed packet.now) else None) }
 {
-    match whole_v6(packet) {
-        Some((repr, bytes)) => Some((IpRepr::Ipv6(repr), bytes)),
-        None => None,
-    }
+    let (repr, bytes) = whole_v6(packet)?;
+    Some((IpRepr::Ipv6(repr), bytes))
 }

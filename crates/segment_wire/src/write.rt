@@ -130,41 +130,14 @@ fn put_options(repr: &TcpRepr<'_>, header_len: usize, buffer: &mut [u8], at: usi
     ensures length { length buffer.new ≡ length buffer.old }
 {
     options_count(repr);
-    let at = put_leading(repr, buffer, at);
-    let at = put_trailing(repr, buffer, at);
-    put_padding(buffer, at, header_len - at)
-}
-
-// Writes the options that a SYN alone has.
-#[tactic(auto, using(crate::proofs::Written::three))]
-fn put_leading(repr: &TcpRepr<'_>, buffer: &mut [u8], at: usize) -> usize
-    requires { at + length (mss_octets repr.now.max_seg_size) + (length (scale_octets repr.now.window_scale)
-        + length (permitted_octets repr.now.sack_permitted)) ≤ length buffer.old }
-    ensures at { result ≡ at + length (mss_octets repr.now.max_seg_size) + (length (scale_octets repr.now.window_scale)
-        + length (permitted_octets repr.now.sack_permitted)) }
-    ensures value { take result buffer.new ≡ take at buffer.old ++ (mss_octets repr.now.max_seg_size
-        ++ (scale_octets repr.now.window_scale ++ permitted_octets repr.now.sack_permitted)) }
-    ensures length { length buffer.new ≡ length buffer.old }
-{
+    let [a, b, c] = repr.sack_ranges;
     let at = put_mss(buffer, at, repr.max_seg_size);
     let at = put_scale(buffer, at, repr.window_scale);
-    put_permitted(buffer, at, repr.sack_permitted)
-}
-
-// Writes the blocks and the timestamp.
-#[tactic(auto, using(crate::proofs::Written::two))]
-fn put_trailing(repr: &TcpRepr<'_>, buffer: &mut [u8], at: usize) -> usize
-    requires { at + length (sack_octets repr.now.sack_ranges) + length (stamp_octets repr.now.timestamp)
-        ≤ length buffer.old }
-    ensures at { result ≡ at + length (sack_octets repr.now.sack_ranges) + length (stamp_octets repr.now.timestamp) }
-    ensures value { take result buffer.new ≡ take at buffer.old ++ (sack_octets repr.now.sack_ranges
-        ++ stamp_octets repr.now.timestamp) }
-    ensures length { length buffer.new ≡ length buffer.old }
-{
-    let [a, b, c] = repr.sack_ranges;
+    let at = put_permitted(buffer, at, repr.sack_permitted);
     let count = sack_count(&repr.sack_ranges);
     let at = put_sack(buffer, at, count == 0, count, a, b, c);
-    put_stamp(buffer, at, repr.timestamp)
+    let at = put_stamp(buffer, at, repr.timestamp);
+    put_padding(buffer, at, header_len - at)
 }
 
 // Writes `piece` at `at`. Answers where it ends.

@@ -82,9 +82,7 @@ pub(crate) fn take_into<M: Copy>(
     ensures bytes { «data».new ≡ copied (first_packet buffer.old) «data».old }
     ensures queue { Dequeues buffer.old buffer.new }
 {
-    let Some((meta, (from, size))) = buffer.take_first() else {
-        return Err(RecvError::Exhausted);
-    };
+    let (meta, (from, size)) = buffer.take_first().ok_or(RecvError::Exhausted)?;
     if data.len() < size {
         return Err(RecvError::Truncated);
     }
@@ -103,9 +101,7 @@ pub(crate) fn copy_first<'b, M: Copy>(
     ensures answer { copied_of result ≡ copy_answer (first_packet buffer.now) (length «data».old) }
     ensures bytes { «data».new ≡ copied (first_packet buffer.now) «data».old }
 {
-    let Ok((meta, bytes)) = buffer.first() else {
-        return Err(RecvError::Exhausted);
-    };
+    let (meta, bytes) = buffer.first().map_err(|_| RecvError::Exhausted)?;
     if data.len() < bytes.len() {
         return Err(RecvError::Truncated);
     }

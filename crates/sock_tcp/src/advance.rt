@@ -1,18 +1,15 @@
 //! The state table of `process` (RFC 9293, section 3.10.7).
-ghost use Rattle.std.specs.Prelude.{ℕ, ◌≡◌, ◌<◌, ◌^◌, length, true, false};
+ghost use Rattle.std.specs.Prelude.{◌≡◌, ◌<◌, ◌^◌, length, true, false};
 ghost use Rattle.ip_wire.specs.Address.{SameVersion};
-ghost use Rattle.control_wire.specs.Segment.{Segment, segment_of};
-ghost use Rattle.control_wire.specs.declared.tcp.TcpControl.TheVariants as bit;
+ghost use Rattle.control_wire.specs.Segment.{segment_of};
 ghost use Rattle.sock_core.specs.Bounds.{IsMoment};
 ghost use Rattle.sock_tcp.specs.Draw.{draws, Draws};
 ghost use Rattle.sock_tcp.specs.Advance.{options_taken, fallen_back, dropped, syn_received, syn_answered, moved_to};
-ghost use Rattle.sock_tcp.specs.Advance.{advance_in, fin_counted, nothing_new_by, waiting, continues, stops};
-ghost use Rattle.sock_tcp.specs.Advance.{advanced};
+ghost use Rattle.sock_tcp.specs.Advance.{fin_counted, nothing_new_by, waiting, continues, stops, advanced};
 ghost use Rattle.sock_tcp.specs.declared.state.State.TheVariants.{TimeWait};
 ghost use Rattle.sock_tcp.specs.Arrival.{arrival};
 ghost use Rattle.sock_tcp.specs.Process.{tuple_of};
 ghost use Rattle.sock_tcp.specs.Same.{SameQueues};
-ghost use Rattle.sock_tcp.specs.declared.tuple.Tuple.{Tuple};
 ghost use Rattle.sock_tcp.specs.View.{FinSays};
 ghost use Rattle.sock_tcp.specs.Verdict.{verdict_of};
 ghost use Rattle.sock_tcp.specs.declared.verdict.Verdict.TheVariants.{Pass};
@@ -192,43 +189,6 @@ impl<'a> ControlBlock<'a> {
         self.wait(now)
     }
 
-    // The state table for a segment without a control bit that counts, which acknowledges so many bytes and, or not,
-    // our own FIN.
-    #[inline(always)]
-    fn advance_without_bit(&mut self, now: Instant, is_acked: bool, len: usize) -> Next
-        requires { IsMoment now.micros }
-        ensures table { (t : Tuple) (w : ℕ) (s : Segment) → record { view = self.new; next = result }
-            ≡ advance_in self.old.state bit.None is_acked self.old (arrival now t w s) len }
-        ensures queues { SameQueues self.old self.new }
-    {
-        match (self.state, is_acked) {
-            (State::SynReceived, _) => self.move_to(State::Established),
-            (State::Established | State::FinWait2 | State::CloseWait, _) => Next::Continue,
-            (State::FinWait1, true) => self.move_to(State::FinWait2),
-            (State::FinWait1 | State::Closing, false) => Next::Continue,
-            (State::Closing, true) => self.wait(now),
-            (State::LastAck, true) => self.end(Next::Continue),
-            (State::LastAck, false) if len == 0 => nothing_new(self.rules),
-            (State::LastAck, false) => Next::Continue,
-            _ => Next::Stop,
-        }
-    }
-
-    // The state table for a FIN.
-    fn advance_by_fin(&mut self, now: Instant, is_acked: bool) -> Next
-        requires { IsMoment now.micros }
-        ensures table { (t : Tuple) (w : ℕ) (s : Segment) (n : ℕ) → record { view = self.new; next = result }
-            ≡ advance_in self.old.state bit.Fin is_acked self.old (arrival now t w s) n }
-        ensures queues { SameQueues self.old self.new }
-    {
-        match (self.state, is_acked) {
-            (State::SynReceived | State::Established, _) => self.count_fin(State::CloseWait),
-            (State::FinWait1, false) => self.count_fin(State::Closing),
-            (State::FinWait1, true) | (State::FinWait2, _) => self.count_last_fin(now),
-            _ => Next::Stop,
-        }
-    }
-
     // The state table: by state, by the control bit that counts, and by whether our own FIN is acknowledged.
     #[tactic(auto, unfolding(crate::specs::Advance::advanced))]
     pub(crate) fn advance<C: Context>(
@@ -247,16 +207,32 @@ impl<'a> ControlBlock<'a> {
         ensures queues { SameQueues self.old self.new }
         ensures context { Draws (draws Pass self.old.state control) C.facts C.word_at cx.old cx.new }
     {
-        match (self.state, control) {
-            (State::SynReceived, TcpControl::Rst) => self.fall_back(),
-            (_, TcpControl::Rst) => self.end(Next::Stop),
-            (State::Listen, TcpControl::Syn) => {
+        match (self.state, control, acked.fin) {
+            (State::SynReceived, TcpControl::Rst, _) => self.fall_back(),
+            (_, TcpControl::Rst, _) => self.end(Next::Stop),
+            (State::Listen, TcpControl::Syn, _) => {
                 let word = cx.rand_u32();
                 self.receive_syn(now, Tuple::of_segment(ip_repr, repr), word, repr)
             }
-            (State::SynSent, TcpControl::Syn) => self.take_syn_answer(repr),
-            (_, TcpControl::None) => self.advance_without_bit(now, acked.fin, acked.len),
-            (_, TcpControl::Fin) => self.advance_by_fin(now, acked.fin),
+            (State::SynSent, TcpControl::Syn, _) => self.take_syn_answer(repr),
+            (State::SynReceived, TcpControl::None, _) => self.move_to(State::Established),
+            (State::SynReceived, TcpControl::Fin, _) => self.count_fin(State::CloseWait),
+            (State::Established, TcpControl::None, _) => Next::Continue,
+            (State::Established, TcpControl::Fin, _) => self.count_fin(State::CloseWait),
+            (State::FinWait1, TcpControl::None, true) => self.move_to(State::FinWait2),
+            (State::FinWait1, TcpControl::None, false) => Next::Continue,
+            (State::FinWait1, TcpControl::Fin, true) => self.count_last_fin(now),
+            (State::FinWait1, TcpControl::Fin, false) => self.count_fin(State::Closing),
+            (State::FinWait2, TcpControl::None, _) => Next::Continue,
+            (State::FinWait2, TcpControl::Fin, _) => self.count_last_fin(now),
+            (State::CloseWait, TcpControl::None, _) => Next::Continue,
+            (State::Closing, TcpControl::None, true) => self.wait(now),
+            (State::Closing, TcpControl::None, false) => Next::Continue,
+            (State::LastAck, TcpControl::None, true) => self.end(Next::Continue),
+            (State::LastAck, TcpControl::None, false) if acked.len == 0 => {
+                nothing_new(self.rules)
+            }
+            (State::LastAck, TcpControl::None, false) => Next::Continue,
             _ => Next::Stop,
         }
     }

@@ -5,7 +5,7 @@ ghost use Rattle.sock_tcp.specs.View.{moment_of};
 ghost use Rattle.sock_tcp.specs.Due.{flight, is_due};
 ghost use Rattle.sock_tcp.specs.Begin.{last_ts_set, readied, retransmission_begun, fast_retransmission_marked};
 ghost use Rattle.sock_core.specs.Congestion.{congestion_window};
-ghost use Rattle.sock_tcp.specs.Begin.{after_timer, after_timers, flight_lost, probing_begun, usable};
+ghost use Rattle.sock_tcp.specs.Begin.{after_timers, flight_lost, probing_begun, usable};
 ghost use Rattle.sock_tcp.specs.Rfc.Recovery.{marked_by};
 ghost use Rattle.sock_tcp.specs.Timers.{IsTimer};
 ghost use Rattle.sock_tcp.specs.Begin.{is_paused, begun, nothing_due, before_emit_to, before_emit};
@@ -143,27 +143,21 @@ impl<'a> ControlBlock<'a> {
             self.state = State::Closed;
             return;
         }
-        if self.probes_tail(now) {
-            self.probe_tail(now);
-        } else {
-            self.heed_timer(now);
-        }
-    }
-
-    // What the timer asks for where no tail-loss probe goes out.
-    #[inline(always)]
-    fn heed_timer(&mut self, now: Instant)
-        requires { IsMoment now.micros }
-        ensures table { self.new ≡ after_timer self.old.timer self.old now }
-        ensures stamps { self.new.stamps ≡ self.old.stamps }
-    {
         match self.timer {
-            Timer::Retransmit { expires_at } if is_over(expires_at, now) => {
-                self.begin_retransmission(now);
+            Timer::Retransmit { expires_at } => {
+                if is_over(expires_at, now) {
+                    if self.may_probe_now() {
+                        self.probe_tail(now);
+                    } else {
+                        self.begin_retransmission(now);
+                    }
+                }
             }
             Timer::FastRetransmit => self.mark_fast_retransmission(now),
-            Timer::ZeroWindowProbe { expires_at, .. } if is_over(expires_at, now) => {
-                self.begin_probe();
+            Timer::ZeroWindowProbe { expires_at, .. } => {
+                if is_over(expires_at, now) {
+                    self.begin_probe();
+                }
             }
             _ => {}
         }

@@ -58,13 +58,6 @@ impl<'a> ControlBlock<'a> {
         if was_empty {
             self.remote_last_ts = None;
         }
-        self.begin_probes();
-    }
-
-    // Bytes wait: probes begin, where the peer has no window and nothing is waited for.
-    fn begin_probes(&mut self)
-        ensures { self.new ≡ record self.old { timer = timer_after self.old 1 } }
-    {
         if self.remote_win_len == 0 && self.timer.is_idle() {
             // The call has no context to ask for the time, so the first probe is due at once, as smoltcp's.
             let delay = self.rtte.retransmission_timeout();
@@ -128,9 +121,7 @@ impl<'a> ControlBlock<'a> {
         ensures table { Reads self.old «data».old result self.new «data».new }
         ensures stamps { self.new.stamps ≡ self.old.stamps }
     {
-        if let Err(error) = self.check_recv() {
-            return Err(error);
-        }
+        self.check_recv()?;
         let count = self.rx_buffer.dequeue_slice(data);
         self.remote_seq_no = self.remote_seq_no.plus(count);
         Ok(count)
@@ -143,9 +134,7 @@ impl<'a> ControlBlock<'a> {
         ensures table { ReadsWith (FnOnceReturnsAt F.FnOnce f) self.old result self.new }
         ensures stamps { self.new.stamps ≡ self.old.stamps }
     {
-        if let Err(error) = self.check_recv() {
-            return Err(error);
-        }
+        self.check_recv()?;
         let (count, result) = self.rx_buffer.dequeue_many_with(f);
         self.remote_seq_no = self.remote_seq_no.plus(count);
         Ok(result)
@@ -156,9 +145,7 @@ impl<'a> ControlBlock<'a> {
         ensures table { Drops self.old count result self.new }
         ensures stamps { self.new.stamps ≡ self.old.stamps }
     {
-        if let Err(error) = self.check_recv() {
-            return Err(error);
-        }
+        self.check_recv()?;
         let count = self.rx_buffer.consume(count);
         self.remote_seq_no = self.remote_seq_no.plus(count);
         Ok(count)
@@ -167,18 +154,14 @@ impl<'a> ControlBlock<'a> {
     pub(crate) fn peek(&self, size: usize) -> Result<&[u8], RecvError>
         ensures { Peeks self.now size (lent_bytes result) }
     {
-        if let Err(error) = self.check_recv() {
-            return Err(error);
-        }
+        self.check_recv()?;
         Ok(self.rx_buffer.peek(size))
     }
 
     pub(crate) fn peek_slice(&self, data: &mut [u8]) -> Result<usize, RecvError>
         ensures { PeeksInto self.now «data».old result «data».new }
     {
-        if let Err(error) = self.check_recv() {
-            return Err(error);
-        }
+        self.check_recv()?;
         Ok(self.rx_buffer.peek_slice(data))
     }
 }

@@ -4,7 +4,7 @@ ghost use Rattle.sock_core.specs.Bounds.{IsMoment};
 ghost use Rattle.sock_tcp.specs.Rfc.Recovery.{is_probe_told, is_told_to_end, waits_tail};
 ghost use Rattle.sock_tcp.specs.Rfc.TailLoss.{is_alone, is_calm, last_len, margin_of, may_probe, may_probe_by};
 ghost use Rattle.sock_tcp.specs.Rfc.TailLoss.{probe_of, sooner, tail_armed, tail_from, tail_probed, tail_set, tail_wait};
-ghost use Rattle.sock_tcp.specs.Rfc.TailLoss.{is_retransmission_over, probes_tail, tail_waits};
+ghost use Rattle.sock_tcp.specs.Rfc.TailLoss.{tail_waits};
 ghost use Rattle.sock_tcp.specs.Timers.{IsTimer};
 
 use crate::control_block::ControlBlock;
@@ -69,16 +69,6 @@ impl Timer {
         match (waits, self) {
             (true, Timer::Retransmit { .. }) => Timer::tail(now, rtte, alone),
             _ => self,
-        }
-    }
-
-    // Whether an acknowledgement was waited for long enough.
-    fn is_retransmission_over(self, now: Instant) -> bool
-        ensures { result ≡ is_retransmission_over self now }
-    {
-        match self {
-            Timer::Retransmit { expires_at } => is_over(expires_at, now),
-            _ => false,
         }
     }
 
@@ -154,15 +144,8 @@ impl<'a> ControlBlock<'a> {
         peer && (bytes && (self.remote_win_len != 0 && self.rtte.is_measured()))
     }
 
-    // Whether a probe goes out.
-    pub(crate) fn probes_tail(&self, now: Instant) -> bool
-        ensures { result ≡ probes_tail self.now now }
-    {
-        self.timer.is_retransmission_over(now) && self.may_probe_now()
-    }
-
     // A probe goes out where the retransmission timer is over.
-    fn may_probe_now(&self) -> bool
+    pub(crate) fn may_probe_now(&self) -> bool
         ensures { result ≡ may_probe_by self.now.rules (may_probe self.now.recovery self.now) }
     {
         match self.rules {

@@ -27,9 +27,7 @@ impl<'a> Socket<'a> {
             ≡ from_ipv4 (hops_of self.now.hop_limit) src_addr dst_addr (icmpv4_parsed false bytes.now) }
         ensures counted { IfSome result (λ s. Counts s.0 (any_message s.1)) }
     {
-        let Ok(repr) = Icmpv4Repr::parse(bytes, &ChecksumCapabilities::ignored()) else {
-            return None;
-        };
+        let repr = Icmpv4Repr::parse(bytes, &ChecksumCapabilities::ignored()).ok()?;
         let ip_repr = Ipv4Repr {
             src_addr,
             dst_addr,
@@ -52,9 +50,7 @@ impl<'a> Socket<'a> {
         ensures counted { IfSome result (λ s. Counts s.0 (any_message s.1)) }
     {
         let caps = ChecksumCapabilities::ignored();
-        let Ok(repr) = Icmpv6Repr::parse(&src_addr, &dst_addr, bytes, &caps) else {
-            return None;
-        };
+        let repr = Icmpv6Repr::parse(&src_addr, &dst_addr, bytes, &caps).ok()?;
         let ip_repr = Ipv6Repr {
             src_addr,
             dst_addr,
@@ -81,10 +77,8 @@ impl<'a> Socket<'a> {
     {
         match remote {
             IpAddress::Ipv4(dst) => {
-                match cx.get_source_address_ipv4(&dst) {
-                    None => None,
-                    Some(src) => self.outgoing_v4(src, dst, bytes),
-                }
+                let src = cx.get_source_address_ipv4(&dst)?;
+                self.outgoing_v4(src, dst, bytes)
             }
             IpAddress::Ipv6(dst) => {
                 let src = cx.get_source_address_ipv6(&dst);
@@ -98,9 +92,7 @@ impl<'a> Socket<'a> {
         requires packet { starts_padded self.now.tx_buffer.entries ≡ false }
         ensures { option_map outgoing_of result ≡ outgoing self.now (C.facts cx.now) }
     {
-        let Ok((remote, bytes)) = self.tx_buffer.first() else {
-            return None;
-        };
+        let (remote, bytes) = self.tx_buffer.first().ok()?;
         self.prepared(cx, *remote, bytes)
     }
 
@@ -136,10 +128,8 @@ impl<'a> Socket<'a> {
         ensures table { Dispatched F.FnOnce emit self.old (C.facts cx.old) cx.old result cx.new self.new }
     {
         self.tx_buffer.skip_padding();
-        let result = self.emit_first(cx, emit);
-        if result.is_ok() {
-            self.tx_buffer.take_first();
-        }
-        result
+        self.emit_first(cx, emit)?;
+        self.tx_buffer.take_first();
+        Ok(())
     }
 }

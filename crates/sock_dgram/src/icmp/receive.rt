@@ -19,9 +19,7 @@ impl<'a> Socket<'a> {
         ensures answer { answered result ≡ take_answer (first_packet self.old.rx_buffer) }
         ensures value { IfOk result (λ r. first_packet self.old.rx_buffer ≡ Some (r.1, r.0.now)) }
     {
-        let Some((remote, (from, size))) = self.rx_buffer.take_first() else {
-            return Err(RecvError::Exhausted);
-        };
+        let (remote, (from, size)) = self.rx_buffer.take_first().ok_or(RecvError::Exhausted)?;
         Ok((self.rx_buffer.part(from, size), remote))
     }
 

@@ -77,13 +77,9 @@ impl<'a> Socket<'a> {
         if endpoint.is_unspecified() {
             return Err(SendError::Unaddressable);
         }
-        match self
-            .tx_buffer
+        self.tx_buffer
             .enqueue_with_infallible(max_size, endpoint, f)
-        {
-            Ok(kept) => Ok(kept),
-            Err(_) => Err(SendError::BufferFull),
-        }
+            .map_err(|_| SendError::BufferFull)
     }
 
     /// Puts an ICMP message of these bytes into the transmit queue.

@@ -1,10 +1,8 @@
 //! Packets that go out.
-ghost use Rattle.std.specs.Prelude.{◌≡◌, ◌↔◌, IsTrue, Err, Some, false, option_map};
+ghost use Rattle.std.specs.Prelude.{◌≡◌, ◌↔◌, IsTrue, Err, false, option_map};
 ghost use Rattle.net_base.specs.Packets.{first_packet, starts_padded};
 ghost use Rattle.ip_wire.specs.Checksum.{is_sent};
 ghost use Rattle.ip_wire.specs.Packet.{IsIpv4};
-ghost use Rattle.ip_wire.specs.Protocol.{version_of_packet};
-ghost use Rattle.ip_wire.specs.declared.protocol.IpVersion.TheVariants as version;
 ghost use Rattle.sock_dgram.specs.Raw.{waiting};
 ghost use Rattle.sock_dgram.specs.RawDispatch.{outgoing_of, Plans, parsed_first, is_sound_ipv4, prepared, parsed};
 ghost use Rattle.sock_dgram.specs.RawDispatch.{EmitsFirst, first_prepared, offered, prepared_buffer, Dispatched};
@@ -41,12 +39,8 @@ impl<'a> Socket<'a> {
         requires packet { starts_padded self.now.tx_buffer.entries ≡ false }
         ensures { Plans self.now (parsed_first (first_packet self.now.tx_buffer)) (option_map outgoing_of result) }
     {
-        let Ok((_, bytes)) = self.tx_buffer.first() else {
-            return None;
-        };
-        let Some((ip_repr, payload)) = parsed(bytes) else {
-            return None;
-        };
+        let (_, bytes) = self.tx_buffer.first().ok()?;
+        let (ip_repr, payload) = parsed(bytes)?;
         if !self.accepts(&ip_repr) {
             return None;
         }
@@ -87,11 +81,9 @@ impl<'a> Socket<'a> {
     {
         let sent = cx.checksum_caps().ipv4.tx();
         self.prepare_first(sent);
-        let result = self.emit_first(cx, emit);
-        if result.is_ok() {
-            self.tx_buffer.take_first();
-        }
-        result
+        self.emit_first(cx, emit)?;
+        self.tx_buffer.take_first();
+        Ok(())
     }
 }
 
@@ -126,37 +118,16 @@ fn prepare(packet: &mut [u8], sent: bool)
 fn parsed(packet: &[u8]) -> Option<(IpRepr, &[u8])>
     ensures { option_map outgoing_of result ≡ parsed packet.now }
 {
-    match IpVersion::of_packet(packet) {
-        Ok(IpVersion::Ipv4) => parsed_v4(packet),
-        Ok(IpVersion::Ipv6) => parsed_v6(packet),
-        Err(_) => None,
+    match IpVersion::of_packet(packet).ok()? {
+        IpVersion::Ipv4 => {
+            let packet = Ipv4Packet::new_checked(packet).ok()?;
+            let repr = Ipv4Repr::parse(&packet, &ChecksumCapabilities::ignored()).ok()?;
+            Some((IpRepr::Ipv4(repr), packet.payload()))
+        }
+        IpVersion::Ipv6 => {
+            let packet = Ipv6Packet::new_checked(packet).ok()?;
+            let repr = Ipv6Repr::parse(&packet).ok()?;
+            Some((IpRepr::Ipv6(repr), packet.payload()))
+        }
     }
-}
-
-#[tactic(auto, unfolding(crate::specs::RawDispatch::parsed))]
-fn parsed_v4(packet: &[u8]) -> Option<(IpRepr, &[u8])>
-    requires { version_of_packet packet.now ≡ Some version.Ipv4 }
-    ensures { option_map outgoing_of result ≡ parsed packet.now }
-{
-    let Ok(packet) = Ipv4Packet::new_checked(packet) else {
-        return None;
-    };
-    let Ok(repr) = Ipv4Repr::parse(&packet, &ChecksumCapabilities::ignored()) else {
-        return None;
-    };
-    Some((IpRepr::Ipv4(repr), packet.payload()))
-}
-
-#[tactic(auto, unfolding(crate::specs::RawDispatch::parsed))]
-fn parsed_v6(packet: &[u8]) -> Option<(IpRepr, &[u8])>
-    requires { version_of_packet packet.now ≡ Some version.Ipv6 }
-    ensures { option_map outgoing_of result ≡ parsed packet.now }
-{
-    let Ok(packet) = Ipv6Packet::new_checked(packet) else {
-        return None;
-    };
-    let Ok(repr) = Ipv6Repr::parse(&packet) else {
-        return None;
-    };
-    Some((IpRepr::Ipv6(repr), packet.payload()))
 }

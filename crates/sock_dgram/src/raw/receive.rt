@@ -18,9 +18,7 @@ impl<'a> Socket<'a> {
         ensures answer { answered result ≡ take_answer (first_packet self.old.rx_buffer) }
         ensures value { IfOk result (λ bytes. first_packet self.old.rx_buffer ≡ Some (tt, bytes.now)) }
     {
-        let Some((_, (from, size))) = self.rx_buffer.take_first() else {
-            return Err(RecvError::Exhausted);
-        };
+        let (_, (from, size)) = self.rx_buffer.take_first().ok_or(RecvError::Exhausted)?;
         Ok(self.rx_buffer.part(from, size))
     }
 
@@ -31,10 +29,8 @@ impl<'a> Socket<'a> {
         ensures value { IfOk result (λ bytes. first_packet self.old.rx_buffer ≡ Some (tt, bytes.now)) }
     {
         self.rx_buffer.skip_padding();
-        match self.rx_buffer.first() {
-            Ok((_, bytes)) => Ok(bytes),
-            Err(_) => Err(RecvError::Exhausted),
-        }
+        let (_, bytes) = self.rx_buffer.first().map_err(|_| RecvError::Exhausted)?;
+        Ok(bytes)
     }
 
     /// Copies the bytes of the first packet of the receive queue into `data`; the packet stays. Answers how many they
@@ -48,10 +44,8 @@ impl<'a> Socket<'a> {
         ensures effect { Effect Peek self.old self.new }
     {
         self.rx_buffer.skip_padding();
-        match copy_first(&self.rx_buffer, data) {
-            Ok((size, _)) => Ok(size),
-            Err(error) => Err(error),
-        }
+        let (size, _) = copy_first(&self.rx_buffer, data)?;
+        Ok(size)
     }
 
     /// Takes the first packet of the receive queue and copies its bytes into `data`. Answers how many they are.
@@ -65,9 +59,7 @@ impl<'a> Socket<'a> {
         ensures same { self.new ≡ record self.old { rx_buffer = self.new.rx_buffer } }
         ensures effect { Effect (RecvSlice «data».old «data».new result) self.old self.new }
     {
-        match take_into(&mut self.rx_buffer, data) {
-            Ok((size, _)) => Ok(size),
-            Err(error) => Err(error),
-        }
+        let (size, _) = take_into(&mut self.rx_buffer, data)?;
+        Ok(size)
     }
 }

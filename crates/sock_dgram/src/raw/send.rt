@@ -60,10 +60,9 @@ impl<'a> Socket<'a> {
         ensures same { self.new ≡ record self.old { tx_buffer = self.new.tx_buffer } }
         ensures effect { Writes F.FnOnce result max_size tt f self.old.tx_buffer self.new.tx_buffer }
     {
-        match self.tx_buffer.enqueue_with_infallible(max_size, (), f) {
-            Ok(kept) => Ok(kept),
-            Err(_) => Err(SendError::BufferFull),
-        }
+        self.tx_buffer
+            .enqueue_with_infallible(max_size, (), f)
+            .map_err(|_| SendError::BufferFull)
     }
 
     /// Puts a packet of these bytes, its IP header first, into the transmit queue.

@@ -20,10 +20,8 @@ impl<'a> Socket<'a> {
     fn source_of<C: Context>(&self, cx: &C, meta: &UdpMetadata) -> Option<IpAddress>
         ensures { result ≡ source_of self.now (C.facts cx.now) meta.now }
     {
-        match self.known_source(meta) {
-            None => cx.get_source_address(&meta.endpoint.addr),
-            known => known,
-        }
+        self.known_source(meta)
+            .or_else(|| cx.get_source_address(&meta.endpoint.addr))
     }
 
     /// The headers with which `dispatch` sends a datagram of these bytes: for a caller that keeps no queue.
@@ -40,9 +38,7 @@ impl<'a> Socket<'a> {
         ensures counted { IfSome result (λ h. payload_len_of h.0 ≡ udp_header_len + length payload.now) }
         ensures protocol { IfSome result (λ h. next_header_of h.0 ≡ Udp) }
     {
-        let Some(source) = self.source_of(cx, meta) else {
-            return None;
-        };
+        let source = self.source_of(cx, meta)?;
         if source.version() != meta.endpoint.addr.version() {
             return None;
         }
@@ -65,12 +61,8 @@ impl<'a> Socket<'a> {
         requires packet { starts_padded self.now.tx_buffer.entries ≡ false }
         ensures { option_map outgoing_of result ≡ outgoing self.now (C.facts cx.now) }
     {
-        let Ok((meta, payload)) = self.tx_buffer.first() else {
-            return None;
-        };
-        let Some((ip_repr, repr)) = self.prepared(cx, meta, payload) else {
-            return None;
-        };
+        let (meta, payload) = self.tx_buffer.first().ok()?;
+        let (ip_repr, repr) = self.prepared(cx, meta, payload)?;
         Some((ip_repr, repr, payload))
     }
 
@@ -106,11 +98,9 @@ impl<'a> Socket<'a> {
         ensures table { Dispatched F.FnOnce emit self.old (C.facts cx.old) cx.old result cx.new self.new }
     {
         self.tx_buffer.skip_padding();
-        let result = self.emit_first(cx, emit);
-        if result.is_ok() {
-            self.tx_buffer.take_first();
-        }
-        result
+        self.emit_first(cx, emit)?;
+        self.tx_buffer.take_first();
+        Ok(())
     }
 
     /// When the socket wants its next `dispatch`: `Ingress` where no place of the transmit buffer is taken, else `Now`.

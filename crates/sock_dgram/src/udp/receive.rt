@@ -18,9 +18,7 @@ impl<'a> Socket<'a> {
         ensures answer { answered result ≡ take_answer (first_packet self.old.rx_buffer) }
         ensures value { IfOk result (λ r. first_packet self.old.rx_buffer ≡ Some (r.1, r.0.now)) }
     {
-        let Some((meta, (from, size))) = self.rx_buffer.take_first() else {
-            return Err(RecvError::Exhausted);
-        };
+        let (meta, (from, size)) = self.rx_buffer.take_first().ok_or(RecvError::Exhausted)?;
         Ok((self.rx_buffer.part(from, size), meta))
     }
 
@@ -31,10 +29,8 @@ impl<'a> Socket<'a> {
         ensures value { IfOk result (λ r. first_packet self.old.rx_buffer ≡ Some (r.1.now, r.0.now)) }
     {
         self.rx_buffer.skip_padding();
-        match self.rx_buffer.first() {
-            Ok((meta, bytes)) => Ok((bytes, meta)),
-            Err(_) => Err(RecvError::Exhausted),
-        }
+        let (meta, bytes) = self.rx_buffer.first().map_err(|_| RecvError::Exhausted)?;
+        Ok((bytes, meta))
     }
 
     /// Copies the bytes of the first datagram of the receive queue into `data`; the datagram stays. Answers how many

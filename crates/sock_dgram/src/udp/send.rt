@@ -105,10 +105,9 @@ impl<'a> Socket<'a> {
         if !self.is_sendable(&meta) {
             return Err(SendError::Unaddressable);
         }
-        match self.tx_buffer.enqueue_with_infallible(max_size, meta, f) {
-            Ok(kept) => Ok(kept),
-            Err(_) => Err(SendError::BufferFull),
-        }
+        self.tx_buffer
+            .enqueue_with_infallible(max_size, meta, f)
+            .map_err(|_| SendError::BufferFull)
     }
 
     /// Puts a datagram of these bytes into the transmit queue.

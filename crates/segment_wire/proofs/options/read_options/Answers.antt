@@ -19,6 +19,3 @@ loop-at-preserved c =
       within = s.within;
       rest = ap (λ o. options_read 0 o (drop (c.loop-at.at + c.in-Some.size) c.args.options.now)) (c.in-Some.ensures.found refl) ∙ s.same ∙ c.loop-at.invariant.rest;
     }
-
-pub returns : goal.returns
-returns c = c.end.ensures ∙ c.loop-at.invariant.rest
