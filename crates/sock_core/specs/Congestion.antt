@@ -32,8 +32,8 @@ bounded r n = max r.mss (min (capped n) r.rwnd)
 abbrev pub growth : RenoNumbers → ℕ → ℕ
 growth r n = if nat_lt r.cwnd r.ssthresh then min n r.mss else max 1 (capped (r.mss * r.mss) / max 1 r.cwnd)
 
--- the same counted in bytes (RFC 3465): in slow start by at most eight segments (RFC 9406, section 4.3), or by one after
--- a timeout, then by a segment in a window of bytes
+-- the same counted in bytes (RFC 3465): in slow start by at most eight segments (RFC 9406, section 4.3), or by one
+-- after a timeout, then by a segment in a window of bytes
 abbrev pub most_growth : RenoNumbers → Bool → ℕ
 most_growth r careful = if careful then r.mss else capped (r.mss * 8)
 
