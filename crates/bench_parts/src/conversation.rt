@@ -65,6 +65,11 @@ impl Talk {
         self.received = 0;
     }
 
+    /// How many bytes of it were sent.
+    pub fn sent(&self) -> usize {
+        self.sent
+    }
+
     /// Adds what came of the conversation.
     pub fn add_to(&self, digest: &mut Digest) {
         digest.number(self.request as u64);

@@ -23,6 +23,9 @@ const PACKET: usize = 1500;
 // At most so many packets of a host go out at one moment.
 const PACKETS: u32 = 100_000;
 
+// An application writes at most so many pieces when it is asked.
+const PIECES: u32 = 64;
+
 // Every so many moments each socket is looked at, as a timer may have closed it.
 const ROUND: u32 = 100;
 
@@ -172,7 +175,7 @@ impl Host<SocketSet<'_, Clock>> {
                 if talk.role == Role::Server && socket.state() == State::SynReceived {
                     talk.begin(0, 0);
                 }
-                talk.serve(socket, scratch, source, random, digest);
+                serve_whole(talk, socket, scratch, source, random, digest);
             }
             self.look_at(place, digest)?;
         }
@@ -277,6 +280,25 @@ impl Host<SocketSet<'_, Clock>> {
             if let Some(state) = self.state(place) {
                 digest.bytes(state.name().as_bytes());
             }
+        }
+    }
+}
+
+// The application writes until it has no more to say, or nothing is taken: it is asked again only once its socket took a
+// segment.
+fn serve_whole(
+    talk: &mut Talk,
+    socket: &mut tcp::Socket<'_, Clock>,
+    scratch: &mut [u8],
+    source: &[u8],
+    random: &mut Random,
+    digest: &mut Digest,
+) {
+    for _ in 0..PIECES {
+        let before = talk.sent();
+        talk.serve(socket, scratch, source, random, digest);
+        if talk.sent() == before {
+            break;
         }
     }
 }
