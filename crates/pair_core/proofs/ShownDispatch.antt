@@ -4,7 +4,6 @@ use Rattle.std.specs.Prelude.{◌==◌}
 use Rattle.net_base.specs.declared.time.Instant.{Instant}
 use Rattle.control_wire.specs.Segment.{segment_len}
 use Rattle.control_wire.specs.Seq.{seq_add}
-use Rattle.sock_core.specs.Estimator.{sent}
 use Rattle.sock_core.specs.Facts.{Facts}
 use Rattle.sock_core.specs.Places.{later_number}
 use Rattle.sock_core.specs.Received.{cleared}
@@ -20,6 +19,7 @@ use Rattle.sock_tcp.specs.Opening.{renewed}
 use Rattle.sock_tcp.specs.Polls.{is_reached, timeout_poll}
 use Rattle.sock_tcp.specs.Queue.{IsLent}
 use Rattle.sock_tcp.specs.Rfc.TailLoss.{probes_tail, tail_probed, tail_armed}
+use Rattle.sock_tcp.specs.Rfc.RoundTrips.{sending_measured}
 use Rattle.sock_tcp.specs.Sent.{goes_on, emitted_as, after_any, after_probe, snd_nxt_moved, sending_timed, after_kind, after_sending}
 use Rattle.sock_tcp.specs.Timers.{is_over, is_close_over, retransmit_unless_set}
 use Rattle.sock_tcp.specs.Rfc.Idle.{idle_by, restarted_by}
@@ -148,7 +148,7 @@ timed_shows : (v : View) (now : Instant) (s : Emitted) → shown (sending_timed 
 unfolding sending_timed
 timed_shows v now s = go (s.len == 0)
   where
-    go : (b : Bool) → shown (cond b v (record v { rtte = sent v.rtte now s.end; timer = retransmit_unless_set v.timer now v.rtte; congestion_controller = post_transmitted (restarted_by v.rules v.idle_at now v.congestion_controller) now s.len; idle_at = idle_by v.rules v.idle_at now v.rtte; pending_fast_retransmit = v.pending_fast_retransmit || goes_on v })) ≡ shown v
+    go : (b : Bool) → shown (cond b v (record v { rtte = sending_measured v now s; timer = retransmit_unless_set v.timer now v.rtte; congestion_controller = post_transmitted (restarted_by v.rules v.idle_at now v.congestion_controller) now s.len; idle_at = idle_by v.rules v.idle_at now v.rtte; pending_fast_retransmit = v.pending_fast_retransmit || goes_on v })) ≡ shown v
     go true = refl
     go false = refl
 

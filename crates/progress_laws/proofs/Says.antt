@@ -9,7 +9,6 @@ use Rattle.control_wire.specs.Segment.{Segment, is_empty_segment, segment_len}
 use Rattle.control_wire.specs.declared.seq_number.TcpSeqNumber.{TcpSeqNumber}
 use Rattle.sock_core.specs.Facts.{Facts}
 use Rattle.sock_core.specs.Congestion.{post_transmitted}
-use Rattle.sock_core.specs.Estimator.{sent}
 use Rattle.sock_core.specs.Seq.{is_before, later_of}
 use Rattle.sock_tcp.proofs.Arming.{armed_as, armed_by_none, armed_by_smoltcp}
 use Rattle.sock_tcp.specs.Rfc.Idle.{idle_by, restarted_by}
@@ -18,6 +17,7 @@ use Rattle.sock_tcp.specs.Content.{Sending, carries_data, emission_kind, is_prob
 use Rattle.sock_tcp.specs.Due.{ack_poll, data_due, flight, is_closed, is_closing, is_due, window_doubled}
 use Rattle.sock_tcp.specs.Polls.{is_reached, timer_poll}
 use Rattle.sock_tcp.specs.Queue.{Queue}
+use Rattle.sock_tcp.specs.Rfc.RoundTrips.{sending_measured}
 use Rattle.sock_tcp.specs.Sent.{goes_on, after_any, after_sending, emitted_as, left_by, sending_timed, snd_nxt_moved}
 use Rattle.sock_tcp.specs.Timers.{after, idle_from, is_close_over, is_keep_alive_over, is_over, is_probe_over, keep_alive_renewed, retransmit_unless_set, rto_of}
 use Rattle.sock_tcp.specs.View.{View, moment_of}
@@ -129,7 +129,7 @@ module _ (u : View) (p : Tuple) (now : Instant) (s : Segment) where
       x : View
       x = snd_nxt_moved (after_any u now) e
 
-      go : (z : Bool) → LeftOf u (if z then x else record x { rtte = sent x.rtte now e.end; timer = retransmit_unless_set x.timer now x.rtte; congestion_controller = post_transmitted (restarted_by x.rules x.idle_at now x.congestion_controller) now e.len; idle_at = idle_by x.rules x.idle_at now x.rtte; pending_fast_retransmit = x.pending_fast_retransmit || goes_on x })
+      go : (z : Bool) → LeftOf u (if z then x else record x { rtte = sending_measured x now e; timer = retransmit_unless_set x.timer now x.rtte; congestion_controller = post_transmitted (restarted_by x.rules x.idle_at now x.congestion_controller) now e.len; idle_at = idle_by x.rules x.idle_at now x.rtte; pending_fast_retransmit = x.pending_fast_retransmit || goes_on x })
       go true = record { state = refl; tx = refl; keep_alive = refl; ruled = refl; una = refl }
       go false = record { state = refl; tx = refl; keep_alive = refl; ruled = refl; una = refl }
 

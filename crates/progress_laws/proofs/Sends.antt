@@ -7,13 +7,13 @@ use Rattle.control_wire.specs.Seq.{seq_add}
 use Rattle.control_wire.specs.declared.tcp.TcpControl.{TcpControl}
 use Rattle.control_wire.specs.declared.tcp.TcpControl.TheVariants as control
 use Rattle.sock_core.specs.Congestion.{post_transmitted, recovery_window}
-use Rattle.sock_core.specs.Estimator.{sent}
 use Rattle.sock_core.specs.Seq.{later_of}
 use Rattle.sock_tcp.proofs.Arming.{armed_as, armed_by_smoltcp}
 use Rattle.sock_tcp.specs.Rfc.Idle.{idle_by, restarted_by}
 use Rattle.sock_tcp.specs.Content.{carries_data, data_control, emission_kind, is_probing, offset_of, plain_segment, sent_as, next_hole, hole_of}
 use Rattle.sock_tcp.specs.Due.{is_closed, is_closing, window_field, flight}
 use Rattle.sock_tcp.specs.Rfc.OwnWindow.{field_by, space_field}
+use Rattle.sock_tcp.specs.Rfc.RoundTrips.{sending_measured}
 use Rattle.sock_tcp.specs.Sent.{after_any, after_probe, after_sending, emitted_as, left_by, sending_timed, snd_nxt_moved, goes_on}
 use Rattle.sock_tcp.specs.Rfc.Pipe.{counts, has_room}
 use Rattle.sock_tcp.specs.Rfc.Scoreboard.{is_blank}
@@ -69,7 +69,7 @@ timed_rules u now s = go (segment_len s == 0)
     x : View
     x = snd_nxt_moved (after_any u now) e
 
-    go : (z : Bool) → (if z then x else record x { rtte = sent x.rtte now e.end; timer = retransmit_unless_set x.timer now x.rtte; congestion_controller = post_transmitted (restarted_by x.rules x.idle_at now x.congestion_controller) now e.len; idle_at = idle_by x.rules x.idle_at now x.rtte; pending_fast_retransmit = x.pending_fast_retransmit || goes_on x }).rules ≡ u.rules
+    go : (z : Bool) → (if z then x else record x { rtte = sending_measured x now e; timer = retransmit_unless_set x.timer now x.rtte; congestion_controller = post_transmitted (restarted_by x.rules x.idle_at now x.congestion_controller) now e.len; idle_at = idle_by x.rules x.idle_at now x.rtte; pending_fast_retransmit = x.pending_fast_retransmit || goes_on x }).rules ≡ u.rules
     go true = refl
     go false = refl
 
@@ -84,7 +84,7 @@ module _ (u : View) (p : Tuple) (now : Instant) (s : Segment) (not_closed : is_c
   x = snd_nxt_moved (after_any u now) e
 
   abbrev timed_if : Bool → View
-  timed_if z = if z then x else record x { rtte = sent x.rtte now e.end; timer = retransmit_unless_set x.timer now x.rtte; congestion_controller = post_transmitted (restarted_by x.rules x.idle_at now x.congestion_controller) now e.len; idle_at = idle_by x.rules x.idle_at now x.rtte; pending_fast_retransmit = x.pending_fast_retransmit || goes_on x }
+  timed_if z = if z then x else record x { rtte = sending_measured x now e; timer = retransmit_unless_set x.timer now x.rtte; congestion_controller = post_transmitted (restarted_by x.rules x.idle_at now x.congestion_controller) now e.len; idle_at = idle_by x.rules x.idle_at now x.rtte; pending_fast_retransmit = x.pending_fast_retransmit || goes_on x }
 
   -- by smoltcp's rules no hole goes out behind it
   or_none : (b : Bool) → (b || false) ≡ b

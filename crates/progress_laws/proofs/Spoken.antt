@@ -10,7 +10,6 @@ use Rattle.control_wire.specs.declared.seq_number.TcpSeqNumber.{TcpSeqNumber}
 use Rattle.control_wire.specs.declared.tcp.TcpControl.{TcpControl}
 use Rattle.control_wire.specs.declared.tcp.TcpControl.TheVariants as control
 use Rattle.sock_core.specs.Congestion.{post_transmitted}
-use Rattle.sock_core.specs.Estimator.{sent}
 use Rattle.sock_core.specs.Facts.{Facts}
 use Rattle.sock_tcp.proofs.Arming.{armed_as}
 use Rattle.sock_tcp.proofs.Lending.{lent_at_most, lent_beginning}
@@ -23,6 +22,7 @@ use Rattle.sock_tcp.specs.Content.{Sending, asked, carries_data, data_control, e
 use Rattle.sock_tcp.specs.Due.{flight, is_closing, window_field}
 use Rattle.sock_tcp.specs.Rfc.OwnWindow.{space_field}
 use Rattle.sock_tcp.specs.Queue.{Queue}
+use Rattle.sock_tcp.specs.Rfc.RoundTrips.{sending_measured}
 use Rattle.sock_tcp.specs.Sent.{goes_on, after_any, after_kind, after_probe, after_sending, emitted_as, sending_timed, snd_nxt_moved}
 use Rattle.sock_tcp.specs.Timers.{is_over, retransmit_unless_set}
 use Rattle.sock_tcp.proofs.Holes.{number_at, start_within}
@@ -91,7 +91,7 @@ sent_still b now e = by e.kind
     x : View
     x = snd_nxt_moved (after_any b now) e
 
-    timed : (z : Bool) → Still b (if z then x else record x { rtte = sent x.rtte now e.end; timer = retransmit_unless_set x.timer now x.rtte; congestion_controller = post_transmitted (restarted_by x.rules x.idle_at now x.congestion_controller) now e.len; idle_at = idle_by x.rules x.idle_at now x.rtte; pending_fast_retransmit = x.pending_fast_retransmit || goes_on x })
+    timed : (z : Bool) → Still b (if z then x else record x { rtte = sending_measured x now e; timer = retransmit_unless_set x.timer now x.rtte; congestion_controller = post_transmitted (restarted_by x.rules x.idle_at now x.congestion_controller) now e.len; idle_at = idle_by x.rules x.idle_at now x.rtte; pending_fast_retransmit = x.pending_fast_retransmit || goes_on x })
     timed true = record { state = refl; same_rules = refl; una = refl; tx = refl; rx = refl; rcv = refl; shift = refl }
     timed false = record { state = refl; same_rules = refl; una = refl; tx = refl; rx = refl; rcv = refl; shift = refl }
 

@@ -1,10 +1,12 @@
 -- The estimator of round-trip times and of the retransmission timeout (RFC 6298), in milliseconds.
 use Rattle.std.specs.Prelude.{ℕ, ◌+◌, ◌*◌, ◌/◌, ◌^◌, ◌≤◌, ◌==◌, nat_lt, max, min, Bool, true, ◌&&◌, if◌then◌else◌}
-use Rattle.std.specs.Prelude.{List, [], ◌∷◌, Option, None, Some, is_none, ◌-ℤ◌, unsigned_abs}
+use Rattle.std.specs.Prelude.{List, [], ◌∷◌, Option, None, Some, is_none, ◌-ℤ◌, unsigned_abs, false}
 use Rattle.std.specs.Int.{div_ceil, abs_diff}
 use Rattle.net_base.specs.declared.time.Instant.{Instant}
+use Rattle.control_wire.specs.Seq.{seq_of}
 use Rattle.control_wire.specs.declared.seq_number.TcpSeqNumber.{TcpSeqNumber}
 use Rattle.sock_core.specs.declared.rtte.Smoothed.{Smoothed}
+use Rattle.sock_core.specs.declared.rtte.StampTiming.{StampTiming}
 use Rattle.sock_core.specs.declared.rtte.Timing.{Timing}
 use Rattle.sock_core.specs.Seq.{is_before}
 
@@ -12,13 +14,23 @@ pub record Estimator : Type 0 where
   pub smoothed : Option Smoothed  -- SRTT and RTTVAR, once there was a sample
   pub rto : ℕ  -- the retransmission timeout
   pub timing : Option Timing  -- the number whose acknowledgement is waited for, and when it was sent
+  pub stamp_timing : Option StampTiming  -- the timestamp whose echo is waited for, and when it was sent
   pub highest : Option TcpSeqNumber  -- the highest number that was sent
   pub backoffs : ℕ  -- the timeouts since the last sample, or since the measurement was cleared
   pub least : ℕ  -- the lowest timeout that a sample makes
 
 -- a second, and no measurement
 abbrev pub fresh_estimator : Estimator
-fresh_estimator = record { smoothed = None; rto = 1000; timing = None; highest = None; backoffs = 0; least = 1000 }
+fresh_estimator =
+    record {
+      smoothed = None;
+      rto = 1000;
+      timing = None;
+      stamp_timing = None;
+      highest = None;
+      backoffs = 0;
+      least = 1000;
+    }
 
 -- between a second and a minute
 abbrev pub IsTimeout : ℕ → Type 0
@@ -75,26 +87,60 @@ sent e now n =
 abbrev pub millis_between : Instant → Instant → ℕ
 millis_between a b = unsigned_abs (a.micros -ℤ b.micros) / 1000
 
--- the number n is acknowledged: at or after the timed number, the timing ends with a sample
+-- the number n is acknowledged: at or after the timed number, the timing ends with a sample. A timestamp that was sent
+-- before the number is waited for no longer, so that one thing alone gives a sample
 abbrev pub acked_at : Option Timing → Estimator → Instant → TcpSeqNumber → Estimator
 acked_at None e now n = e
 acked_at (Some t) e now n =
-    if is_before n t.number then e else record (sampled e (millis_between now t.at)) { timing = None }
+    if is_before n t.number then e
+    else record (sampled e (millis_between now t.at)) { timing = None; stamp_timing = None }
 
 unfoldable pub acked : Estimator → Instant → TcpSeqNumber → Estimator
 acked e now n = acked_at e.timing e now n
 
+-- ---- what was sent again is timed by its timestamp, whose echo tells which sending is acknowledged (RFC 6298, section
+-- 3; RFC 7323, section 4)
+
+-- one thing is timed at a time
+abbrev pub stamped_from : Option Timing → Option StampTiming → Instant → ℕ → Option StampTiming
+stamped_from None None now t = Some (record { at = now; stamp = t })
+stamped_from timing s now t = s
+
+-- something is sent with the timestamp t, at a moment: where nothing is timed, that is
+unfoldable pub stamped : Estimator → Instant → ℕ → Estimator
+stamped e now t = record e { stamp_timing = stamped_from e.timing e.stamp_timing now t }
+
+-- t is the timestamp whose echo is waited for
+abbrev pub is_awaited : Option StampTiming → ℕ → Bool
+is_awaited None t = false
+is_awaited (Some s) t = t == s.stamp
+
+-- something new is acknowledged, with the echo t: of the timestamp that is waited for, it ends with a sample; of a later
+-- one, what was sent with it is acknowledged, or was sent again since, and it ends without; of an earlier one, what was
+-- sent before it is acknowledged, and it is waited for on
+abbrev pub echoed_at : Option StampTiming → Estimator → Instant → ℕ → Estimator
+echoed_at None e now t = e
+echoed_at (Some s) e now t =
+    if t == s.stamp then record (sampled e (millis_between now s.at)) { stamp_timing = None }
+    else (if is_before (seq_of s.stamp) (seq_of t) then record e { stamp_timing = None } else e)
+
+unfoldable pub echoed : Estimator → Instant → ℕ → Estimator
+echoed e now t = echoed_at e.stamp_timing e now t
+
+-- ---- what is sent again
+
 -- the retransmission timer ran out: the timeout doubles, to a minute at most. The third time without a sample between
--- clears the measurement
+-- clears the measurement. All is sent again, and its timestamps are waited for
 unfoldable pub backed_off : Estimator → Estimator
 backed_off e =
     record e {
       rto = min (2 * e.rto) 60000;
+      stamp_timing = None;
       backoffs = if e.backoffs == 2 then 0 else e.backoffs + 1;
       smoothed = if e.backoffs == 2 then None else e.smoothed;
     }
 
--- what is sent again is not timed (Karn's algorithm, RFC 6298, section 3)
+-- what is sent again is not timed by its number (Karn's algorithm, RFC 6298, section 3)
 unfoldable pub retransmitted : Estimator → Estimator
 retransmitted e = record e { timing = None }
 
@@ -128,12 +174,15 @@ rttvar_of (Some s) = s.rttvar
 pub data Call : Type 0 where
   Sample : ℕ → Call
   OnSend OnAck : Instant → TcpSeqNumber → Call
+  OnStamp OnEcho : Instant → ℕ → Call
   OnRto OnRetransmit : Call
 
 abbrev pub after_call : Call → Estimator → Estimator
 after_call (Sample x) e = sampled e x
 after_call (OnSend now n) e = sent e now n
 after_call (OnAck now n) e = acked e now n
+after_call (OnStamp now t) e = stamped e now t
+after_call (OnEcho now t) e = echoed e now t
 after_call OnRto e = backed_off e
 after_call OnRetransmit e = retransmitted e
 

@@ -3,6 +3,7 @@ ghost use Rattle.std.specs.Prelude.{is_some, ◌≡◌, ◌*◌, ◌≤◌, List
 ghost use Rattle.sock_core.specs.Estimator.{fresh_estimator, sampled, sent, acked, backed_off, retransmitted};
 ghost use Rattle.sock_core.specs.Estimator.{begun_anew, begun_with, bounded_below, is_backed_off, IsWait};
 ghost use Rattle.sock_core.specs.Estimator.{smoothed_by, timeout_of, AreSmall, IsTimeout, srtt_of, rttvar_of};
+ghost use Rattle.sock_core.specs.Estimator.{stamped, echoed, is_awaited};
 ghost use Rattle.sock_core.specs.Estimator.{Call, after_calls};
 
 use crate::seq::before;
@@ -44,16 +45,26 @@ pub struct Timing {
     pub number: TcpSeqNumber,
 }
 
+/// A timestamp whose echo is waited for, and when it was sent.
+#[derive(Debug, Clone, Copy)]
+pub struct StampTiming {
+    /// When a segment was sent with it.
+    pub at: Instant,
+    /// The timestamp, TSval (RFC 7323, section 3.2).
+    pub stamp: u32,
+}
+
 /// Estimates how long a segment and its acknowledgement travel, and from that how long to wait for an acknowledgement
 /// before a segment is sent again (RFC 6298).
 ///
 /// The timeout is between 1,000 and 60,000 milliseconds, unless another lowest one is set. One number at a time is
-/// timed, and none that was sent again.
+/// timed, and none that was sent again; that is timed by its timestamp, where the socket says which it has.
 #[derive(Debug, Clone, Copy)]
 pub struct RttEstimator {
     smoothed: Option<Smoothed>,
     rto: u32,
     timing: Option<Timing>,
+    stamp_timing: Option<StampTiming>,
     highest: Option<TcpSeqNumber>,
     backoffs: u8,
     least: u32,
@@ -68,6 +79,7 @@ impl Model for RttEstimator {
       smoothed = e.smoothed;
       rto = e.rto;
       timing = e.timing;
+      stamp_timing = e.stamp_timing;
       highest = e.highest;
       backoffs = e.backoffs;
       least = e.least;
@@ -79,6 +91,7 @@ impl Model for RttEstimator {
       smoothed = e.smoothed;
       rto = e.rto;
       timing = e.timing;
+      stamp_timing = e.stamp_timing;
       highest = e.highest;
       backoffs = e.backoffs;
       least = e.least;
@@ -94,6 +107,7 @@ impl Default for RttEstimator {
             smoothed: None,
             rto: INITIAL_TIMEOUT,
             timing: None,
+            stamp_timing: None,
             highest: None,
             backoffs: 0,
             least: LEAST_TIMEOUT,
@@ -164,7 +178,7 @@ impl RttEstimator {
     }
 
     /// The numbers before `number` are acknowledged. Where the timed one is among them, the time since it was sent, in
-    /// whole milliseconds, is a sample.
+    /// whole milliseconds, is a sample, and nothing is timed any more.
     #[tactic(auto, using(crate::proofs::Estimators::sampled_cut), unfolding(crate::specs::Estimator::acked))]
     pub fn on_ack(&mut self, now: Instant, number: TcpSeqNumber)
         ensures { self.new ≡ acked self.old now number }
@@ -178,15 +192,51 @@ impl RttEstimator {
         let elapsed = (now - timing.at).total_millis();
         self.sample(elapsed.min(LONGEST_SAMPLE as u64) as u32);
         self.timing = None;
+        self.stamp_timing = None;
+    }
+
+    /// Something is sent again with the timestamp `stamp`. Where neither a number nor a timestamp is timed, that one is
+    /// (RFC 7323, section 4).
+    #[tactic(auto, unfolding(crate::specs::Estimator::stamped))]
+    pub fn on_stamp(&mut self, now: Instant, stamp: u32)
+        ensures { self.new ≡ stamped self.old now stamp }
+    {
+        if self.timing.is_none() && self.stamp_timing.is_none() {
+            self.stamp_timing = Some(StampTiming { at: now, stamp });
+        }
+    }
+
+    /// Something new is acknowledged, by a segment that echoes the timestamp `echo`. Where that is the timed one, the
+    /// time since it was sent, in whole milliseconds, is a sample, also of what was sent more than once (RFC 6298,
+    /// section 3). A later one ends the timing without. Call it after `on_ack`. Answers whether it gave a sample.
+    #[tactic(auto, using(crate::proofs::Estimators::sampled_cut), unfolding(crate::specs::Estimator::echoed))]
+    pub fn on_echo(&mut self, now: Instant, echo: u32) -> bool
+        ensures state { self.new ≡ echoed self.old now echo }
+        ensures sample { result ≡ is_awaited self.old.stamp_timing echo }
+    {
+        let Some(timing) = self.stamp_timing else {
+            return false;
+        };
+        if echo == timing.stamp {
+            let elapsed = (now - timing.at).total_millis();
+            self.sample(elapsed.min(LONGEST_SAMPLE as u64) as u32);
+            self.stamp_timing = None;
+            return true;
+        }
+        if before(TcpSeqNumber(timing.stamp), TcpSeqNumber(echo)) {
+            self.stamp_timing = None;
+        }
+        false
     }
 
     /// The retransmission timer ran out: the timeout doubles (RFC 6298, section 5.5), and each third time without a
-    /// sample between the measurement is cleared.
+    /// sample between the measurement is cleared. A timestamp is waited for no longer, since all is sent again.
     #[tactic(auto, unfolding(crate::specs::Estimator::backed_off))]
     pub fn on_rto(&mut self)
         ensures { self.new ≡ backed_off self.old }
     {
         self.rto = (self.rto * 2).min(LONGEST_TIMEOUT);
+        self.stamp_timing = None;
         self.backoffs += 1;
         if self.backoffs == TIMEOUTS_TO_CLEAR {
             self.backoffs = 0;
@@ -194,7 +244,7 @@ impl RttEstimator {
         }
     }
 
-    /// What was sent is sent again, so that no acknowledgement tells a round-trip time: nothing is timed any more.
+    /// What was sent is sent again, so that no acknowledgement tells a round-trip time: no number is timed any more.
     #[tactic(auto, unfolding(crate::specs::Estimator::retransmitted))]
     pub fn on_retransmit(&mut self)
         ensures { self.new ≡ retransmitted self.old }

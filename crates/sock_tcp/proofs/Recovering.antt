@@ -9,11 +9,12 @@ use Rattle.ip_wire.specs.declared.repr.IpRepr.{IpRepr}
 use Rattle.sock_tcp.specs.Arrival.{arrival}
 use Rattle.sock_tcp.specs.Process.{Outcome, answered, by_verdict, processed_by, tuple_of}
 use Rattle.sock_tcp.specs.Replies.{ack_kept, ack_segment, sack_range}
-use Rattle.sock_tcp.specs.Rfc.Recovery.{before_of, begun_by, gone_on_from, has_timer, is_called, recovered, recovered_by, resends, running, timer_after, waited_for, marked_by, waits_tail}
+use Rattle.sock_tcp.specs.Rfc.Recovery.{before_of, begun_by, echo_known, gone_on_from, has_timer, is_called, is_news, recovered, recovered_by, resends, running, timer_after, waited_for, marked_by, waits_tail}
 use Rattle.sock_tcp.specs.Due.{flight, window_field}
 use Rattle.sock_tcp.proofs.OwnWindow.{field_is}
 use Rattle.sock_tcp.specs.Rfc.TailLoss.{is_alone, tail_from, tail_waits}
 use Rattle.sock_core.specs.Estimator.{Estimator}
+use Rattle.sock_tcp.specs.Rfc.RoundTrips.{begun_again, is_sample}
 use Rattle.sock_tcp.specs.Timers.{idle_from, probe_from, retransmit_from}
 use Rattle.sock_tcp.specs.Rfc.Checks.{verdict_by}
 use Rattle.sock_tcp.specs.Rfc.Windows.{windowed}
@@ -60,6 +61,19 @@ said_then x b v u w s now o is e h =
 pub recovered_as : (Q : Outcome → Type 0) (r : Rules) (v : View) (now : Instant) (s : Segment) (o : Outcome) → Q o → Q (record { view = recovered (before_of v s) o.view now; reply = o.reply }) → Q (recovered_by r v now s o)
 recovered_as Q rules.Smoltcp v now s o h k = h
 recovered_as Q rules.Rfc v now s o h k = k
+
+-- ---- the timer once the echo is known: as it was, but for when a retransmission is due
+
+again_as : (Q : Timer → Type 0) (sample : Bool) (t : Timer) (now : Instant) (e : Estimator) → ((at : Instant) → Q (timer.Retransmit at) → Q (retransmit_from now e)) → Q t → Q (begun_again sample t now e)
+again_as Q true (timer.Retransmit at) now e k h = k at h
+again_as Q true (timer.Idle at) now e k h = h
+again_as Q true timer.FastRetransmit now e k h = h
+again_as Q true (timer.ZeroWindowProbe at delay) now e k h = h
+again_as Q true (timer.Close at) now e k h = h
+again_as Q false t now e k h = h
+
+pub known_as : (Q : Timer → Type 0) (b : Before) (w : View) (now : Instant) → ((at : Instant) → Q (timer.Retransmit at) → Q (retransmit_from now (echo_known b w now).rtte)) → Q w.timer → Q (echo_known b w now).timer
+known_as Q b w now k h = again_as Q (is_sample (is_news b w) b.echo w.rtte) w.timer now (echo_known b w now).rtte k h
 
 -- ---- a segment that passes
 

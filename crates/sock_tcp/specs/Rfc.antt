@@ -2,6 +2,7 @@ pub mod Checks
 pub mod Refused
 pub mod Scoreboard
 pub mod Idle
+pub mod RoundTrips
 pub mod Recovery
 pub mod Numbers
 pub mod Windows

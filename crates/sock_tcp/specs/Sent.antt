@@ -5,12 +5,12 @@ use Rattle.control_wire.specs.Seq.{seq_add}
 use Rattle.control_wire.specs.Segment.{Segment, segment_len}
 use Rattle.control_wire.specs.declared.seq_number.TcpSeqNumber.{TcpSeqNumber}
 use Rattle.sock_core.specs.Congestion.{post_transmitted, recovery_window}
-use Rattle.sock_core.specs.Estimator.{sent}
 use Rattle.sock_core.specs.Seq.{is_before, later_of}
 use Rattle.sock_tcp.specs.Content.{carries_data, Sending, hole_of}
 use Rattle.sock_tcp.specs.Due.{is_closed, flight, is_counted}
 use Rattle.sock_tcp.specs.Rfc.Idle.{idle_by, restarted_by}
 use Rattle.sock_tcp.specs.Rfc.Pipe.{has_room}
+use Rattle.sock_tcp.specs.Rfc.RoundTrips.{sending_measured, stamp_of}
 use Rattle.sock_tcp.specs.Rfc.TailLoss.{tail_armed}
 use Rattle.sock_tcp.specs.Timers.{keep_alive_renewed, probe_doubled, retransmit_unless_set}
 use Rattle.sock_tcp.specs.View.{View}
@@ -31,6 +31,7 @@ emitted_as k s =
       end = seq_add s.seq_number (segment_len s);
       ack_number = s.ack_number;
       window_len = s.window_len;
+      stamp = stamp_of s.timestamp;
     }
 
 -- any segment: the next keep-alive moves, no acknowledgement waits, and a fast retransmission is done
@@ -77,7 +78,7 @@ unfoldable pub sending_timed : View → Instant → Emitted → View
 sending_timed v now s =
     if s.len == 0 then v
     else record v {
-      rtte = sent v.rtte now s.end;
+      rtte = sending_measured v now s;
       timer = retransmit_unless_set v.timer now v.rtte;
       congestion_controller =
           post_transmitted (restarted_by v.rules v.idle_at now v.congestion_controller) now s.len;

@@ -75,8 +75,7 @@ impl<'a> ControlBlock<'a> {
             self.pending_fast_retransmit = self.pending_fast_retransmit || self.goes_on();
         }
         self.timer = self.timer.retransmit_unless_set(now, &self.rtte);
-        self.end_idle(now);
-        self.rtte.on_send(now, emitted.end);
+        self.measure_sending(now, emitted);
         self.congestion_controller.post_transmit(now, emitted.len);
     }
 

@@ -3,6 +3,7 @@ ghost use Rattle.std.specs.Prelude.{◌≡◌, ◌≤◌, length};
 ghost use Rattle.control_wire.specs.Segment.{segment_of};
 ghost use Rattle.sock_tcp.specs.Sent.{emitted_as};
 
+use crate::round_trips::stamp_of;
 use control_wire::{TcpRepr, TcpSeqNumber};
 
 /// What a dispatch emits a segment for.
@@ -31,6 +32,8 @@ pub struct Emitted {
     pub ack_number: Option<TcpSeqNumber>,
     /// Its window field.
     pub window_len: u16,
+    /// The timestamp that it has, TSval.
+    pub stamp: Option<u32>,
 }
 
 impl Emitted {
@@ -47,6 +50,7 @@ impl Emitted {
             end: repr.seq_number.plus(len),
             ack_number: repr.ack_number,
             window_len: repr.window_len,
+            stamp: stamp_of(repr.timestamp),
         }
     }
 }

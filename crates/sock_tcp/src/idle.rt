@@ -5,7 +5,6 @@ ghost use Rattle.sock_tcp.specs.Rfc.Idle.{idle_by, restarted_by, was_idle};
 ghost use Rattle.sock_tcp.specs.declared.rules.Rules.TheVariants.{Rfc};
 
 use crate::control_block::ControlBlock;
-use crate::rules::Rules;
 use crate::timer::{after, is_over};
 use net_base::time::Instant;
 use sock_core::congestion::Controller;
@@ -22,21 +21,8 @@ impl<'a> ControlBlock<'a> {
     }
 
     // Something goes out that takes numbers.
-    #[inline(always)]
-    pub(crate) fn end_idle(&mut self, now: Instant)
-        requires { IsMoment now.micros }
-        ensures view { self.new ≡ record self.old {
-          congestion_controller = restarted_by self.old.rules self.old.idle_at now self.old.congestion_controller;
-          idle_at = idle_by self.old.rules self.old.idle_at now self.old.rtte;
-        } }
-    {
-        if let Rules::Rfc = self.rules {
-            self.restart_if_idle(now);
-        }
-    }
-
     #[inline(never)]
-    fn restart_if_idle(&mut self, now: Instant)
+    pub(crate) fn restart_if_idle(&mut self, now: Instant)
         requires { IsMoment now.micros }
         ensures view { self.new ≡ record self.old {
           congestion_controller = restarted_by Rfc self.old.idle_at now self.old.congestion_controller;

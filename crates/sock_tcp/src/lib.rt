@@ -40,6 +40,7 @@ mod queues;
 pub mod recovery;
 mod refused;
 mod reply;
+mod round_trips;
 pub mod rules;
 mod sacked;
 pub mod scoreboard;

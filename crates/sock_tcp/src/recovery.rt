@@ -15,6 +15,7 @@ ghost use Rattle.sock_tcp.specs.Rfc.Recovery.{segments_out, tells_loss, waited_f
 ghost use Rattle.sock_tcp.specs.Timers.{IsTimer};
 
 use crate::control_block::ControlBlock;
+use crate::round_trips::echo_of;
 use crate::rules::Rules;
 use crate::scoreboard::Scoreboard;
 use crate::state::State;
@@ -76,6 +77,8 @@ pub struct Before {
     pub telling: bool,
     /// What was told by SACK, with what it tells.
     pub sacked: Scoreboard,
+    /// The timestamp that the segment echoes, TSecr.
+    pub echo: Option<u32>,
 }
 
 // Neither a SYN, an RST nor a FIN.
@@ -449,6 +452,7 @@ impl<'a> ControlBlock<'a> {
             repeats: self.repeats(repr),
             telling,
             sacked: self.sacked_by(telling, repr),
+            echo: echo_of(repr.timestamp),
         }
     }
 
@@ -458,6 +462,7 @@ impl<'a> ControlBlock<'a> {
         requires { IsMoment now.micros }
         ensures { self.new ≡ recovered before.now self.old now }
     {
+        self.take_echo(before.is_news(self), before.echo, now);
         let timer = before.timer_after(self, now);
         let rtte = before.estimator_after(self);
         let duplicates = before.duplicates_after(self);

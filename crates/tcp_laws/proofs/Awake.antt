@@ -10,7 +10,7 @@ use Rattle.control_wire.specs.Segment.{Segment, segment_len}
 use Rattle.control_wire.specs.Seq.{seq_add, seq_sub}
 use Rattle.control_wire.specs.declared.seq_number.TcpSeqNumber.{TcpSeqNumber}
 use Rattle.sock_core.specs.Congestion.{post_transmitted}
-use Rattle.sock_core.specs.Estimator.{Estimator, backed_off, retransmitted, sent}
+use Rattle.sock_core.specs.Estimator.{Estimator, backed_off, retransmitted}
 use Rattle.sock_core.specs.Facts.{Facts, IsLawful}
 use Rattle.sock_core.specs.Received.{receiving}
 use Rattle.sock_core.specs.Seq.{later_of}
@@ -28,6 +28,7 @@ use Rattle.sock_tcp.specs.Queues.{first_probe, fitting, may_recv, may_send, queu
 use Rattle.sock_tcp.specs.Rfc.Idle.{idle_by, restarted_by}
 use Rattle.sock_tcp.specs.Rfc.Recovery.{begun_by, marked_by}
 use Rattle.sock_tcp.specs.Rfc.TailLoss.{tail_armed, tail_probed}
+use Rattle.sock_tcp.specs.Rfc.RoundTrips.{sending_measured}
 use Rattle.sock_tcp.specs.Sent.{goes_on, after_any, after_probe, after_sending, emitted_as, left_by, sending_timed, snd_nxt_moved}
 use Rattle.sock_tcp.specs.Settings.{keep_alive_timer}
 use Rattle.sock_tcp.specs.Timers.{idle_from, is_idle, keep_alive_renewed, probe_doubled, probe_from, retransmit_from, retransmit_unless_set}
@@ -185,7 +186,7 @@ module _ (u : View) (now : Instant) (o : IsOrdered u) (h : IsAwakeByRfc u) where
       row (inl c) = closed_row u.state _ _ _ _ c.0
       row (inr a) = subst (λ k. AwakeIn u.state (keep_alive_renewed u.timer now u.keep_alive) (seq_sub k u.local_seq_no) u.remote_win_len (length u.tx_buffer.bytes)) (sym (nxt_stays u now b a o)) (any_row u.state refl)
 
-      go : (z : Bool) → (segment_len b == 0) ≡ z → IsAwakeByRfc (if z then moved else record moved { rtte = sent moved.rtte now end; timer = retransmit_unless_set moved.timer now moved.rtte; congestion_controller = post_transmitted (restarted_by moved.rules moved.idle_at now moved.congestion_controller) now (segment_len b); idle_at = idle_by moved.rules moved.idle_at now moved.rtte; pending_fast_retransmit = moved.pending_fast_retransmit || goes_on moved })
+      go : (z : Bool) → (segment_len b == 0) ≡ z → IsAwakeByRfc (if z then moved else record moved { rtte = sending_measured moved now (emitted_as kind.Plain b); timer = retransmit_unless_set moved.timer now moved.rtte; congestion_controller = post_transmitted (restarted_by moved.rules moved.idle_at now moved.congestion_controller) now (segment_len b); idle_at = idle_by moved.rules moved.idle_at now moved.rtte; pending_fast_retransmit = moved.pending_fast_retransmit || goes_on moved })
       go true e = record { rfc = h.rfc; row = row (empty (eqb-true (segment_len b) 0 e)) }
       go false e = record { rfc = h.rfc; row = rests_row u.state _ _ _ _ (timed_rests moved.timer now moved.rtte (seq_sub (later_of u.remote_last_seq end) u.local_seq_no) u.remote_win_len (length u.tx_buffer.bytes)) }
 

@@ -40,13 +40,13 @@ use Rattle.tcp_laws.proofs.Kept.{KeptByAnswers, bytes_kept, challenged_kept, hea
 use Rattle.tcp_laws.proofs.OrderedCalls.{reached_ordered}
 use Rattle.tcp_laws.proofs.OrderedSegments.{process_ordered}
 use Rattle.tcp_laws.proofs.Sleeping.{window_sends}
-use Rattle.sock_tcp.specs.Rfc.Recovery.{before_of, recovered, recovered_by}
+use Rattle.sock_tcp.specs.Rfc.Recovery.{before_of, echo_known, recovered, recovered_by}
 use Rattle.sock_tcp.specs.Rfc.Windows.{told_by, windowed}
 use Rattle.sock_tcp.specs.Timers.{idle_from}
 use Rattle.sock_tcp.specs.declared.recovery.Before.{Before}
 use Rattle.sock_tcp.specs.declared.rules.Rules.{Rules}
 use Rattle.sock_tcp.specs.declared.rules.Rules.TheVariants as rules
-use Rattle.sock_tcp.proofs.Recovering.{recovered_as, timer_as}
+use Rattle.sock_tcp.proofs.Recovering.{known_as, recovered_as, timer_as}
 
 unheard : (v : View) → HeardNothing v v
 unheard v = record { last = refl; timeout = refl; window = refl; timer = refl; queue = refl; una = refl; nxt = refl }
@@ -113,10 +113,13 @@ module _ (now : Instant) (s : Segment) where
 -- a fast retransmission that the tables call for
 fast_or_timed : (b : Before) (w : View) (now : Instant) → w.timer ≡ timer.FastRetransmit → Resends rules.Rfc (recovered b w now).timer
 unfolding recovered
-fast_or_timed b w now e = timer_as (Resends rules.Rfc) b w now (inl e) (inl refl) (λ at i. inr refl) (inr refl) (inr refl) no_probe
+fast_or_timed b w now e = timer_as (Resends rules.Rfc) b (echo_known b w now) now (inl known) (inl refl) (λ at i. inr refl) (inr refl) (inr refl) no_probe
   where
-    no_probe : (at : Instant) (delay : Duration) → w.timer ≡ timer.ZeroWindowProbe at delay → Resends rules.Rfc (idle_from now w.keep_alive)
-    no_probe at delay i = let no : timer.FastRetransmit ≡ timer.ZeroWindowProbe at delay = sym e ∙ i in absurd cc
+    known : (echo_known b w now).timer ≡ timer.FastRetransmit
+    known = known_as (λ t. t ≡ timer.FastRetransmit) b w now (λ at i. let no : timer.Retransmit at ≡ timer.FastRetransmit = i in absurd cc) e
+
+    no_probe : (at : Instant) (delay : Duration) → (echo_known b w now).timer ≡ timer.ZeroWindowProbe at delay → Resends rules.Rfc (idle_from now w.keep_alive)
+    no_probe at delay i = let no : timer.FastRetransmit ≡ timer.ZeroWindowProbe at delay = sym known ∙ i in absurd cc
 
 fast_resends : (r : Rules) (v : View) (now : Instant) (s : Segment) (o : Outcome) → o.view.timer ≡ timer.FastRetransmit → Resends r (recovered_by r v now s o).view.timer
 fast_resends rules.Smoltcp v now s o e = e

@@ -10,7 +10,6 @@ use Rattle.net_base.specs.declared.time.Duration.{Duration}
 use Rattle.net_base.specs.declared.time.Instant.{Instant}
 use Rattle.control_wire.specs.Segment.{Segment}
 use Rattle.sock_core.specs.Congestion.{post_transmitted}
-use Rattle.sock_core.specs.Estimator.{sent}
 use Rattle.sock_core.specs.Facts.{Facts}
 use Rattle.sock_core.specs.Received.{receiving}
 use Rattle.sock_tcp.proofs.Arming.{armed_as}
@@ -27,6 +26,7 @@ use Rattle.sock_tcp.specs.Process.{processed_by}
 use Rattle.sock_tcp.specs.Queue.{queue_of}
 use Rattle.sock_tcp.specs.Queues.{ReadsWithIf, SendsWithIf, fitting, may_recv, may_send, queued, read_off, readable}
 use Rattle.sock_tcp.specs.Rfc.TailLoss.{is_alone, is_retransmission_over, may_probe, may_probe_by, probes_tail, sooner, tail_probed, tail_wait}
+use Rattle.sock_tcp.specs.Rfc.RoundTrips.{sending_measured}
 use Rattle.sock_tcp.specs.Sent.{goes_on, after_any, after_kind, after_probe, after_sending, emitted_as, left_by, sending_timed, snd_nxt_moved}
 use Rattle.sock_tcp.specs.Timers.{after, is_close_over, is_over, retransmit_unless_set}
 use Rattle.sock_tcp.specs.Rfc.Idle.{idle_by, restarted_by}
@@ -151,7 +151,7 @@ module _ (P : View → Type 0) (f : Facts) (k : KeptByBeginnings P (moment_of f)
 pub record KeptBySending (P : View → Type 0) (now : Instant) : Type 0 where
   pub renews : (u : View) → P u → P (after_any u now)
   pub moves : (u : View) (e : Emitted) → P u → P (snd_nxt_moved u e)
-  pub times : (u : View) (e : Emitted) → P u → P (record u { rtte = sent u.rtte now e.end; timer = retransmit_unless_set u.timer now u.rtte; congestion_controller = post_transmitted (restarted_by u.rules u.idle_at now u.congestion_controller) now e.len; idle_at = idle_by u.rules u.idle_at now u.rtte; pending_fast_retransmit = u.pending_fast_retransmit || goes_on u })
+  pub times : (u : View) (e : Emitted) → P u → P (record u { rtte = sending_measured u now e; timer = retransmit_unless_set u.timer now u.rtte; congestion_controller = post_transmitted (restarted_by u.rules u.idle_at now u.congestion_controller) now e.len; idle_at = idle_by u.rules u.idle_at now u.rtte; pending_fast_retransmit = u.pending_fast_retransmit || goes_on u })
   pub probes : (u : View) → P u → P (after_probe u now)
   pub arms : (u : View) (at : Instant) → u.timer ≡ timer.Retransmit at → P u → P (record u { timer = timer.Retransmit (sooner at (after now (tail_wait u.rtte (is_alone u)))) })
 
@@ -160,7 +160,7 @@ module _ (P : View → Type 0) (now : Instant) (k : KeptBySending P now) where
   unfolding sending_timed
   timed_kept u e h = go (e.len == 0)
     where
-      go : (b : Bool) → P (if b then u else record u { rtte = sent u.rtte now e.end; timer = retransmit_unless_set u.timer now u.rtte; congestion_controller = post_transmitted (restarted_by u.rules u.idle_at now u.congestion_controller) now e.len; idle_at = idle_by u.rules u.idle_at now u.rtte; pending_fast_retransmit = u.pending_fast_retransmit || goes_on u })
+      go : (b : Bool) → P (if b then u else record u { rtte = sending_measured u now e; timer = retransmit_unless_set u.timer now u.rtte; congestion_controller = post_transmitted (restarted_by u.rules u.idle_at now u.congestion_controller) now e.len; idle_at = idle_by u.rules u.idle_at now u.rtte; pending_fast_retransmit = u.pending_fast_retransmit || goes_on u })
       go true = h
       go false = k.times u e h
 

@@ -6,8 +6,15 @@ use Rattle.std.proofs.lemmas.Bool.{and_parts, le-leb, leb-true}
 use Rattle.net_base.specs.declared.time.Duration.{Duration}
 use Rattle.net_base.specs.declared.time.Instant.{Instant}
 use Rattle.control_wire.specs.declared.seq_number.TcpSeqNumber.{TcpSeqNumber}
-use Rattle.sock_core.specs.Estimator.{Estimator, acked, timed_from, acked_at as sample_at, backed_off, begun_anew, bounded_below, is_backed_off, is_highest, millis_between, retransmitted, sampled, sent}
+use Rattle.sock_core.specs.Estimator.{Estimator, acked, timed_from, acked_at as sample_at, backed_off, begun_anew, bounded_below, echoed, echoed_at, is_backed_off, is_highest, millis_between, retransmitted, sampled, sent, stamped}
 use Rattle.sock_core.specs.declared.rtte.Timing.{Timing}
+use Rattle.sock_core.specs.declared.rtte.StampTiming.{StampTiming}
+use Rattle.control_wire.specs.Seq.{seq_of}
+use Rattle.sock_tcp.specs.Due.{is_opening}
+use Rattle.sock_tcp.specs.Rfc.RoundTrips.{echo_heard, sending_measured, stamp_timed}
+use Rattle.sock_tcp.specs.declared.emission.Emitted.{Emitted}
+use Rattle.sock_tcp.specs.declared.rules.Rules.{Rules}
+use Rattle.sock_tcp.specs.declared.rules.Rules.TheVariants as rules
 use Rattle.sock_core.specs.Seq.{is_before}
 use Rattle.sock_tcp.specs.Process.{timer_restarted}
 use Rattle.sock_tcp.specs.Rfc.TailLoss.{tail_wait, sooner}
@@ -89,17 +96,45 @@ acked_short e now n h = by e.timing
     by None = h
     by (Some t) = go (is_before n t.number)
       where
-        go : (b : Bool) → (if b then e else record (sampled e (millis_between now t.at)) { timing = None }).rto ≤ 60000
+        go : (b : Bool) → (if b then e else record (sampled e (millis_between now t.at)) { timing = None; stamp_timing = None }).rto ≤ 60000
         go true = h
         go false = omega arith
 
-pub sent_short : (e : Estimator) (now : Instant) (n : TcpSeqNumber) → e.rto ≤ 60000 → (sent e now n).rto ≤ 60000
+sent_short : (e : Estimator) (now : Instant) (n : TcpSeqNumber) → e.rto ≤ 60000 → (sent e now n).rto ≤ 60000
 unfolding sent
 sent_short e now n h = go (is_highest e.highest n)
   where
     go : (b : Bool) → (if b then record e { highest = Some n; timing = timed_from e.timing now n } else e).rto ≤ 60000
     go true = h
     go false = h
+
+echoed_short : (e : Estimator) (now : Instant) (t : ℕ) → e.rto ≤ 60000 → (echoed e now t).rto ≤ 60000
+unfolding echoed sampled
+echoed_short e now t h = by e.stamp_timing
+  where
+    by : (s : Option StampTiming) → (echoed_at s e now t).rto ≤ 60000
+    by None = h
+    by (Some s) = go (t == s.stamp) (is_before (seq_of s.stamp) (seq_of t))
+      where
+        go : (b c : Bool) → (if b then record (sampled e (millis_between now s.at)) { stamp_timing = None } else (if c then record e { stamp_timing = None } else e)).rto ≤ 60000
+        go true c = omega arith
+        go false true = h
+        go false false = h
+
+pub heard_short : (news : Bool) (echo : Option ℕ) (e : Estimator) (now : Instant) → e.rto ≤ 60000 → (echo_heard news echo e now).rto ≤ 60000
+heard_short true (Some t) e now h = echoed_short e now t h
+heard_short true None e now h = h
+heard_short false echo e now h = h
+
+stamped_short : (r : Rules) (opening : Bool) (e : Estimator) (now : Instant) (t : Option ℕ) → e.rto ≤ 60000 → (stamp_timed r opening e now t).rto ≤ 60000
+unfolding stamped
+stamped_short rules.Rfc false e now (Some t) h = h
+stamped_short rules.Rfc false e now None h = h
+stamped_short rules.Rfc true e now t h = h
+stamped_short rules.Smoltcp opening e now t h = h
+
+pub measured_short : (v : View) (now : Instant) (s : Emitted) → v.rtte.rto ≤ 60000 → (sending_measured v now s).rto ≤ 60000
+measured_short v now s h = stamped_short v.rules (is_opening v.state) (sent v.rtte now s.end) now s.stamp (sent_short v.rtte now s.end h)
 
 pub again_short : (e : Estimator) → e.rto ≤ 60000 → (retransmitted (backed_off e)).rto ≤ 60000
 unfolding retransmitted backed_off

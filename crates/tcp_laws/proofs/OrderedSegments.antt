@@ -28,6 +28,7 @@ use Rattle.sock_tcp.specs.declared.advance.Next.TheVariants as next
 use Rattle.sock_tcp.specs.declared.state.State.{State}
 use Rattle.sock_tcp.specs.declared.state.State.TheVariants as state
 use Rattle.sock_tcp.specs.declared.timer.Timer.{Timer}
+use Rattle.sock_tcp.specs.declared.timer.Timer.TheVariants as timer
 use Rattle.sock_tcp.specs.declared.tuple.Tuple.{Tuple}
 use Rattle.sock_tcp.specs.declared.window.Window.{Window}
 use Rattle.sock_tcp.specs.declared.verdict.Verdict.{Verdict}
@@ -38,12 +39,13 @@ use Rattle.tcp_laws.proofs.Ordered.{HasMoment, IsOpen, IsOrdered, IsPeeredIn, Ro
 use Rattle.sock_core.specs.Congestion.{bytes_acked, dup_acked, opened, partially_acked}
 use Rattle.sock_tcp.specs.Due.{flight as flight_of}
 use Rattle.sock_tcp.specs.Content.{carries_data}
-use Rattle.sock_tcp.specs.Rfc.Recovery.{before_it, before_of, controller_after, has_timer, is_news, is_partial, is_timed_out, is_uncounted, lets_out, opens_well, recovered, told_of_bytes, waited_for}
+use Rattle.sock_tcp.specs.Rfc.Recovery.{before_it, before_of, controller_after, echo_known, has_timer, is_news, is_partial, is_timed_out, is_uncounted, lets_out, opens_well, recovered, told_of_bytes, waited_for}
 use Rattle.sock_tcp.specs.Rfc.Refused.{is_plain_control, refused}
 use Rattle.sock_tcp.specs.declared.recovery.Before.{Before}
 use Rattle.sock_tcp.specs.declared.rules.Rules.{Rules}
 use Rattle.sock_tcp.specs.declared.rules.Rules.TheVariants as rules
-use Rattle.sock_tcp.proofs.Recovering.{recovered_as, waited_as}
+use Rattle.sock_tcp.specs.Timers.{after as moment_after, rto_of}
+use Rattle.sock_tcp.proofs.Recovering.{known_as, recovered_as, waited_as}
 use Rattle.sock_tcp.proofs.Checking.{verdict_as}
 use Rattle.sock_tcp.proofs.Refusing.{fin_is_plain, heard_alone, plain_is_no_rst, refused_as}
 
@@ -476,15 +478,35 @@ module _ (now : Instant) (word : ℕ) (ip : IpRepr) (s : Segment) (small : word 
   row_recovers state.LastAck waited t keep f q m h = (m h.0, h.1)
   row_recovers state.FinWait2 waited t keep f q m h = (m h.0, h.1, h.2)
 
+  -- the echo puts off a retransmission alone
+  abbrev known : View → View → View
+  known v w = echo_known (before_of v s) w now
+
+  row_again : (st : State) (at next : Instant) (keep : Option Duration) (f q : ℕ) → Row st (timer.Retransmit at) keep f q → Row st (timer.Retransmit next) keep f q
+  row_again state.Closed at next keep f q h = h
+  row_again state.Listen at next keep f q h = h
+  row_again state.SynSent at next keep f q h = h
+  row_again state.SynReceived at next keep f q h = h
+  row_again state.Established at next keep f q h = h
+  row_again state.CloseWait at next keep f q h = h
+  row_again state.FinWait1 at next keep f q h = h
+  row_again state.FinWait2 at next keep f q h = h
+  row_again state.Closing at next keep f q h = h
+  row_again state.LastAck at next keep f q h = h
+  row_again state.TimeWait at next keep f q h = h
+
+  row_known : (v w : View) (st : State) (f q : ℕ) → Row st w.timer w.keep_alive f q → Row st (known v w).timer w.keep_alive f q
+  row_known v w st f q = known_as (λ t. Row st t w.keep_alive f q) (before_of v s) w now (λ at h. row_again st at (moment_after now (rto_of (known v w).rtte)) w.keep_alive f q h)
+
   recovered_ordered : (v w : View) → IsOrdered v → IsOrdered w → IsOrdered (recovered (before_of v s) w now)
   unfolding recovered before_of
   recovered_ordered v w h i = record {
     una_small = i.una_small;
     nxt_small = i.nxt_small;
     room = i.room;
-    congestion = controller_open (before_of v s) w h.congestion i.congestion;
+    congestion = controller_open (before_of v s) (known v w) h.congestion i.congestion;
     peered = i.peered;
-    row = row_recovers w.state (waited_for (before_of v s) w now) w.timer w.keep_alive (seq_sub w.remote_last_seq w.local_seq_no) (length w.tx_buffer.bytes) (λ m. waited_as (λ t. HasMoment t w.keep_alive) (before_of v s) w now m tt (λ at e. tt) tt tt (λ at delay e. idle_has_moment now w.keep_alive)) i.row;
+    row = row_recovers w.state (waited_for (before_of v s) (known v w) now) (known v w).timer w.keep_alive (seq_sub w.remote_last_seq w.local_seq_no) (length w.tx_buffer.bytes) (λ m. waited_as (λ t. HasMoment t w.keep_alive) (before_of v s) (known v w) now m tt (λ at e. tt) tt tt (λ at delay e. idle_has_moment now w.keep_alive)) (row_known v w w.state (seq_sub w.remote_last_seq w.local_seq_no) (length w.tx_buffer.bytes) i.row);
   }
 
   verdict_ordered : (r : Rules) (v : View) → IsOrdered v → (v.state ≡ state.Listen → s.ack_number ≡ None) → (x : Verdict) → verdict_of v s.control s.ack_number ≡ x → IsOrdered (by_verdict r x v (arrival now (tuple_of ip s) word s)).view

@@ -10,7 +10,7 @@ use Rattle.control_wire.specs.declared.seq_number.TcpSeqNumber.{TcpSeqNumber}
 use Rattle.control_wire.specs.declared.tcp.TcpControl.TheVariants as control
 use Rattle.sock_core.specs.Facts.{Facts}
 use Rattle.sock_core.specs.Congestion.{post_transmitted}
-use Rattle.sock_core.specs.Estimator.{Estimator, sent}
+use Rattle.sock_core.specs.Estimator.{Estimator}
 use Rattle.sock_core.specs.Seq.{later_of}
 use Rattle.sock_tcp.specs.Rfc.TailLoss.{tail_armed}
 use Rattle.sock_tcp.proofs.Arming.{armed_as}
@@ -20,6 +20,7 @@ use Rattle.sock_tcp.specs.Rfc.Idle.{idle_by, restarted_by}
 use Rattle.sock_tcp.specs.Content.{Sending, content, data_control, filled, emission_kind, hole_of, number_of, offset_of, of_kind, plain_segment, sent_as, with_data}
 use Rattle.sock_tcp.specs.Due.{flight, is_closed, is_closing}
 use Rattle.sock_tcp.specs.Rfc.Scoreboard.{hole_number, hole_start}
+use Rattle.sock_tcp.specs.Rfc.RoundTrips.{sending_measured}
 use Rattle.sock_tcp.specs.Sent.{goes_on, emitted_as, after_any, after_probe, snd_nxt_moved, sending_timed, after_sending, left_by}
 use Rattle.tcp_laws.specs.SocketRun.{SendsTo}
 use Rattle.sock_tcp.specs.Timers.{keep_alive_renewed, probe_doubled, retransmit_unless_set}
@@ -285,7 +286,7 @@ module _ (u : View) (now : Instant) (h : IsOrdered u) where
       row : (z : Bool) → (segment_len s == 0) ≡ z → Row u.state (if z then moved.timer else retransmit_unless_set moved.timer now moved.rtte) u.keep_alive (seq_sub (later_of u.remote_last_seq end) u.local_seq_no) (length u.tx_buffer.bytes)
       row z e = plain_row u.state moved.timer now moved.rtte u.keep_alive _ _ _ (segment_len s) (length u.tx_buffer.bytes) any_ordered.row ends up z e
 
-      go : (z : Bool) → (segment_len s == 0) ≡ z → IsOrdered (if z then moved else record moved { rtte = sent moved.rtte now end; timer = retransmit_unless_set moved.timer now moved.rtte; congestion_controller = post_transmitted (restarted_by moved.rules moved.idle_at now moved.congestion_controller) now (segment_len s); idle_at = idle_by moved.rules moved.idle_at now moved.rtte; pending_fast_retransmit = moved.pending_fast_retransmit || goes_on moved })
+      go : (z : Bool) → (segment_len s == 0) ≡ z → IsOrdered (if z then moved else record moved { rtte = sending_measured moved now (emitted_as kind.Plain s); timer = retransmit_unless_set moved.timer now moved.rtte; congestion_controller = post_transmitted (restarted_by moved.rules moved.idle_at now moved.congestion_controller) now (segment_len s); idle_at = idle_by moved.rules moved.idle_at now moved.rtte; pending_fast_retransmit = moved.pending_fast_retransmit || goes_on moved })
       go true e = record { una_small = h.una_small; nxt_small = later_small u.remote_last_seq end h.nxt_small (omega arith); room = h.room; congestion = h.congestion; peered = peer_stays u.state u.tuple h.peered; row = row true e }
       go false e = record { una_small = h.una_small; nxt_small = later_small u.remote_last_seq end h.nxt_small (omega arith); room = h.room; congestion = post_transmitted_open _ _ _ (restarted_open u.rules u.idle_at now u.congestion_controller h.congestion); peered = peer_stays u.state u.tuple h.peered; row = row false e }
 

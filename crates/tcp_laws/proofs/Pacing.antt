@@ -1,13 +1,20 @@
 -- Any call keeps it: the retransmission timeout is longer than nothing.
 use Rattle.std.proofs.Common.{◌≡◌, ℕ, ◌<◌, Bool, true, false, sym, ap, subst, Option, Some, None, arith}
-use Rattle.std.specs.Prelude.{if◌then◌else◌}
+use Rattle.std.specs.Prelude.{if◌then◌else◌, ◌==◌}
 use Rattle.std.proofs.lemmas.Int.{ints}
 use Rattle.net_base.specs.declared.time.Duration.{Duration}
 use Rattle.net_base.specs.declared.time.Instant.{Instant}
 use Rattle.control_wire.specs.Segment.{Segment}
 use Rattle.control_wire.specs.declared.seq_number.TcpSeqNumber.{TcpSeqNumber}
-use Rattle.sock_core.specs.Estimator.{Estimator, acked, acked_at, backed_off, begun_anew, bounded_below, is_backed_off, is_highest, millis_between, retransmitted, sampled, sent, timed_from}
+use Rattle.sock_core.specs.Estimator.{Estimator, acked, acked_at, backed_off, begun_anew, bounded_below, echoed, echoed_at, is_backed_off, is_highest, millis_between, retransmitted, sampled, sent, stamped, timed_from}
 use Rattle.sock_core.specs.declared.rtte.Timing.{Timing}
+use Rattle.sock_core.specs.declared.rtte.StampTiming.{StampTiming}
+use Rattle.control_wire.specs.Seq.{seq_of}
+use Rattle.sock_tcp.specs.Due.{is_opening}
+use Rattle.sock_tcp.specs.Rfc.RoundTrips.{echo_heard, sending_measured, stamp_timed}
+use Rattle.sock_tcp.specs.declared.emission.Emitted.{Emitted}
+use Rattle.sock_tcp.specs.declared.rules.Rules.{Rules}
+use Rattle.sock_tcp.specs.declared.rules.Rules.TheVariants as rules
 use Rattle.sock_core.specs.Seq.{is_before}
 use Rattle.sock_tcp.specs.Advance.{fallen_back, fin_counted, options_taken, syn_answered, syn_received}
 use Rattle.sock_tcp.specs.Begin.{retransmission_begun, fast_retransmission_marked, readied}
@@ -15,7 +22,7 @@ use Rattle.sock_tcp.specs.Opening.{connected, listened, renewed}
 use Rattle.sock_tcp.specs.Process.{close_restarted}
 use Rattle.sock_tcp.specs.Queues.{queued, read_off}
 use Rattle.sock_tcp.specs.Replies.{ack_kept}
-use Rattle.sock_tcp.specs.Rfc.Recovery.{before_of, is_opened, recovered}
+use Rattle.sock_tcp.specs.Rfc.Recovery.{before_of, echo_known, is_news, is_opened, recovered}
 use Rattle.sock_tcp.specs.Rfc.TailLoss.{tail_probed}
 use Rattle.sock_tcp.specs.Sent.{after_any, after_probe, snd_nxt_moved}
 use Rattle.sock_tcp.specs.Steps.{window_taken, released, duplicate_counted, ack_counted, una_advanced, timestamp_taken, timer_set, heard, joined, ack_delayed}
@@ -46,7 +53,7 @@ acked_paced e now n h = by e.timing
     by None = h
     by (Some t) = go (is_before n t.number)
       where
-        go : (b : Bool) → 0 < (if b then e else record (sampled e (millis_between now t.at)) { timing = None }).rto
+        go : (b : Bool) → 0 < (if b then e else record (sampled e (millis_between now t.at)) { timing = None; stamp_timing = None }).rto
         go true = h
         go false = omega arith
 
@@ -57,6 +64,34 @@ sent_paced e now n h = go (is_highest e.highest n)
     go : (b : Bool) → 0 < (if b then record e { highest = Some n; timing = timed_from e.timing now n } else e).rto
     go true = h
     go false = h
+
+echoed_paced : (e : Estimator) (now : Instant) (t : ℕ) → 0 < e.rto → 0 < (echoed e now t).rto
+unfolding echoed sampled
+echoed_paced e now t h = by e.stamp_timing
+  where
+    by : (s : Option StampTiming) → 0 < (echoed_at s e now t).rto
+    by None = h
+    by (Some s) = go (t == s.stamp) (is_before (seq_of s.stamp) (seq_of t))
+      where
+        go : (b c : Bool) → 0 < (if b then record (sampled e (millis_between now s.at)) { stamp_timing = None } else (if c then record e { stamp_timing = None } else e)).rto
+        go true c = omega arith
+        go false true = h
+        go false false = h
+
+echo_paced : (news : Bool) (echo : Option ℕ) (e : Estimator) (now : Instant) → 0 < e.rto → 0 < (echo_heard news echo e now).rto
+echo_paced true (Some t) e now h = echoed_paced e now t h
+echo_paced true None e now h = h
+echo_paced false echo e now h = h
+
+stamped_paced : (r : Rules) (opening : Bool) (e : Estimator) (now : Instant) (t : Option ℕ) → 0 < e.rto → 0 < (stamp_timed r opening e now t).rto
+unfolding stamped
+stamped_paced rules.Rfc false e now (Some t) h = h
+stamped_paced rules.Rfc false e now None h = h
+stamped_paced rules.Rfc true e now t h = h
+stamped_paced rules.Smoltcp opening e now t h = h
+
+measured_paced : (v : View) (now : Instant) (s : Emitted) → 0 < v.rtte.rto → 0 < (sending_measured v now s).rto
+measured_paced v now s h = stamped_paced v.rules (is_opening v.state) (sent v.rtte now s.end) now s.stamp (sent_paced v.rtte now s.end h)
 
 again_paced : (e : Estimator) → 0 < e.rto → 0 < (retransmitted (backed_off e)).rto
 unfolding retransmitted backed_off
@@ -110,7 +145,7 @@ module _ (s : Segment) (now : Instant) where
     rows = rows_paced word;
     joins = λ w o bs h. h;
     hears = λ u a h. heard_paced u a h;
-    recovers = λ v w h i. opened_paced (is_opened (before_of v s) w) w.rtte i;
+    recovers = λ v w h i. opened_paced (is_opened (before_of v s) w) (echo_known (before_of v s) w now).rtte (echo_paced (is_news (before_of v s) w) (before_of v s).echo w.rtte now i);
   }
 
 -- ---- a dispatch
@@ -137,7 +172,7 @@ readied_paced v now h = readied_kept IsPaced now (begins_paced now) v h
 
 sends_paced : (now : Instant) → KeptBySending IsPaced now
 unfolding after_any snd_nxt_moved after_probe
-sends_paced now = record { renews = λ u h. h; moves = λ u e h. h; times = λ u e h. sent_paced u.rtte now e.end h; probes = λ u h. h; arms = λ u at e h. h }
+sends_paced now = record { renews = λ u h. h; moves = λ u e h. h; times = λ u e h. measured_paced u now e h; probes = λ u h. h; arms = λ u at e h. h }
 
 -- ---- the other calls
 

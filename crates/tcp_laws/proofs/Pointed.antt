@@ -23,7 +23,7 @@ use Rattle.sock_tcp.specs.Process.{after_advance, by_verdict, challenged, close_
 use Rattle.sock_tcp.specs.Queues.{queued, read_off}
 use Rattle.sock_tcp.specs.Replies.{ack_kept}
 use Rattle.sock_tcp.specs.Rfc.Checks.{verdict_by}
-use Rattle.sock_tcp.specs.Rfc.Recovery.{again, again_by, before_of, begins, gone_on, highest_of, reached_by, recovered, recovery_after, sent_of, timed_out_by}
+use Rattle.sock_tcp.specs.Rfc.Recovery.{again, again_by, before_of, begins, echo_known, gone_on, highest_of, reached_by, recovered, recovery_after, sent_of, timed_out_by}
 use Rattle.sock_tcp.specs.Rfc.TailLoss.{tail_probed}
 use Rattle.sock_tcp.specs.Rfc.Windows.{windowed}
 use Rattle.sock_tcp.specs.Sent.{after_any, after_probe, resent_by, snd_nxt_moved}
@@ -196,7 +196,7 @@ module _ (v : View) (now : Instant) (s : Segment) (f : fits v.recovery ≡ true)
 
   recovered_fits : (w : View) → (recovered (before_of v s) w now).remote_last_seq.0 < 2 ^ 32 → fits (recovered (before_of v s) w now).recovery ≡ true
   unfolding recovered before_of
-  recovered_fits w small = after_fits (before_of v s) w f small
+  recovered_fits w small = after_fits (before_of v s) (echo_known (before_of v s) w now) f small
 
   verdict_fits : (r : Rules) (word : ℕ) (ip : IpRepr) (x : Verdict) → (by_verdict r x v (arrival now (tuple_of ip s) word s)).view.remote_last_seq.0 < 2 ^ 32 → fits (by_verdict r x v (arrival now (tuple_of ip s) word s)).view.recovery ≡ true
   verdict_fits r word ip verdicts.Drop small = f

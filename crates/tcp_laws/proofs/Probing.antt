@@ -13,7 +13,7 @@ use Rattle.sock_tcp.specs.Opening.{connected, listened, renewed}
 use Rattle.sock_tcp.specs.Process.{close_restarted, timer_restarted}
 use Rattle.sock_tcp.specs.Queues.{first_probe, queued, read_off}
 use Rattle.sock_tcp.specs.Replies.{ack_kept}
-use Rattle.sock_tcp.specs.Rfc.Recovery.{before_of, recovered}
+use Rattle.sock_tcp.specs.Rfc.Recovery.{before_of, echo_known, recovered}
 use Rattle.sock_tcp.specs.Rfc.TailLoss.{tail_probed}
 use Rattle.sock_tcp.specs.Sent.{after_any, after_probe, snd_nxt_moved}
 use Rattle.sock_tcp.specs.Settings.{keep_alive_timer}
@@ -28,7 +28,7 @@ use Rattle.sock_tcp.specs.declared.timer.Timer.{Timer}
 use Rattle.sock_tcp.specs.declared.timer.Timer.TheVariants as timer
 use Rattle.tcp_laws.specs.Polling.{IsReached}
 use Rattle.tcp_laws.specs.SocketRun.{Sets}
-use Rattle.sock_tcp.proofs.Recovering.{begun_as, marked_as, timer_as}
+use Rattle.sock_tcp.proofs.Recovering.{begun_as, known_as, marked_as, timer_as}
 use Rattle.tcp_laws.proofs.Kept.{Kept, KeptByBeginnings, KeptByCalls, KeptByRows, KeptBySegments, KeptBySending, acked_view, before_kept, heard_kept, process_kept, reached_kept, sends_kept, timer_then}
 use Rattle.tcp_laws.proofs.SocketSteps.{same_number, setting_leaves}
 
@@ -137,7 +137,7 @@ module _ (s : Segment) (now : Instant) where
     rows = rows_probing word;
     joins = λ w o bs h. h;
     hears = λ u a h. heard_probing u a h;
-    recovers = λ v w h i. record { window = timer_as (λ t. ProbesIn t w.remote_win_len) (before_of v s) w now i.window tt (λ at e. tt) tt tt (λ at delay e. idle_probes now w.keep_alive w.remote_win_len); mss = i.mss };
+    recovers = λ v w h i. record { window = timer_as (λ t. ProbesIn t w.remote_win_len) (before_of v s) (echo_known (before_of v s) w now) now (known_as (λ t. ProbesIn t w.remote_win_len) (before_of v s) w now (λ at z. tt) i.window) tt (λ at e. tt) tt tt (λ at delay e. idle_probes now w.keep_alive w.remote_win_len); mss = i.mss };
   }
 
 -- ---- a dispatch

@@ -15,12 +15,13 @@ use Rattle.sock_tcp.specs.Due.{flight}
 use Rattle.sock_tcp.specs.Process.{Outcome, after_advance, by_verdict, close_restarted, cut_inside, has_window, processed_by, processed_inside, tested_by, timer_restarted, tuple_of}
 use Rattle.sock_tcp.specs.Replies.{ack_kept}
 use Rattle.sock_tcp.specs.Rfc.Checks.{verdict_by}
-use Rattle.sock_tcp.specs.Rfc.Recovery.{before_of, gone_on_from, has_timer, is_called, recovered, recovered_by, resends, running, waited_for, waits_tail}
+use Rattle.sock_tcp.specs.Rfc.Recovery.{before_of, echo_known, gone_on_from, has_timer, is_called, recovered, recovered_by, resends, running, waited_for, waits_tail}
 use Rattle.sock_tcp.specs.Rfc.Refused.{refused}
 use Rattle.sock_tcp.specs.Rfc.TailLoss.{is_alone, tail_waits}
 use Rattle.sock_tcp.specs.Rfc.Windows.{windowed}
 use Rattle.sock_tcp.specs.Steps.{ack_counted, ack_delayed, ack_heard, begins_probe, duplicate_counted, heard, joined, probe_ended, probe_set, released, timer_acked, timer_set, timestamp_taken, una_advanced, window_taken}
 use Rattle.sock_tcp.specs.Timers.{idle_from, probe_from, retransmit_from}
+use Rattle.sock_tcp.proofs.Recovering.{known_as}
 use Rattle.sock_tcp.specs.View.{View}
 use Rattle.sock_tcp.specs.Window.{cut_of, is_inside, receive_window}
 use Rattle.sock_tcp.specs.declared.acked.Acked.{Acked}
@@ -335,10 +336,17 @@ module _ (v : View) (now : Instant) (word : ℕ) (ip : IpRepr) (s : Segment) (aw
   chosen w true e h = h
   chosen w false e h = absurd cc
 
+  -- the echo puts off a retransmission alone
+  abbrev known : View → View
+  known w = echo_known (before_of v s) w now
+
+  waited_known : (w : View) → Asks w.timer w.remote_win_len (length w.tx_buffer.bytes) → Rests (waited_for (before_of v s) (known w) now) (flight w) w.remote_win_len (length w.tx_buffer.bytes)
+  waited_known w asks = waited_rests now (before_of v s) (known w) (known_as (λ t. Asks t w.remote_win_len (length w.tx_buffer.bytes)) (before_of v s) w now (λ at z. tt) asks)
+
   -- in SYN-RECEIVED the queue is empty
   recovered_row : (w : View) (st : State) → w.state ≡ st → HalfIn st w.timer w.remote_win_len (length w.tx_buffer.bytes) → Row st (recovered (before_of v s) w now).timer w.keep_alive (flight w) (length w.tx_buffer.bytes) → AwakeIn st (recovered (before_of v s) w now).timer (flight w) w.remote_win_len (length w.tx_buffer.bytes)
   unfolding recovered
-  recovered_row w state.SynReceived is half row = chosen w (has_timer w.state) (ap has_timer is) (waited_rests now (before_of v s) w (empty w.timer row.1))
+  recovered_row w state.SynReceived is half row = chosen (known w) (has_timer w.state) (ap has_timer is) (waited_known w (empty w.timer row.1))
     where
       empty : (t : Timer) → length w.tx_buffer.bytes ≡ 0 → Asks t w.remote_win_len (length w.tx_buffer.bytes)
       empty (timer.Idle at) z = λ i. z
@@ -346,11 +354,11 @@ module _ (v : View) (now : Instant) (word : ℕ) (ip : IpRepr) (s : Segment) (aw
       empty timer.FastRetransmit z = tt
       empty (timer.ZeroWindowProbe at delay) z = tt
       empty (timer.Close at) z = tt
-  recovered_row w state.Established is half row = chosen w (has_timer w.state) (ap has_timer is) (waited_rests now (before_of v s) w half)
-  recovered_row w state.CloseWait is half row = chosen w (has_timer w.state) (ap has_timer is) (waited_rests now (before_of v s) w half)
-  recovered_row w state.FinWait1 is half row = chosen w (has_timer w.state) (ap has_timer is) (waited_rests now (before_of v s) w half)
-  recovered_row w state.Closing is half row = chosen w (has_timer w.state) (ap has_timer is) (waited_rests now (before_of v s) w half)
-  recovered_row w state.LastAck is half row = chosen w (has_timer w.state) (ap has_timer is) (waited_rests now (before_of v s) w half)
+  recovered_row w state.Established is half row = chosen (known w) (has_timer w.state) (ap has_timer is) (waited_known w half)
+  recovered_row w state.CloseWait is half row = chosen (known w) (has_timer w.state) (ap has_timer is) (waited_known w half)
+  recovered_row w state.FinWait1 is half row = chosen (known w) (has_timer w.state) (ap has_timer is) (waited_known w half)
+  recovered_row w state.Closing is half row = chosen (known w) (has_timer w.state) (ap has_timer is) (waited_known w half)
+  recovered_row w state.LastAck is half row = chosen (known w) (has_timer w.state) (ap has_timer is) (waited_known w half)
   recovered_row w _ is half row = tt
 
   recovered_awake : (o : Outcome) → Left o.view → IsOrdered (recovered_by rules.Rfc v now s o).view → IsAwakeByRfc (recovered_by rules.Rfc v now s o).view

@@ -13,7 +13,7 @@ use Rattle.sock_tcp.specs.Opening.{connected, listened, renewed}
 use Rattle.sock_tcp.specs.Process.{close_restarted}
 use Rattle.sock_tcp.specs.Queues.{first_probe, queued, read_off}
 use Rattle.sock_tcp.specs.Replies.{ack_kept}
-use Rattle.sock_tcp.specs.Rfc.Recovery.{before_of, is_opened, recovered}
+use Rattle.sock_tcp.specs.Rfc.Recovery.{before_of, echo_known, is_news, is_opened, recovered}
 use Rattle.sock_tcp.specs.Rfc.TailLoss.{is_alone, tail_probed, tail_wait}
 use Rattle.sock_tcp.specs.Sent.{after_any, after_probe, snd_nxt_moved}
 use Rattle.sock_tcp.specs.Settings.{keep_alive_timer}
@@ -28,11 +28,11 @@ use Rattle.tcp_laws.specs.Clocks.{IsAtMost, interval_set}
 use Rattle.tcp_laws.specs.SocketRun.{Sets}
 use Rattle.tcp_laws.specs.SocketRun.{SetCongestionControl, SetTimeout, SetAckDelay, SetNagle, SetKeepAlive, SetHopLimit, PauseSynAck, SetTsvalGenerator, SetRules, SetMinRto}
 use Rattle.sock_core.specs.Estimator.{backed_off, retransmitted}
-use Rattle.sock_tcp.proofs.Recovering.{begun_as, marked_as, timer_as}
+use Rattle.sock_tcp.proofs.Recovering.{known_as, begun_as, marked_as, timer_as}
 use Rattle.tcp_laws.proofs.Kept.{Kept, KeptByBeginnings, KeptByCalls, KeptByRows, KeptBySegments, KeptBySending, process_kept, sends_kept}
 use Rattle.tcp_laws.proofs.SocketSteps.{same_number}
 use Rattle.tcp_laws.proofs.OrderedCalls.{same_flag}
-use Rattle.tcp_laws.proofs.Moments.{IsTimed, acked_by, acked_short, again_short, and_true, bounded_short, close_by, delayed_by, doubled_by, fast_short, idle_by, is_by, is_delay_by, is_short, is_timer_by, later_timed, opened_short, probe_by, renewed_by, restarted_by, rto_by, sent_short, set_by, sooner_by, tail_by, timed_by}
+use Rattle.tcp_laws.proofs.Moments.{IsTimed, acked_by, acked_short, again_short, and_true, bounded_short, close_by, delayed_by, doubled_by, fast_short, heard_short, idle_by, is_by, is_delay_by, is_short, is_timer_by, later_timed, measured_short, opened_short, probe_by, renewed_by, restarted_by, rto_by, set_by, sooner_by, tail_by, timed_by}
 
 module _ (most : Duration) (minute : 60000000 ≤ most.micros) where
   -- ---- a segment
@@ -89,7 +89,11 @@ module _ (most : Duration) (minute : 60000000 ≤ most.micros) where
       rows = rows_timed word;
       joins = λ w o bs h. delayed_timed w o bs h;
       hears = λ u a h. heard_timed u a h;
-      recovers = λ v w h i. record { timer = timer_as (λ t. is_timer_by now most t ≡ true) (before_of v s) w now i.timer refl (λ at e. sym (ap (is_timer_by now most) e) ∙ h.timer) (rto_by most minute now w.rtte i.timeout) (tail_by most minute now w.rtte (is_alone w) i.timeout) (λ at delay e. idle_by most minute now w.keep_alive i.keep_short); waits = i.waits; timeout = opened_short (is_opened (before_of v s) w) w.rtte i.timeout; keep_short = i.keep_short; delay_short = i.delay_short };
+      recovers = λ v w h i.
+          let u : View = echo_known (before_of v s) w now in
+          let short : u.rtte.rto ≤ 60000 = heard_short (is_news (before_of v s) w) (before_of v s).echo w.rtte now i.timeout in
+          let known : is_timer_by now most u.timer ≡ true = known_as (λ t. is_timer_by now most t ≡ true) (before_of v s) w now (λ at e. rto_by most minute now u.rtte short) i.timer in
+          record { timer = timer_as (λ t. is_timer_by now most t ≡ true) (before_of v s) u now known refl (λ at e. sym (ap (is_timer_by now most) e) ∙ h.timer) (rto_by most minute now u.rtte short) (tail_by most minute now u.rtte (is_alone u) short) (λ at delay e. idle_by most minute now w.keep_alive i.keep_short); waits = i.waits; timeout = opened_short (is_opened (before_of v s) u) u.rtte short; keep_short = i.keep_short; delay_short = i.delay_short };
     }
 
   -- ---- a reset
@@ -119,7 +123,7 @@ module _ (most : Duration) (minute : 60000000 ≤ most.micros) where
     sends_timed = record {
       renews = λ u h. record { timer = renewed_by most minute now u.timer u.keep_alive h.keep_short h.timer; waits = refl; timeout = h.timeout; keep_short = h.keep_short; delay_short = h.delay_short };
       moves = λ u e h. h;
-      times = λ u e h. record { timer = timed_by most minute now u.timer u.rtte h.timeout h.timer; waits = h.waits; timeout = sent_short u.rtte now e.end h.timeout; keep_short = h.keep_short; delay_short = h.delay_short };
+      times = λ u e h. record { timer = timed_by most minute now u.timer u.rtte h.timeout h.timer; waits = h.waits; timeout = measured_short u now e h.timeout; keep_short = h.keep_short; delay_short = h.delay_short };
       probes = λ u h. record { timer = doubled_by most minute now u.timer h.timer; waits = h.waits; timeout = h.timeout; keep_short = h.keep_short; delay_short = h.delay_short };
       arms = λ u at e h. record { timer = sooner_by most minute now at (after now (tail_wait u.rtte (is_alone u))) (subst (λ t. is_timer_by now most t ≡ true) e h.timer) (tail_by most minute now u.rtte (is_alone u) h.timeout); waits = h.waits; timeout = h.timeout; keep_short = h.keep_short; delay_short = h.delay_short };
     }

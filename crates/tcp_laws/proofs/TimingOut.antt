@@ -5,7 +5,6 @@ use Rattle.std.proofs.lemmas.Bool.{or_parts}
 use Rattle.net_base.specs.declared.time.Duration.{Duration}
 use Rattle.net_base.specs.declared.time.Instant.{Instant}
 use Rattle.sock_core.specs.Congestion.{post_transmitted}
-use Rattle.sock_core.specs.Estimator.{sent}
 use Rattle.sock_core.specs.Facts.{Facts}
 use Rattle.sock_tcp.specs.Rfc.TailLoss.{tail_armed}
 use Rattle.sock_tcp.proofs.Arming.{armed_as}
@@ -16,6 +15,7 @@ use Rattle.sock_tcp.specs.Dispatch.{Dispatches, EmitTcp, EmitsTo}
 use Rattle.sock_tcp.specs.Due.{ack_poll, data_due, is_closed, is_due, window_doubled}
 use Rattle.sock_tcp.specs.Opening.{renewed}
 use Rattle.sock_tcp.specs.Polls.{is_reached, timeout_poll}
+use Rattle.sock_tcp.specs.Rfc.RoundTrips.{sending_measured}
 use Rattle.sock_tcp.specs.Sent.{goes_on, after_any, after_kind, after_probe, after_sending, emitted_as, left_by, sending_timed, snd_nxt_moved}
 use Rattle.sock_tcp.specs.Timers.{is_keep_alive_over, is_probe_over, retransmit_unless_set}
 use Rattle.sock_tcp.specs.View.{View, fresh, moment_of}
@@ -36,7 +36,7 @@ timed_state : (v : View) (now : Instant) (s : Emitted) → (sending_timed v now 
 unfolding sending_timed
 timed_state v now s = go (s.len == 0)
   where
-    go : (b : Bool) → (if b then v else record v { rtte = sent v.rtte now s.end; timer = retransmit_unless_set v.timer now v.rtte; congestion_controller = post_transmitted (restarted_by v.rules v.idle_at now v.congestion_controller) now s.len; idle_at = idle_by v.rules v.idle_at now v.rtte; pending_fast_retransmit = v.pending_fast_retransmit || goes_on v }).state ≡ v.state
+    go : (b : Bool) → (if b then v else record v { rtte = sending_measured v now s; timer = retransmit_unless_set v.timer now v.rtte; congestion_controller = post_transmitted (restarted_by v.rules v.idle_at now v.congestion_controller) now s.len; idle_at = idle_by v.rules v.idle_at now v.rtte; pending_fast_retransmit = v.pending_fast_retransmit || goes_on v }).state ≡ v.state
     go true = refl
     go false = refl
 

@@ -22,6 +22,7 @@ use Rattle.sock_tcp.specs.Due.{flight, is_opening}
 use Rattle.sock_tcp.specs.Inside.{Outcome}
 use Rattle.sock_tcp.specs.Rfc.Scoreboard.{all_told, any_news, highest_told, is_blank, moved, nothing_told}
 use Rattle.sock_tcp.specs.Rfc.Pipe.{has_room, told_before}
+use Rattle.sock_tcp.specs.Rfc.RoundTrips.{echo_of, echo_taken}
 use Rattle.sock_tcp.specs.Rfc.TailLoss.{is_alone, may_probe, tail_waits}
 use Rattle.sock_tcp.specs.Steps.{is_duplicate}
 use Rattle.sock_tcp.specs.Timers.{idle_from, probe_from, retransmit_from}
@@ -87,6 +88,7 @@ before_of v s =
       repeats = repeats_by s.ack_number v s.control (length s.payload);
       telling = is_telling v s;
       sacked = sacked_by (is_telling v s) v s;
+      echo = echo_of s.timestamp;
     }
 
 -- ---- duplicates
@@ -334,8 +336,12 @@ estimator_after b w = if is_opened b w then begun_anew w.rtte else w.rtte
 
 -- ---- the whole
 
-unfoldable pub recovered : Before → View → Instant → View
-recovered b w now =
+-- the estimator knows the segment's echo
+abbrev pub echo_known : Before → View → Instant → View
+echo_known b w now = echo_taken (is_news b w) b.echo w now
+
+abbrev pub recovered_from : Before → View → Instant → View
+recovered_from b w now =
     record w {
       timer = timer_after b w now;
       rtte = estimator_after b w;
@@ -344,6 +350,9 @@ recovered b w now =
       recovery = recovery_after b w;
       sacked = sacked_after b w;
     }
+
+unfoldable pub recovered : Before → View → Instant → View
+recovered b w now = recovered_from b (echo_known b w now) now
 
 -- smoltcp's rules do nothing more
 abbrev pub recovered_by : Rules → View → Instant → Segment → Outcome → Outcome
