@@ -22,7 +22,7 @@ use Rattle.sock_tcp.specs.Rfc.Numbers.{reply_numbered}
 use Rattle.sock_tcp.specs.Arrival.{Arrival, arrival}
 use Rattle.sock_tcp.specs.View.{View, FinSays}
 use Rattle.sock_tcp.specs.Verdict.{verdict_at, verdict_of}
-use Rattle.sock_tcp.specs.Window.{next_ack, receive_window, is_inside, cut_of, cut_bytes}
+use Rattle.sock_tcp.specs.Window.{next_ack, accepted_window, honored_window, is_inside, cut_of, cut_bytes}
 use Rattle.sock_tcp.specs.Acked.{syn_place, acked_places, acked_at, acked_of, nothing_acked}
 use Rattle.sock_tcp.specs.Advance.{advanced, advance_in, counted_control, dropped, fallen_back, fin_counted, moved_to, opened_state, options_taken, syn_answered, syn_received, waiting, nothing_new_by}
 use Rattle.ip_wire.specs.declared.endpoint.IpListenEndpoint.{IpListenEndpoint}
@@ -40,7 +40,7 @@ use Rattle.sock_tcp.specs.declared.window.Cut.{Cut}
 use Rattle.sock_tcp.specs.declared.window.Window.{Window}
 use Rattle.sock_tcp.proofs.Acking.{acked_fits}
 use Rattle.tcp_laws.proofs.Frames.{brought}
-use Rattle.sock_tcp.proofs.Windows.{start_small, end_small, window_width, cut_fits}
+use Rattle.sock_tcp.proofs.Windows.{accepted_end_small, accepted_is, accepted_width, cut_fits_in}
 use Rattle.pair_core.specs.PairLaws.{IsBounded}
 use Rattle.pair_core.specs.PairNetwork.{phase_of, shown, stream_segment, is_fin, is_passive, is_rst, is_syn, IsSmall}
 use Rattle.pair_core.specs.StreamCalls.{HearEffect, ProcessEffect, Nothing, Acknowledgement, FallBack, ResetReply, Syn, SynAck, SynAlone}
@@ -89,8 +89,9 @@ module _ (v : View) (now : Instant) (word : ℕ) (ip : IpRepr) (s : Segment) (at
   abbrev numbered : View
   numbered = record v { local_rx_last_seq = Some s.seq_number }
 
+  -- the window in which it is taken
   abbrev the_window : Window
-  the_window = receive_window v
+  the_window = record { start = next_ack v; end = (accepted_window v.rules v).end }
 
   abbrev the_cut : Cut
   the_cut = cut_of the_window s.seq_number (length s.payload)
@@ -411,11 +412,13 @@ module _ (v : View) (now : Instant) (word : ℕ) (ip : IpRepr) (s : Segment) (at
     held_small = omega (arith, room)
 
     data_heard : (u : View) (n : ℕ) (p : Phase) → IsRow (Some s.seq_number) the_control the_cut.offset the_bytes FinIn fin_in u p → HearsData (shown v) (heard_as (Some s.seq_number) the_control the_cut.offset the_bytes FinIn fin_in plain knows k ek u n p) the_segment
-    unfolding receive_window
     data_heard u n p r =
-        let brings = comes v.rx_buffer the_cut.offset the_bytes (cut_fits v s.seq_number s.payload held_small small.seq small.payload here) in
-        let wide : seq_sub the_window.end the_window.start ≤ 2 ^ 30 = omega (arith, window_width v held_small, held_small) in
-        let edge = edge_shown the_window.start the_window.end (start_small v) (end_small v) in
+        let low : the_window.start.0 < 2 ^ 32 = omega arith in
+        let high : the_window.end.0 < 2 ^ 32 = accepted_end_small v.rules v in
+        let within : seq_sub the_window.end the_window.start ≤ length v.rx_buffer.held = subst (λ (w : Window). seq_sub w.end w.start ≤ length v.rx_buffer.held) (accepted_is v.rules v) (accepted_width v.rules v held_small) in
+        let brings = comes v.rx_buffer the_cut.offset the_bytes (cut_fits_in the_window (length v.rx_buffer.held) s.seq_number s.payload low high within held_small small.seq small.payload here) in
+        let wide : seq_sub the_window.end the_window.start ≤ 2 ^ 30 = omega (arith, within, held_small) in
+        let edge = edge_shown the_window.start the_window.end low high in
         let c = brought v.rx_buffer the_cut.offset the_bytes in
         let f : FinCounts (shown v) (heard_as (Some s.seq_number) the_control the_cut.offset the_bytes FinIn fin_in plain knows k ek u n p) the_segment ((the_window.start.0 + seq_sub the_window.end the_window.start) % 2 ^ 32) = record {
           fin = λ e. ⊎_elim inl (λ x. inr (x.is, before_shown the_window.start s.seq_number ∙ x.begins, ap (λ m. number_is_before m (segment_end the_segment)) edge ∙ before_shown the_window.end (seq_add s.seq_number (length s.payload)) ∙ x.ends)) (r.fin e);
@@ -423,9 +426,9 @@ module _ (v : View) (now : Instant) (word : ℕ) (ip : IpRepr) (s : Segment) (at
           fins = r.fins;
           counts = r.counts;
         } in
-        cut_heard (shown v) (heard_as (Some s.seq_number) the_control the_cut.offset the_bytes FinIn fin_in plain knows k ek u n p) the_segment (seq_sub the_window.end the_window.start) the_cut.offset the_bytes v.rx_buffer c brings (start_small v) small.seq wide small.payload
-        (inside_shown the_window s.seq_number (length s.payload) (start_small v) (end_small v) small.seq wide small.payload here)
-        (cut_shown the_window s.seq_number the_segment (start_small v) (end_small v) refl) (offset_shown the_window s.seq_number the_segment refl) f
+        cut_heard (shown v) (heard_as (Some s.seq_number) the_control the_cut.offset the_bytes FinIn fin_in plain knows k ek u n p) the_segment (seq_sub the_window.end the_window.start) the_cut.offset the_bytes v.rx_buffer c brings low small.seq wide small.payload
+        (inside_shown the_window s.seq_number (length s.payload) low high small.seq wide small.payload here)
+        (cut_shown the_window s.seq_number the_segment low high refl) (offset_shown the_window s.seq_number the_segment refl) f
         (r.nxt (length c.bytes) ∙ nxt_joins v.remote_seq_no.0 (length v.rx_buffer.bytes) (length c.bytes) r.fins (grows _ _ _ _ brings))
 
   -- ---- an RST inside the window
@@ -557,7 +560,7 @@ module _ (v : View) (now : Instant) (word : ℕ) (ip : IpRepr) (s : Segment) (at
       plain_rows v.local_rx_last_seq bit 0 [] FinNext f plain knows p.0 p.1 (bare_data bit f plain knows p.0 p.1) w passed w unreset
 
   next_fin : counts_fin v come ≡ true → FinNext
-  unfolding receive_window
+  unfolding honored_window
   next_fin e = let h = and_parts (rfc_fin s.control) (seq_eq (seq_add s.seq_number (length s.payload)) (next_ack v)) e in record { is = fin_is s.control h.0; there = eqb-true _ _ h.1 }
 
   refuses : (r : Rules) → has_window v.state ≡ true → verdict_of v s.control s.ack_number ≡ verdicts.Pass → IsEffect (refused r v come)
@@ -577,7 +580,7 @@ module _ (v : View) (now : Instant) (word : ℕ) (ip : IpRepr) (s : Segment) (at
   by_window false here w p = refuses v.rules w p
 
   is_tested : (b : Bool) → has_window v.state ≡ b → verdict_of v s.control s.ack_number ≡ verdicts.Pass → word < 2 ^ 32 → IsEffect (tested b v (arrival now (tuple_of ip s) word s))
-  is_tested true w p small_word = by_window in_window refl w p
+  is_tested true w p small_word = subst (λ (x : Window). IsEffect (if is_inside x s.seq_number (length s.payload) then cut_inside x (cut_of x s.seq_number (length s.payload)) v (arrival now (tuple_of ip s) word s) else refused v.rules v (arrival now (tuple_of ip s) word s))) (sym (accepted_is v.rules v)) (by_window in_window refl w p)
   is_tested false w p small_word = unwindowed w p small_word
 
   -- LISTEN lets no segment with an acknowledgement in

@@ -18,8 +18,10 @@ use Rattle.sock_tcp.proofs.Recovering.{recovered_as}
 use Rattle.sock_tcp.specs.declared.verdict.Verdict.TheVariants as verdicts
 use Rattle.sock_tcp.specs.Rfc.Recovery.{before_of, recovered}
 use Rattle.sock_tcp.specs.Rfc.Refused.{refused}
-use Rattle.sock_tcp.specs.Window.{next_ack, receive_window, cut_of, is_inside}
+use Rattle.sock_tcp.specs.Window.{next_ack, accepted_window, cut_of, is_inside}
 use Rattle.sock_tcp.specs.declared.window.Cut.{Cut}
+use Rattle.sock_tcp.specs.declared.window.Window.{Window}
+use Rattle.sock_tcp.proofs.Windows.{accepted_start}
 use Rattle.sock_tcp.specs.Acked.{acked_of}
 use Rattle.sock_tcp.specs.Advance.{Advance, advance_in, advanced, counted_control}
 use Rattle.sock_tcp.specs.Steps.{heard}
@@ -42,16 +44,20 @@ at_the_edge : (start number : TcpSeqNumber) → start.0 < 2 ^ 32 → is_before s
 unfolding later_of
 at_the_edge start number small e = ap (λ t. seq_sub (if t then number else start) start) e ∙ omega (arith, small)
 
+at_the_edge_of : (w : Window) (number : TcpSeqNumber) (n : ℕ) (start : TcpSeqNumber) → w.start ≡ start → start.0 < 2 ^ 32 → is_before start number ≡ false → (cut_of w number n).offset ≡ 0
+unfolding cut_of
+at_the_edge_of w number n start e small before = at_the_edge w.start number (subst (λ x. x.0 < 2 ^ 32) (sym e) small) (ap (λ x. is_before x number) e ∙ before)
+
 -- the same of a segment whose acknowledgement passes, as it counts
 record Lies (v : View) (now : Instant) (word : ℕ) (ip : IpRepr) (s : Segment) : Type 0 where
   window : has_window v.state ≡ true
-  inside : is_inside (receive_window v) s.seq_number (length s.payload) ≡ true
+  inside : is_inside (accepted_window v.rules v) s.seq_number (length s.payload) ≡ true
   goes_on : (table_for v now word ip s).next ≡ next.Continue
   starts : is_before (next_ack v) s.seq_number ≡ false
 
 module _ (v : View) (now : Instant) (word : ℕ) (ip : IpRepr) (s : Segment) (i : Lies v now word ip s) (some : 0 < length (in_window v s)) where
   abbrev the_cut : Cut
-  the_cut = cut_of (receive_window v) s.seq_number (length s.payload)
+  the_cut = cut_of (accepted_window v.rules v) s.seq_number (length s.payload)
 
   abbrev numbered : View
   numbered = record v { local_rx_last_seq = Some s.seq_number }
@@ -60,14 +66,13 @@ module _ (v : View) (now : Instant) (word : ℕ) (ip : IpRepr) (s : Segment) (i 
   the_acked = acked_of v s.control s.ack_number
 
   abbrev the_control : TcpControl
-  the_control = counted_control s.control (receive_window v) s.seq_number (length s.payload)
+  the_control = counted_control s.control (accepted_window v.rules v) s.seq_number (length s.payload)
 
   abbrev Queues : Outcome → Type 0
   Queues o = JoinsAtOnce v.rx_buffer o.view.rx_buffer (in_window v s)
 
   at_once : the_cut.offset ≡ 0
-  unfolding cut_of receive_window
-  at_once = at_the_edge (next_ack v) s.seq_number (omega arith) i.starts
+  at_once = at_the_edge_of (accepted_window v.rules v) s.seq_number (length s.payload) (next_ack v) (accepted_start v.rules v) (omega arith) i.starts
 
   -- the steps go on from u
   goes_on : (x : Next) (u : View) → x ≡ next.Continue → u.rx_buffer ≡ v.rx_buffer → Queues (after_advance x u (arrival now (tuple_of ip s) word s) the_acked the_cut.offset (in_window v s))
@@ -78,14 +83,14 @@ module _ (v : View) (now : Instant) (word : ℕ) (ip : IpRepr) (s : Segment) (i 
       let k = bytes_keep s now (heard u now the_acked s) the_cut.offset (in_window v s) in
       subst (λ b. JoinsAtOnce v.rx_buffer b (in_window v s)) (sym (k.rx ∙ (λ j. brought ((h.rx ∙ q) j) (at_once j) (in_window v s)))) (brings_at_once v.rx_buffer (in_window v s) some)
 
-  inside : Queues (cut_inside (receive_window v) the_cut v (arrival now (tuple_of ip s) word s))
+  inside : Queues (cut_inside (accepted_window v.rules v) the_cut v (arrival now (tuple_of ip s) word s))
   unfolding processed_inside advanced
   inside =
       let t : Advance = advance_in v.state the_control the_acked.fin numbered (arrival now (tuple_of ip s) word s) the_acked.len in
       goes_on t.next t.view i.goes_on (table_keeps s now numbered (tuple_of ip s) word the_acked.len v.state the_control the_acked.fin).rx
 
-  is_cut : tested (has_window v.state) v (arrival now (tuple_of ip s) word s) ≡ cut_inside (receive_window v) the_cut v (arrival now (tuple_of ip s) word s)
-  is_cut = ap (λ b. tested b v (arrival now (tuple_of ip s) word s)) i.window ∙ ap (λ b. if b then cut_inside (receive_window v) the_cut v (arrival now (tuple_of ip s) word s) else refused v.rules v (arrival now (tuple_of ip s) word s)) i.inside
+  is_cut : tested (has_window v.state) v (arrival now (tuple_of ip s) word s) ≡ cut_inside (accepted_window v.rules v) the_cut v (arrival now (tuple_of ip s) word s)
+  is_cut = ap (λ b. tested b v (arrival now (tuple_of ip s) word s)) i.window ∙ ap (λ b. if b then cut_inside (accepted_window v.rules v) the_cut v (arrival now (tuple_of ip s) word s) else refused v.rules v (arrival now (tuple_of ip s) word s)) i.inside
 
   -- whatever is done of loss then
   recovered_queues : (o : Outcome) → Queues o → Queues (record { view = recovered (before_of v s) o.view now; reply = o.reply })

@@ -14,7 +14,7 @@ use Rattle.sock_tcp.specs.Advance.{Advance, advanced, counted_control}
 use Rattle.sock_tcp.specs.Process.{has_window, tuple_of}
 use Rattle.sock_tcp.specs.Rfc.Checks.{verdict_by}
 use Rattle.sock_tcp.specs.View.{View}
-use Rattle.sock_tcp.specs.Window.{next_ack, receive_window, is_inside, cut_of, cut_bytes}
+use Rattle.sock_tcp.specs.Window.{next_ack, accepted_window, is_inside, cut_of, cut_bytes}
 use Rattle.sock_tcp.specs.declared.advance.Next.TheVariants as next
 use Rattle.sock_tcp.specs.declared.error.RecvError.TheVariants as recv_error
 use Rattle.sock_tcp.specs.declared.verdict.Verdict.TheVariants as verdicts
@@ -81,24 +81,24 @@ pub record Complete {G : Type 0} (e : Event) (p : PairView G) (o : Outcome) (q :
 
 -- ---- Prompt
 
--- the state table for a segment inside the receive window
+-- the state table for a segment inside the window in which it is taken
 abbrev pub table_for : View → Instant → ℕ → IpRepr → Segment → Advance
 table_for v now word ip s =
-    advanced (record v { local_rx_last_seq = Some s.seq_number }) (counted_control s.control (receive_window v) s.seq_number (length s.payload)) (arrival now (tuple_of ip s) word s) (acked_of v s.control s.ack_number)
+    advanced (record v { local_rx_last_seq = Some s.seq_number }) (counted_control s.control (accepted_window v.rules v) s.seq_number (length s.payload)) (arrival now (tuple_of ip s) word s) (acked_of v s.control s.ack_number)
 
 -- The segment s is in order for the socket v: the state has a receive window, the acknowledgement passes, the segment
--- lies inside the window, the state table goes on with it, as it counts, and it starts at RCV.NXT, the next number
+-- lies inside the one in which the socket takes segments by its rules, the state table goes on with it, as it counts, and it starts at RCV.NXT, the next number
 -- expected, or before it
 pub record IsInOrder (v : View) (now : Instant) (word : ℕ) (ip : IpRepr) (s : Segment) : Type 0 where
   pub window : has_window v.state ≡ true
   pub passes : verdict_by v.rules v now s ≡ verdicts.Pass
-  pub inside : is_inside (receive_window v) s.seq_number (length s.payload) ≡ true
+  pub inside : is_inside (accepted_window v.rules v) s.seq_number (length s.payload) ≡ true
   pub goes_on : (table_for v now word ip (windowed v.rules v s)).next ≡ next.Continue
   pub starts : is_before (next_ack v) s.seq_number ≡ false
 
 -- the bytes of the segment that lie in the window
 abbrev pub in_window : View → Segment → List ℕ
-in_window v s = cut_bytes (cut_of (receive_window v) s.seq_number (length s.payload)) s.payload
+in_window v s = cut_bytes (cut_of (accepted_window v.rules v) s.seq_number (length s.payload)) s.payload
 
 -- a delivery of the segment t at the moment m found the receiver as old, and left it as new: the in-window bytes of
 -- such a segment joined the receive queue, and behind them what was held there

@@ -21,7 +21,7 @@ ghost use Rattle.pair_core.specs.declared.setting.Setting.{Setting};
 ghost use Rattle.sock_tcp.specs.Process.{Accepts, processed};
 ghost use Rattle.sock_tcp.specs.Begin.{before_emit};
 ghost use Rattle.sock_tcp.specs.Content.{Sending, asked, offset_of, content};
-ghost use Rattle.sock_tcp.specs.Window.{receive_window};
+ghost use Rattle.sock_tcp.specs.Window.{accepted_window};
 ghost use Rattle.tcp_laws.specs.Polling.{IsReached};
 ghost use Rattle.sock_tcp.specs.declared.tuple.Tuple.{Tuple};
 ghost use Rattle.pair_core.specs.NetworkRuns.{Reaches, start, unopened};
@@ -111,8 +111,8 @@ pub fn pairs_deliver_in_order<G>()
     ensures release { (p : PairView G) → IsPair p → Release p }
 {}
 
-/// A delivery that a side accepts, of a segment in order, appends the bytes of it that lie in the receive window to the
-/// receive queue before it returns, and behind them what was held there.
+/// A delivery that a side accepts, of a segment in order, appends the bytes of it that lie in the window in which the
+/// side takes segments to the receive queue before it returns, and behind them what was held there.
 pub fn pairs_deliver_at_once<G: TsvalSource>()
     ensures { (i : ℕ) (m : Moment) (p q : PairView G) (o : Outcome) → EventStep G.tells (Deliver i m) p o q
         → IsPromptAt i m p o q }
@@ -122,8 +122,8 @@ pub fn pairs_deliver_at_once<G: TsvalSource>()
 /// place `n`, and a window from the place `l` up to the place `r`, the bytes from the greater of `l` and `n` up to the
 /// lesser of `r` and the segment's end.
 pub fn in_window_is_that_of_places()
-    ensures { (v : View) (s : Segment) (origin l r n : ℕ) → (receive_window v).start.0 ≡ number_at origin l
-        → (receive_window v).end.0 ≡ number_at origin r → s.seq_number.0 ≡ number_at origin n
+    ensures { (v : View) (s : Segment) (origin l r n : ℕ) → (accepted_window v.rules v).start.0 ≡ number_at origin l
+        → (accepted_window v.rules v).end.0 ≡ number_at origin r → s.seq_number.0 ≡ number_at origin n
         → l ≤ r → r < l + 2 ^ 30 → n < l + 2 ^ 30 → l < n + 2 ^ 30 → length s.payload ≤ 65535 → n ≤ r
         → l ≤ n + length s.payload
         → in_window v s ≡ take (min (n + length s.payload) r - max l n) (drop (max l n - n) s.payload) }

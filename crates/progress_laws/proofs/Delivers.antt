@@ -313,7 +313,7 @@ module _ (d : Duration) (t : Tuple) (v w : View) (n h : ℕ) (i : Agreement d t 
       takes_in : TakesIn w.rx_buffer u.rx_buffer cut.offset bs
       takes_in = by (only_appends rules.Smoltcp w now 0 ip s (reached_room w i.taker.reached) small q.short)
         where
-          by : MayTake w s u → TakesIn w.rx_buffer u.rx_buffer cut.offset bs
+          by : MayTake rules.Smoltcp w s u → TakesIn w.rx_buffer u.rx_buffer cut.offset bs
           by (inl e) = absurd (omega (arith, longer, ap (λ (b : Received). length b.bytes) e))
           by (inr r) = r.takes
 

@@ -190,14 +190,14 @@ module _ {G : Type 0} (tells : G → ℕ → Type 0) (p : PairView G) (i : IsPai
   abbrev last : Endpoint
   last = record (endpoint_of k) { view = shown w }
 
-  may : MayTake v t.segment w
+  may : MayTake v.rules v t.segment w
   may = only_appends v.rules v now m.word t.ip t.segment sock.receive small.seq small.payload
 
   shown_grow : Grows first last
   shown_grow = record {
     dead = λ d. absurd (alive (dead_closed v.state d));
     follows = λ synced. by synced heard_or_over;
-    bytes = inr (λ n x. may_keeps v w h.taken t.segment may n x);
+    bytes = inr (λ n x. may_keeps v w h.taken v.rules t.segment may n x);
   }
     where
       by : IsSynchronized (phase_of v.state) → HearEffect (is_passive v) (shown v) (shown w) g ⊎ (phase_of w.state ≡ Dead) → (phase_of w.state ≡ Dead) ⊎ Follows first last

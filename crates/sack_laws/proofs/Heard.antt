@@ -10,6 +10,7 @@ use Rattle.sock_core.specs.Received.{TakesIn, byte_at, merged}
 use Rattle.sock_core.specs.Streams.{fin_length}
 use Rattle.sock_core.proofs.Streams.{byte_within, le_from_at}
 use Rattle.sock_tcp.specs.View.{View}
+use Rattle.sock_tcp.specs.declared.rules.Rules.{Rules}
 use Rattle.tcp_laws.specs.Laws.{MayTake}
 use Rattle.tcp_laws.specs.Telling.{AllHeldIn, IsHeldRange}
 use Rattle.tcp_laws.proofs.Repeating.{or_true}
@@ -119,11 +120,11 @@ module _ (v w : View) (taken : ℕ) where
           second_true (nat_lt n then_taken) _
           (ap is_some (t.held (n - then_taken) ∙ ap (merged v.rx_buffer.held o ys) d) ∙ merged_some v.rx_buffer.held o ys (n - taken) e)
 
-  pub may_keeps : (s : Segment) → MayTake v s w → (n : ℕ) → has_of (byte_at v.rx_buffer.held) taken n ≡ true → has_of (byte_at w.rx_buffer.held) then_taken n ≡ true
-  may_keeps s (inl is) n h =
+  pub may_keeps : (r : Rules) (s : Segment) → MayTake r v s w → (n : ℕ) → has_of (byte_at v.rx_buffer.held) taken n ≡ true → has_of (byte_at w.rx_buffer.held) then_taken n ≡ true
+  may_keeps r s (inl is) n h =
       let none : then_taken ≡ taken = omega (arith, ap (λ b. length b.bytes) is) in
       (λ j. nat_lt n (none j) || is_some (byte_at (is j).held (n - none j))) ∙ h
-  may_keeps s (inr t) n h = takes_keeps _ _ t.takes n h
+  may_keeps r s (inr t) n h = takes_keeps _ _ t.takes n h
 
 -- ---- RCV.NXT and what it counted move together
 

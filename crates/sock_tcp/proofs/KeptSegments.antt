@@ -20,7 +20,7 @@ use Rattle.sock_tcp.specs.Timers.{after, challenge_interval}
 use Rattle.sock_tcp.specs.Rfc.Checks.{verdict_by}
 use Rattle.sock_tcp.specs.Rfc.Windows.{windowed}
 use Rattle.sock_tcp.specs.View.{View}
-use Rattle.sock_tcp.specs.Window.{receive_window, is_inside, cut_of}
+use Rattle.sock_tcp.specs.Window.{accepted_window, is_inside, cut_of}
 use Rattle.sock_tcp.specs.declared.acked.Acked.{Acked}
 use Rattle.sock_tcp.specs.declared.advance.Next.{Next}
 use Rattle.sock_tcp.specs.declared.advance.Next.TheVariants as next
@@ -183,11 +183,11 @@ module _ (P : View → Type 0) (now : Instant) (word : ℕ) (ip : IpRepr) (s : S
 
   pub tested_kept : (r : Rules) (v : View) → P v → (b : Bool) → P (tested_by r b v come).view
   tested_kept r v h false = inside_kept v s.control 0 [] h
-  tested_kept r v h true = go (is_inside (receive_window v) s.seq_number (length s.payload))
+  tested_kept r v h true = go (is_inside (accepted_window r v) s.seq_number (length s.payload))
     where
-      go : (b : Bool) → P (if b then cut_inside (receive_window v) (cut_of (receive_window v) s.seq_number (length s.payload)) v come else refused r v come).view
+      go : (b : Bool) → P (if b then cut_inside (accepted_window r v) (cut_of (accepted_window r v) s.seq_number (length s.payload)) v come else refused r v come).view
       go false = refused_kept r v h
-      go true = inside_kept (record v { local_rx_last_seq = Some s.seq_number }) (counted_control s.control (receive_window v) s.seq_number (length s.payload)) _ _ (k.numbers v s.seq_number h)
+      go true = inside_kept (record v { local_rx_last_seq = Some s.seq_number }) (counted_control s.control (accepted_window r v) s.seq_number (length s.payload)) _ _ (k.numbers v s.seq_number h)
 
   -- and where it has recovered, by either rules
   pub passed_kept : (r : Rules) (v : View) → P v → (b : Bool) → P (recovered_by r v now s (tested_by r b v come)).view

@@ -8,7 +8,7 @@ use Rattle.sock_tcp.specs.Arrival.{Arrival}
 use Rattle.sock_tcp.specs.Process.{Outcome, ack_sent, acked_by, outside, processed_inside, rst_sent, stopped}
 use Rattle.sock_tcp.specs.Rfc.Refused.{answered_if_not, answered_outside, has_ended, is_fin, is_heard_outside, is_next_fin, is_plain_control, refused, rfc_refused, then_answered}
 use Rattle.sock_tcp.specs.View.{View}
-use Rattle.sock_tcp.specs.Window.{receive_window}
+use Rattle.sock_tcp.specs.Window.{honored_window}
 use Rattle.sock_tcp.specs.declared.rules.Rules.{Rules}
 use Rattle.sock_tcp.specs.declared.rules.Rules.TheVariants as rules
 
@@ -30,7 +30,7 @@ abbrev pub heard_alone : View → Arrival → Outcome
 heard_alone v a = processed_inside v a control.None 0 []
 
 abbrev pub counts_fin : View → Arrival → Bool
-counts_fin v a = is_next_fin a.segment.control (receive_window v) a.segment.seq_number (length a.segment.payload)
+counts_fin v a = is_next_fin a.segment.control (honored_window v) a.segment.seq_number (length a.segment.payload)
 
 -- it is answered; its FIN is taken; its acknowledgement is heard, and perhaps answered by the table; or else answered then
 pub record Refuses (Q : Outcome → Type 0) (v : View) (a : Arrival) : Type 0 where

@@ -11,8 +11,10 @@ use Rattle.control_wire.specs.declared.seq_number.TcpSeqNumber.{TcpSeqNumber}
 use Rattle.sock_core.specs.Places.{number_is_before, number_distance}
 use Rattle.sock_core.specs.Seq.{is_before, is_not_after, later_of}
 use Rattle.sock_tcp.specs.View.{View}
-use Rattle.sock_tcp.specs.Window.{next_ack, kept_between, window_end, receive_window, starts_inside, empty_inside, full_inside, is_inside, cut_end, cut_of, cut_bytes}
+use Rattle.sock_tcp.specs.Window.{next_ack, kept_between, window_end, receive_window, space_end, honored_window, accepted_window, starts_inside, empty_inside, full_inside, is_inside, cut_end, cut_of, cut_bytes}
 use Rattle.sock_tcp.specs.declared.window.Cut.{Cut}
+use Rattle.sock_tcp.specs.declared.rules.Rules.{Rules}
+use Rattle.sock_tcp.specs.declared.rules.Rules.TheVariants as rules
 use Rattle.sock_tcp.specs.declared.window.Window.{Window}
 use Rattle.sock_tcp.proofs.Acking.{between}
 
@@ -99,6 +101,52 @@ window_width v room = go v.remote_last_ack
     go None = omega arith
     go (Some a) = kept_within (next_ack v) (seq_add a (v.remote_last_win * 2 ^ v.remote_win_shift)) (length v.rx_buffer.held) (omega arith) (omega arith) room
 
+-- ---- the same of the window that honors whatever was told
+
+honored_start_small : (v : View) → (honored_window v).start.0 < 2 ^ 32
+unfolding honored_window
+honored_start_small v = omega arith
+
+honored_end_small : (v : View) → (honored_window v).end.0 < 2 ^ 32
+unfolding honored_window
+honored_end_small v = go v.remote_last_ack
+  where
+    go : (o : Option TcpSeqNumber) → (space_end v o).0 < 2 ^ 32
+    go None = omega arith
+    go (Some a) = omega arith
+
+pub honored_width : (v : View) → length v.rx_buffer.held ≤ 2 ^ 30 → seq_sub (honored_window v).end (honored_window v).start ≤ length v.rx_buffer.held
+unfolding honored_window
+honored_width v room = go v.remote_last_ack
+  where
+    go : (o : Option TcpSeqNumber) → seq_sub (space_end v o) (next_ack v) ≤ length v.rx_buffer.held
+    go None = omega arith
+    go (Some a) = omega (arith, room)
+
+-- ---- and so by either rules
+
+pub accepted_start : (r : Rules) (v : View) → (accepted_window r v).start ≡ next_ack v
+unfolding receive_window honored_window
+accepted_start rules.Smoltcp v = refl
+accepted_start rules.Rfc v = refl
+
+pub accepted_is : (r : Rules) (v : View) → accepted_window r v ≡ record { start = next_ack v; end = (accepted_window r v).end }
+unfolding receive_window honored_window
+accepted_is rules.Smoltcp v = refl
+accepted_is rules.Rfc v = refl
+
+pub accepted_start_small : (r : Rules) (v : View) → (accepted_window r v).start.0 < 2 ^ 32
+accepted_start_small rules.Smoltcp v = start_small v
+accepted_start_small rules.Rfc v = honored_start_small v
+
+pub accepted_end_small : (r : Rules) (v : View) → (accepted_window r v).end.0 < 2 ^ 32
+accepted_end_small rules.Smoltcp v = end_small v
+accepted_end_small rules.Rfc v = honored_end_small v
+
+pub accepted_width : (r : Rules) (v : View) → length v.rx_buffer.held ≤ 2 ^ 30 → seq_sub (accepted_window r v).end (accepted_window r v).start ≤ length v.rx_buffer.held
+accepted_width rules.Smoltcp v room = window_width v room
+accepted_width rules.Rfc v room = honored_width v room
+
 -- ---- what is cut lies in the window
 
 module _ (w : Window) (s : TcpSeqNumber) (n : ℕ) (ls : w.start.0 < 2 ^ 32) (le : w.end.0 < 2 ^ 32) (ss : s.0 < 2 ^ 32) (wide : seq_sub w.end w.start ≤ 2 ^ 30) (short : n ≤ 65535) where
@@ -149,22 +197,24 @@ module _ (w : Window) (s : TcpSeqNumber) (n : ℕ) (ls : w.start.0 < 2 ^ 32) (le
 pub length-cut : (k : Cut) (bs : List ℕ) → length (cut_bytes k bs) ≡ min k.count (length bs - k.skip)
 length-cut k bs = length-take k.count (drop k.skip bs) ∙ ap (min k.count) (length-drop k.skip bs)
 
--- what is cut of a segment inside fits behind the receive queue
-pub cut_fits : (v : View) (s : TcpSeqNumber) (bs : List ℕ) → length v.rx_buffer.held ≤ 2 ^ 30 → s.0 < 2 ^ 32 → length bs ≤ 65535 → is_inside (receive_window v) s (length bs) ≡ true
-    → (cut_of (receive_window v) s (length bs)).offset + length (cut_bytes (cut_of (receive_window v) s (length bs)) bs) ≤ length v.rx_buffer.held
+-- what is cut of a segment inside fits into so much as the window is wide at most
+pub cut_fits_in : (w : Window) (held : ℕ) (s : TcpSeqNumber) (bs : List ℕ) → w.start.0 < 2 ^ 32 → w.end.0 < 2 ^ 32 → seq_sub w.end w.start ≤ held → held ≤ 2 ^ 30 → s.0 < 2 ^ 32 → length bs ≤ 65535 → is_inside w s (length bs) ≡ true
+    → (cut_of w s (length bs)).offset + length (cut_bytes (cut_of w s (length bs)) bs) ≤ held
 unfolding is_inside
-cut_fits v s bs room small short inside = go (length bs == 0) refl
+cut_fits_in w held s bs start end wide room small short inside = go (length bs == 0) refl
   where
-    wide : seq_sub (receive_window v).end (receive_window v).start ≤ length v.rx_buffer.held
-    wide = window_width v room
-
-    go : (b : Bool) → (length bs == 0) ≡ b → (cut_of (receive_window v) s (length bs)).offset + length (cut_bytes (cut_of (receive_window v) s (length bs)) bs) ≤ length v.rx_buffer.held
+    go : (b : Bool) → (length bs == 0) ≡ b → (cut_of w s (length bs)).offset + length (cut_bytes (cut_of w s (length bs)) bs) ≤ held
     go true e =
         let none : length bs ≡ 0 = eqb-true (length bs) 0 e in
-        let is : empty_inside (receive_window v) s ≡ true = ap (λ b. cond b (empty_inside (receive_window v) s) (full_inside (receive_window v) s (seq_add s (length bs)))) (sym e) ∙ inside in
-        let low = empty_cut (receive_window v) s (length bs) (start_small v) (end_small v) small (omega (arith, wide, room)) short is in
-        omega (arith, low, wide, none, length-cut (cut_of (receive_window v) s (length bs)) bs)
+        let is : empty_inside w s ≡ true = ap (λ b. cond b (empty_inside w s) (full_inside w s (seq_add s (length bs)))) (sym e) ∙ inside in
+        let low = empty_cut w s (length bs) start end small (omega (arith, wide, room)) short is in
+        omega (arith, low, wide, none, length-cut (cut_of w s (length bs)) bs)
     go false e =
-        let is : full_inside (receive_window v) s (seq_add s (length bs)) ≡ true = ap (λ b. cond b (empty_inside (receive_window v) s) (full_inside (receive_window v) s (seq_add s (length bs)))) (sym e) ∙ inside in
-        let low = full_cut (receive_window v) s (length bs) (start_small v) (end_small v) small (omega (arith, wide, room)) short is in
-        omega (arith, low, wide, length-cut (cut_of (receive_window v) s (length bs)) bs)
+        let is : full_inside w s (seq_add s (length bs)) ≡ true = ap (λ b. cond b (empty_inside w s) (full_inside w s (seq_add s (length bs)))) (sym e) ∙ inside in
+        let low = full_cut w s (length bs) start end small (omega (arith, wide, room)) short is in
+        omega (arith, low, wide, length-cut (cut_of w s (length bs)) bs)
+
+-- behind the receive queue, by either rules
+pub cut_fits : (r : Rules) (v : View) (s : TcpSeqNumber) (bs : List ℕ) → length v.rx_buffer.held ≤ 2 ^ 30 → s.0 < 2 ^ 32 → length bs ≤ 65535 → is_inside (accepted_window r v) s (length bs) ≡ true
+    → (cut_of (accepted_window r v) s (length bs)).offset + length (cut_bytes (cut_of (accepted_window r v) s (length bs)) bs) ≤ length v.rx_buffer.held
+cut_fits r v s bs room small short inside = cut_fits_in (accepted_window r v) (length v.rx_buffer.held) s bs (accepted_start_small r v) (accepted_end_small r v) (accepted_width r v room) room small short inside

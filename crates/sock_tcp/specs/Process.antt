@@ -27,7 +27,7 @@ use Rattle.sock_tcp.specs.Rfc.Windows.{windowed}
 use Rattle.sock_tcp.specs.View.{View, moment_of}
 use Rattle.sock_tcp.specs.Verdict.{verdict_of}
 pub use Rattle.sock_tcp.specs.Window.{has_window}
-use Rattle.sock_tcp.specs.Window.{receive_window, is_inside, cut_of, cut_bytes}
+use Rattle.sock_tcp.specs.Window.{accepted_window, is_inside, cut_of, cut_bytes}
 use Rattle.sock_tcp.specs.declared.window.Cut.{Cut}
 use Rattle.sock_tcp.specs.declared.window.Window.{Window}
 use Rattle.sock_tcp.specs.Replies.{Answers}
@@ -75,7 +75,7 @@ Accepts v ip s = AcceptsIn v.state v ip s
 -- Each definition stands below those that it names, so the rules are read from the end, in this order: `processed`
 -- asks for the verdict, which is by the socket's rules (`Rfc/Checks.antt`), and which window the segment tells by these
 -- (`Rfc/Windows.antt`); `by_verdict` drops, resets, challenges or
--- lets pass; `tested` tests the receive window, in a state that has one, and `recovered_by` (`Rfc/Recovery.antt`) does
+-- lets pass; `tested` tests the window in which a segment is taken by these rules, in a state that has one, and `recovered_by` (`Rfc/Recovery.antt`) does
 -- by the socket's rules what is done of loss then; `cut_inside` cuts what lies inside, and `refused`
 -- (`Rfc/Refused.antt`) does by the socket's rules what is done outside. The rest stands in `Inside.antt`: `outside`
 -- answers a segment; `processed_inside` goes through the state table; `after_advance` stops, challenges or hears the
@@ -92,9 +92,9 @@ cut_inside w cut v a =
 abbrev pub tested_by : Rules → Bool → View → Arrival → Outcome
 tested_by r false v a = processed_inside v a a.segment.control 0 []
 tested_by r true v a =
-    if is_inside (receive_window v) a.segment.seq_number (length a.segment.payload)
-    then cut_inside (receive_window v)
-    (cut_of (receive_window v) a.segment.seq_number (length a.segment.payload)) v a
+    if is_inside (accepted_window r v) a.segment.seq_number (length a.segment.payload)
+    then cut_inside (accepted_window r v)
+    (cut_of (accepted_window r v) a.segment.seq_number (length a.segment.payload)) v a
     else refused r v a
 
 abbrev pub tested : Bool → View → Arrival → Outcome

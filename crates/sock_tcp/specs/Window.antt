@@ -4,6 +4,8 @@ use Rattle.std.specs.Prelude.{◌&&◌, ◌||◌, if◌then◌else◌}
 use Rattle.control_wire.specs.Seq.{seq_add, seq_sub, seq_minus, seq_eq}
 use Rattle.control_wire.specs.declared.seq_number.TcpSeqNumber.{TcpSeqNumber}
 use Rattle.sock_core.specs.Seq.{is_before, is_not_after, later_of}
+use Rattle.sock_tcp.specs.declared.rules.Rules.{Rules}
+use Rattle.sock_tcp.specs.declared.rules.Rules.TheVariants as rules
 use Rattle.sock_tcp.specs.declared.state.State.{State}
 use Rattle.sock_tcp.specs.declared.state.State.TheVariants as state
 use Rattle.sock_tcp.specs.declared.window.Cut.{Cut}
@@ -34,6 +36,22 @@ window_end v (Some ack) =
 
 unfoldable pub receive_window : View → Window
 receive_window v = record { start = next_ack v; end = window_end v v.remote_last_ack }
+
+-- ---- the window in which a segment is taken
+
+-- the end of the free space, once a window was told: no edge that was told lies behind it
+abbrev pub space_end : View → Option TcpSeqNumber → TcpSeqNumber
+space_end v None = next_ack v
+space_end v (Some ack) = seq_add (next_ack v) (length v.rx_buffer.held)
+
+-- whatever was told once is honored (RFC 7323, section 2.4), also where the right edge has gone back since
+unfoldable pub honored_window : View → Window
+honored_window v = record { start = next_ack v; end = space_end v v.remote_last_ack }
+
+-- by smoltcp's rules a segment is taken in the window that was told last
+abbrev pub accepted_window : Rules → View → Window
+accepted_window rules.Smoltcp v = receive_window v
+accepted_window rules.Rfc v = honored_window v
 
 -- ---- the window test
 

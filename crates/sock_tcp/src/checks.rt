@@ -78,7 +78,7 @@ impl<'a> ControlBlock<'a> {
         match (self.state, repr.control) {
             (State::Listen | State::SynSent, _) => Next::Continue,
             (State::TimeWait, TcpControl::Rst) => Next::Stop,
-            (_, TcpControl::Rst) => check_rst(self.receive_window(), repr.seq_number),
+            (_, TcpControl::Rst) => check_rst(self.honored_window(), repr.seq_number),
             (State::SynReceived, TcpControl::Syn) => self.check_stamp(now, repr.timestamp),
             (_, TcpControl::Syn) => Next::Challenge,
             _ => self.check_stamp(now, repr.timestamp),

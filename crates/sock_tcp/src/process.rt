@@ -13,6 +13,7 @@ ghost use Rattle.sock_tcp.specs.Process.{by_verdict, processed_inside, tested, p
 ghost use Rattle.sock_tcp.specs.Draw.{draws, Draws};
 ghost use Rattle.sock_tcp.specs.Rfc.Recovery.{recovered_by};
 ghost use Rattle.sock_tcp.specs.Rfc.Windows.{windowed};
+ghost use Rattle.sock_tcp.specs.Window.{accepted_window};
 ghost use Rattle.sock_tcp.specs.declared.rules.Rules.TheVariants.{Rfc};
 
 use crate::advance::Next;
@@ -22,6 +23,7 @@ use crate::state::State;
 use crate::timer::{CHALLENGE_INTERVAL, Timer, after};
 use crate::tuple::Tuple;
 use crate::verdict::Verdict;
+use crate::window::Window;
 use control_wire::{TcpControl, TcpRepr};
 use ip_wire::{IpListenEndpoint, IpRepr};
 use net_base::time::Instant;
@@ -194,12 +196,14 @@ impl<'a> ControlBlock<'a> {
         &mut self,
         cx: &mut C,
         now: Instant,
+        window: Window,
         ip_repr: &IpRepr,
         repr: &TcpRepr<'_>,
     ) -> Answer
         requires moment { IsMoment now.micros }
         requires passed { verdict_of self.old repr.now.control repr.now.ack_number ≡ Pass }
         requires small { length repr.now.payload.now ≤ 65535 }
+        requires window { window ≡ accepted_window self.old.rules self.old }
         ensures table { answered result self.new (segment_of repr.now)
             ≡ tested (has_window self.old.state) self.old (arrival now (tuple_of ip_repr.now (segment_of repr.now))
             (C.word_at cx.old 0) (segment_of repr.now)) }
@@ -215,7 +219,6 @@ impl<'a> ControlBlock<'a> {
         }
         let (number, length) = (repr.seq_number, repr.payload.len());
         number.in_range(); // for its contract
-        let window = self.receive_window();
         if !window.is_inside(number, length) {
             return self.refuse(cx, now, &window, ip_repr, repr);
         }
@@ -250,7 +253,8 @@ impl<'a> ControlBlock<'a> {
         ensures context { Draws (draws Pass self.old.state repr.now.control) C.facts C.word_at cx.old cx.new }
     {
         let before = self.before(repr);
-        let answer = self.process_passed(cx, now, ip_repr, repr);
+        let window = self.accepted_window();
+        let answer = self.process_passed(cx, now, window, ip_repr, repr);
         self.recover(&before, now);
         answer
     }
@@ -295,7 +299,10 @@ impl<'a> ControlBlock<'a> {
         ensures context { Draws (draws Pass self.old.state repr.now.control) C.facts C.word_at cx.old cx.new }
     {
         match self.rules {
-            Rules::Smoltcp => self.process_passed(cx, now, ip_repr, repr),
+            Rules::Smoltcp => {
+                let window = self.receive_window();
+                self.process_passed(cx, now, window, ip_repr, repr)
+            }
             Rules::Rfc => self.process_by_rfc(cx, now, ip_repr, repr),
         }
     }

@@ -11,7 +11,7 @@ ghost use Rattle.sock_tcp.specs.Rfc.Refused.{acks_something, is_heard_outside, i
 ghost use Rattle.sock_tcp.specs.Rfc.Refused.{answered_outside, refused, rfc_refused, then_answered};
 ghost use Rattle.sock_tcp.specs.declared.tuple.Tuple.{Tuple};
 ghost use Rattle.sock_tcp.specs.Verdict.{verdict_of};
-ghost use Rattle.sock_tcp.specs.Window.{receive_window};
+ghost use Rattle.sock_tcp.specs.Window.{accepted_window, honored_window};
 ghost use Rattle.sock_tcp.specs.declared.verdict.Verdict.TheVariants.{Pass};
 
 use crate::acked::Acked;
@@ -46,7 +46,7 @@ fn is_plain(control: TcpControl) -> bool
 impl<'a> ControlBlock<'a> {
     // Whether its acknowledgement and its window are heard.
     fn is_heard_outside(&self, window: &Window, acked: Acked, repr: &TcpRepr<'_>) -> bool
-        requires { window.now ≡ receive_window self.now }
+        requires { window.now ≡ honored_window self.now }
         ensures { result ≡ is_heard_outside self.now (segment_of repr.now) acked }
     {
         let room = self.rx_buffer.capacity();
@@ -111,7 +111,7 @@ impl<'a> ControlBlock<'a> {
         requires moment { IsMoment now.micros }
         requires passed { verdict_of self.old repr.now.control repr.now.ack_number ≡ Pass }
         requires small { length repr.now.payload.now ≤ 65535 }
-        requires window { window.now ≡ receive_window self.old }
+        requires window { window.now ≡ honored_window self.old }
         requires has_window { has_window self.old.state ≡ true }
         ensures table { answered result self.new (segment_of repr.now)
             ≡ rfc_refused self.old (arrival now (tuple_of ip_repr.now (segment_of repr.now)) (C.word_at cx.old 0)
@@ -147,7 +147,7 @@ impl<'a> ControlBlock<'a> {
         requires moment { IsMoment now.micros }
         requires passed { verdict_of self.old repr.now.control repr.now.ack_number ≡ Pass }
         requires small { length repr.now.payload.now ≤ 65535 }
-        requires window { window.now ≡ receive_window self.old }
+        requires window { window.now ≡ accepted_window self.old.rules self.old }
         requires has_window { has_window self.old.state ≡ true }
         ensures table { answered result self.new (segment_of repr.now)
             ≡ refused self.old.rules self.old (arrival now (tuple_of ip_repr.now (segment_of repr.now))

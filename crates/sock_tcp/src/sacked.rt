@@ -212,7 +212,7 @@ impl<'a> ControlBlock<'a> {
             .any_news(self.sent(), self.local_seq_no, &repr.sack_ranges);
         news && (self.remote_has_sack
             && self
-                .receive_window()
+                .honored_window()
                 .is_inside(repr.seq_number, repr.payload.len()))
     }
 

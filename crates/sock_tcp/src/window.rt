@@ -3,9 +3,10 @@ ghost use Rattle.std.specs.Prelude.{◌≡◌, ◌≤◌, ◌<◌, ◌^◌, leng
 ghost use Rattle.control_wire.specs.Seq.{seq_sub};
 ghost use Rattle.sock_tcp.specs.Advance.{counted_control};
 ghost use Rattle.sock_tcp.specs.Window.{next_ack, kept_between, receive_window, starts_inside, is_inside, cut_of};
-ghost use Rattle.sock_tcp.specs.Window.{cut_bytes};
+ghost use Rattle.sock_tcp.specs.Window.{accepted_window, cut_bytes, honored_window};
 
 use crate::control_block::ControlBlock;
+use crate::rules::Rules;
 use control_wire::{TcpControl, TcpSeqNumber};
 use sock_core::seq::{before, later, not_after};
 
@@ -141,5 +142,28 @@ impl<'a> ControlBlock<'a> {
             }
         };
         Window { start, end }
+    }
+
+    // The window that honors whatever was told once (RFC 7323, section 2.4).
+    #[tactic(auto, unfolding(crate::specs::Window::honored_window))]
+    pub(crate) fn honored_window(&self) -> Window
+        ensures { result ≡ honored_window self.now }
+    {
+        let start = self.next_ack();
+        let end = match self.remote_last_ack {
+            None => start,
+            Some(_) => start.plus(self.rx_buffer.window()),
+        };
+        Window { start, end }
+    }
+
+    // The window in which a segment is taken, by the socket's rules.
+    pub(crate) fn accepted_window(&self) -> Window
+        ensures { result ≡ accepted_window self.now.rules self.now }
+    {
+        match self.rules {
+            Rules::Smoltcp => self.receive_window(),
+            Rules::Rfc => self.honored_window(),
+        }
     }
 }

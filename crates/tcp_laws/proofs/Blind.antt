@@ -14,7 +14,7 @@ use Rattle.sock_tcp.specs.Rfc.Checks.{checked, checked_in, is_forgotten, is_olde
 use Rattle.sock_tcp.specs.Rfc.Windows.{windowed}
 use Rattle.sock_tcp.specs.Timers.{after, challenge_interval}
 use Rattle.sock_tcp.specs.View.{View}
-use Rattle.sock_tcp.specs.Window.{has_window, next_ack, receive_window, starts_inside}
+use Rattle.sock_tcp.specs.Window.{has_window, next_ack, honored_window, starts_inside}
 use Rattle.sock_tcp.specs.declared.advance.Next.{Next}
 use Rattle.sock_tcp.specs.declared.advance.Next.TheVariants as next
 use Rattle.sock_tcp.specs.declared.state.State.{State}
@@ -25,17 +25,17 @@ use Rattle.tcp_laws.specs.Blind.{BlindSegmentsChangeNothing, IsBlind, LateReset,
 -- ---- what the checks say
 
 module _ (v : View) (now : Instant) (s : Segment) (P : Next → Type 0) (stop : P next.Stop) (challenge : P next.Challenge) where
-  by_number : (s.seq_number ≡ next_ack v → ⊥) → P (rst_checked (receive_window v) s.seq_number)
-  unfolding receive_window
+  by_number : (s.seq_number ≡ next_ack v → ⊥) → P (rst_checked (honored_window v) s.seq_number)
+  unfolding honored_window
   by_number n = go (seq_eq s.seq_number (next_ack v)) refl
     where
       in_or_out : (b : Bool) → P (if b then next.Challenge else next.Stop)
       in_or_out true = challenge
       in_or_out false = stop
 
-      go : (b : Bool) → seq_eq s.seq_number (next_ack v) ≡ b → P (if b then next.Continue else (if starts_inside (receive_window v) s.seq_number then next.Challenge else next.Stop))
+      go : (b : Bool) → seq_eq s.seq_number (next_ack v) ≡ b → P (if b then next.Continue else (if starts_inside (honored_window v) s.seq_number then next.Challenge else next.Stop))
       go true e = absurd (n (same_seq s.seq_number (next_ack v) (eqb-true s.seq_number.0 (next_ack v).0 e)))
-      go false e = in_or_out (starts_inside (receive_window v) s.seq_number)
+      go false e = in_or_out (starts_inside (honored_window v) s.seq_number)
 
   by_reset : (s.seq_number ≡ next_ack v → ⊥) → (st : State) → P (checked_in st control.Rst v now s)
   by_reset n state.TimeWait = stop

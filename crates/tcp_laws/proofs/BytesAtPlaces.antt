@@ -20,11 +20,12 @@ use Rattle.tcp_laws.specs.SocketBytes.{IsBrought, KeepsPlaces, begins, byte_of}
 use Rattle.tcp_laws.specs.SocketRun.{Counts, Dispatched, Run, Step, any_filling, any_taking, is_reset, listens_again, opens_listener, starting, starting_if, with_segment}
 use Rattle.tcp_laws.specs.SocketRun.{Listen, Connect, SendSlice, Send, WriteStr, RecvSlice, Recv, Close, Abort, Set, Process, Dispatch}
 use Rattle.sock_tcp.specs.View.{View, fresh}
-use Rattle.sock_tcp.specs.Window.{receive_window, is_inside, cut_of, cut_bytes}
+use Rattle.sock_tcp.specs.Window.{accepted_window, is_inside, cut_of, cut_bytes}
 use Rattle.sock_tcp.specs.declared.error.ConnectError.{ConnectError}
 use Rattle.sock_tcp.specs.declared.error.ListenError.{ListenError}
 use Rattle.sock_tcp.specs.declared.error.RecvError.{RecvError}
 use Rattle.sock_tcp.specs.declared.error.SendError.{SendError}
+use Rattle.sock_tcp.specs.declared.rules.Rules.{Rules}
 use Rattle.sock_tcp.specs.declared.state.State.TheVariants as state
 use Rattle.sock_tcp.specs.declared.tuple.Tuple.{Tuple}
 use Rattle.tcp_laws.proofs.DispatchFrames.{before_keeps, sends_keeps}
@@ -85,8 +86,8 @@ calm_keeps v w k j s b c = record {
 -- ---- a segment
 
 -- nothing of it, or what lies inside the window
-abbrev IsPartInside : View → Segment → ℕ → List ℕ → Type 0
-IsPartInside v s o bs = (bs ≡ []) ⊎ ((is_inside (receive_window v) s.seq_number (length s.payload) ≡ true) × (o ≡ (cut_of (receive_window v) s.seq_number (length s.payload)).offset) × (bs ≡ cut_bytes (cut_of (receive_window v) s.seq_number (length s.payload)) s.payload))
+abbrev IsPartInside : Rules → View → Segment → ℕ → List ℕ → Type 0
+IsPartInside r v s o bs = (bs ≡ []) ⊎ ((is_inside (accepted_window r v) s.seq_number (length s.payload) ≡ true) × (o ≡ (cut_of (accepted_window r v) s.seq_number (length s.payload)).offset) × (bs ≡ cut_bytes (cut_of (accepted_window r v) s.seq_number (length s.payload)) s.payload))
 
 takes_keeps : (v w : View) (k : Counts) (o : ℕ) (ys : List ℕ) (t : TakesIn v.rx_buffer w.rx_buffer o ys) (j : Counts) → j.joined ≡ k.joined ++ t.run → ((p : ℕ) → p < length k.joined → byte_of j w p ≡ byte_of k v p) × ((d : ℕ) → byte_of j w (length k.joined + d) ≡ merged v.rx_buffer.held o ys d)
 takes_keeps v w k o ys t j e = (first, later)
@@ -108,17 +109,17 @@ takes_keeps v w k o ys t j e = (first, later)
             let h : length t.run ≤ d = omega (arith, ltb-false d (length t.run) l) in
             ap (byte_of j w) {x = length k.joined + d} {y = length j.joined + (d - length t.run)} (omega (arith, long, h)) ∙ at_held j w (d - length t.run) ∙ t.held (d - length t.run) ∙ ap (merged v.rx_buffer.held o ys) {x = length t.run + (d - length t.run)} {y = d} (omega (arith, h))
 
-segment_keeps : (v w : View) (k j : Counts) (step : Step v k w j) (s : Segment) (m : MayTake v s w) → j ≡ with_segment k v w → ((o : ℕ) (bs : List ℕ) → IsPartInside v s o bs → IsBrought v k w j step o bs) → KeepsPlaces v k w j step
-segment_keeps v w k j step s (inl e) is b = calm_keeps v w k j step (b 0 [] (inl refl)) (calm_rx v w k j (ap (λ (c : Counts). c.joined) is ∙ nothing) e)
+segment_keeps : (r : Rules) (v w : View) (k j : Counts) (step : Step v k w j) (s : Segment) (m : MayTake r v s w) → j ≡ with_segment k v w → ((o : ℕ) (bs : List ℕ) → IsPartInside r v s o bs → IsBrought v k w j step o bs) → KeepsPlaces v k w j step
+segment_keeps r v w k j step s (inl e) is b = calm_keeps v w k j step (b 0 [] (inl refl)) (calm_rx v w k j (ap (λ (c : Counts). c.joined) is ∙ nothing) e)
   where
     nothing : k.joined ++ drop (length v.rx_buffer.bytes) w.rx_buffer.bytes ≡ k.joined
     nothing = ap (λ (x : Received). k.joined ++ drop (length v.rx_buffer.bytes) x.bytes) e ∙ ap (λ x. k.joined ++ x) (drop-length v.rx_buffer.bytes) ∙ append-nil k.joined
-segment_keeps v w k j step s (inr t) is b =
+segment_keeps r v w k j step s (inr t) is b =
     let run : k.joined ++ drop (length v.rx_buffer.bytes) w.rx_buffer.bytes ≡ k.joined ++ t.takes.run = ap (λ x. k.joined ++ drop (length v.rx_buffer.bytes) x) t.takes.queue ∙ ap (λ x. k.joined ++ x) (drop-append_seam v.rx_buffer.bytes t.takes.run) in
     let p = takes_keeps v w k _ _ t.takes j (ap (λ (c : Counts). c.joined) is ∙ run) in
     record {
-      offset = (cut_of (receive_window v) s.seq_number (length s.payload)).offset;
-      bytes = cut_bytes (cut_of (receive_window v) s.seq_number (length s.payload)) s.payload;
+      offset = (cut_of (accepted_window r v) s.seq_number (length s.payload)).offset;
+      bytes = cut_bytes (cut_of (accepted_window r v) s.seq_number (length s.payload)) s.payload;
       brought = b _ _ (inr (t.inside, refl, refl));
       joined = p.0;
       behind = p.1;
@@ -132,7 +133,7 @@ same_option None (Some y) h = absurd (h (λ e. absurd cc))
 same_option (Some x) None h = absurd (h (λ e. absurd cc))
 same_option (Some x) (Some y) h = ap Some (same_number x y (λ n. h (λ e. n cc)))
 
-listen_stays : (v w : View) (e : IpListenEndpoint) (r : Result (Unit {0}) ListenError) → Listens v e r w → opens_listener v e ≡ false → (w ≡ v → ⊥) → ⊥
+pub listen_stays : (v w : View) (e : IpListenEndpoint) (r : Result (Unit {0}) ListenError) → Listens v e r w → opens_listener v e ≡ false → (w ≡ v → ⊥) → ⊥
 listen_stays v w e r h stays n = port (e.port == 0) refl stays
   where
     waiting : (b : Bool) → is_listening v.state ≡ b → 0 < e.port → is_open v.state ≡ true → ⊥
@@ -149,20 +150,20 @@ listen_stays v w e r h stays n = port (e.port == 0) refl stays
     port true z y = n (h.no_port (eqb-true e.port 0 z)).1
     port false z y = opened (is_open v.state) refl (not_zero e.port z) y
 
-no_start : (b : Bool) (w : View) (k j : Counts) → b ≡ false → j ≡ starting_if b w k → j ≡ k
+pub no_start : (b : Bool) (w : View) (k j : Counts) → b ≡ false → j ≡ starting_if b w k → j ≡ k
 no_start true w k j e is = absurd cc
 no_start false w k j e is = is
 
-refused : (x : Result Tuple ConnectError) (v w : View) (word : ℕ) → is_ok x ≡ false → w ≡ after_connect x v word → w ≡ v
+pub refused : (x : Result Tuple ConnectError) (v w : View) (word : ℕ) → is_ok x ≡ false → w ≡ after_connect x v word → w ≡ v
 refused (Ok t) v w word e h = absurd cc
 refused (Err x) v w word e h = h
 
-queued_rx : (may : Bool) (v w : View) (n : ℕ) (bs : List ℕ) → w ≡ (if may then queued v n bs else v) → w.rx_buffer ≡ v.rx_buffer
+pub queued_rx : (may : Bool) (v w : View) (n : ℕ) (bs : List ℕ) → w ≡ (if may then queued v n bs else v) → w.rx_buffer ≡ v.rx_buffer
 unfolding queued
 queued_rx true v w n bs e = ap (λ (x : View). x.rx_buffer) e
 queued_rx false v w n bs e = ap (λ (x : View). x.rx_buffer) e
 
-closure_rx : (may : Bool) (v w : View) (r : Result (Unit {0}) SendError) → SendsWithIf may any_filling v r w → w.rx_buffer ≡ v.rx_buffer
+pub closure_rx : (may : Bool) (v w : View) (r : Result (Unit {0}) SendError) → SendsWithIf may any_filling v r w → w.rx_buffer ≡ v.rx_buffer
 closure_rx true v w (Ok x) h = queued_rx true v w h.size h.left h.view
 closure_rx true v w (Err e) h = absurd h
 closure_rx false v w (Ok x) h = absurd h
@@ -186,7 +187,7 @@ closure_held true v w (Err e) h d = absurd h
 closure_held false v w (Ok x) h d = absurd h
 closure_held false v w (Err e) h d = ap (λ (x : View). byte_at x.rx_buffer.held d) h.1
 
-dispatch_rx : (v w : View) (f : Facts) (out : Option Sending) → is_reset v f ≡ false → Dispatched f v out w → w.rx_buffer ≡ v.rx_buffer
+pub dispatch_rx : (v w : View) (f : Facts) (out : Option Sending) → is_reset v f ≡ false → Dispatched f v out w → w.rx_buffer ≡ v.rx_buffer
 dispatch_rx v w f out e h = (sends_keeps (peer_of (before_emit v f)) f (before_emit v f).view out w h).rx ∙ (before_keeps f v e).rx
 
 same_joined : (k j : Counts) → j ≡ k → j.joined ≡ k.joined
@@ -206,8 +207,8 @@ step_keeps_places v w k j c (Close h is) b = calm_keeps v w k j (Close h is) ref
 step_keeps_places v w k j c (Abort h is) b = calm_keeps v w k j (Abort h is) refl (calm_rx v w k j (same_joined k j is) (ap (λ (x : View). x.rx_buffer) h))
 step_keeps_places v w k j c (Set h is) b = calm_keeps v w k j (Set h is) refl (calm_rx v w k j (same_joined k j is) (setting_leaves (λ u. u.rx_buffer ≡ v.rx_buffer) v w (λ x. refl) (λ x. refl) (λ timeout delay nagle hops paused is_there rules estimator. refl) h))
 step_keeps_places v w k j c (Process r now word ip s small numbered short bare h is) b =
-    let m : MayTake v s w = subst (MayTake v s) (sym h) (only_appends r v now word ip s c.room numbered.seq_number short) in
-    segment_keeps v w k j (Process r now word ip s small numbered short bare h is) s m (no_start (listens_again v.state w.state) w (with_segment k v w) j b is) (λ o bs x. x)
+    let m : MayTake r v s w = subst (MayTake r v s) (sym h) (only_appends r v now word ip s c.room numbered.seq_number short) in
+    segment_keeps r v w k j (Process r now word ip s small numbered short bare h is) s m (no_start (listens_again v.state w.state) w (with_segment k v w) j b is) (λ o bs x. x)
 step_keeps_places v w k j c (Dispatch f out h is) b = calm_keeps v w k j (Dispatch f out h is) refl (calm_rx v w k j (same_joined k j (no_start (is_reset v f) w k j b is)) (dispatch_rx v w f out b h))
 
 pub places_stay : (rx tx : Ring ℕ) (v w : View) (k j : Counts) → length rx.queue + length rx.spare ≤ 2 ^ 30 → Run (fresh (receiving rx) (queue_of tx)) (starting (fresh (receiving rx) (queue_of tx))) v k → (s : Step v k w j) → begins v k w j s ≡ false → KeepsPlaces v k w j s

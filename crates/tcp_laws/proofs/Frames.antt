@@ -12,7 +12,7 @@ use Rattle.sock_tcp.specs.Arrival.{arrival}
 use Rattle.sock_tcp.specs.Rfc.Windows.{windowed}
 use Rattle.sock_tcp.specs.View.{View}
 use Rattle.sock_tcp.specs.Rfc.Checks.{verdict_by}
-use Rattle.sock_tcp.specs.Window.{receive_window, is_inside, cut_of, cut_bytes}
+use Rattle.sock_tcp.specs.Window.{accepted_window, is_inside, cut_of, cut_bytes}
 use Rattle.sock_tcp.specs.Acked.{acked_of}
 use Rattle.sock_tcp.specs.Advance.{Advance, advance_in, advanced, counted_control, fallen_back, fin_counted, opened_state, options_taken, syn_answered, syn_received}
 use Rattle.tcp_laws.specs.Laws.{IsPeered}
@@ -240,20 +240,20 @@ module _ (s : Segment) (now : Instant) where
 
 module _ (v : View) (now : Instant) (word : ℕ) (ip : IpRepr) (s : Segment) where
   -- the bytes that the window takes, and how far past RCV.NXT
-  abbrev pub offset_in : ℕ
-  offset_in = (cut_of (receive_window v) s.seq_number (length s.payload)).offset
+  abbrev pub offset_in : Rules → ℕ
+  offset_in r = (cut_of (accepted_window r v) s.seq_number (length s.payload)).offset
 
-  abbrev pub bytes_in : List ℕ
-  bytes_in = cut_bytes (cut_of (receive_window v) s.seq_number (length s.payload)) s.payload
+  abbrev pub bytes_in : Rules → List ℕ
+  bytes_in r = cut_bytes (cut_of (accepted_window r v) s.seq_number (length s.payload)) s.payload
 
   -- where the socket listens stays; its receive buffer stays, or the segment lies inside the window and brings its bytes
-  pub record Brings (w : View) : Type 0 where
+  pub record Brings (r : Rules) (w : View) : Type 0 where
     pub listen : w.listen_endpoint ≡ v.listen_endpoint
     pub rx : (w.rx_buffer ≡ v.rx_buffer)
-        ⊎ ((is_inside (receive_window v) s.seq_number (length s.payload) ≡ true) × (w.rx_buffer ≡ brought v.rx_buffer offset_in bytes_in))
+        ⊎ ((is_inside (accepted_window r v) s.seq_number (length s.payload) ≡ true) × (w.rx_buffer ≡ brought v.rx_buffer (offset_in r) (bytes_in r)))
 
-  kept : (w : View) → Keeps v w v.rx_buffer → Brings w
-  kept w k = record { listen = k.listen; rx = inl k.rx }
+  kept : (r : Rules) (w : View) → Keeps v w v.rx_buffer → Brings r w
+  kept r w k = record { listen = k.listen; rx = inl k.rx }
 
   abbrev numbered : View
   numbered = record v { local_rx_last_seq = Some s.seq_number }
@@ -284,43 +284,43 @@ module _ (v : View) (now : Instant) (word : ℕ) (ip : IpRepr) (s : Segment) whe
       alone w (inl e) = e
       alone w (inr e) = e
 
-  stays_brings : (w : View) → Stays w → Brings w
-  stays_brings w h = record { listen = h.0; rx = inl h.1 }
+  stays_brings : (r : Rules) (w : View) → Stays w → Brings r w
+  stays_brings r w h = record { listen = h.0; rx = inl h.1 }
 
-  refused_brings : (r : Rules) → Brings (refused r v (arrival now (tuple_of ip s) word s)).view
-  refused_brings r = refused_as (λ o. Brings o.view) r v (arrival now (tuple_of ip s) word s) (record {
-    answers = kept _ (outside_keeps s now v);
-    counts = λ e. stays_brings _ (none_brought control.Fin);
-    hears = λ e. stays_brings _ (none_brought control.None);
-    ends = λ e. stays_brings _ (none_brought control.None);
+  refused_brings : (r : Rules) → Brings r (refused r v (arrival now (tuple_of ip s) word s)).view
+  refused_brings r = refused_as (λ o. Brings r o.view) r v (arrival now (tuple_of ip s) word s) (record {
+    answers = kept r _ (outside_keeps s now v);
+    counts = λ e. stays_brings r _ (none_brought control.Fin);
+    hears = λ e. stays_brings r _ (none_brought control.None);
+    ends = λ e. stays_brings r _ (none_brought control.None);
     goes_on = λ e. let h = none_brought control.None in let k = outside_keeps s now (heard_alone v (arrival now (tuple_of ip s) word s)).view in record { listen = k.listen ∙ h.0; rx = inl (k.rx ∙ h.1) };
   })
 
-  tested_brings : (r : Rules) (b : Bool) → Brings (tested_by r b v (arrival now (tuple_of ip s) word s)).view
-  tested_brings r false = inside_brings v s.control 0 [] refl refl Brings (λ w l r. record { listen = l; rx = inl (alone w r) })
+  tested_brings : (r : Rules) (b : Bool) → Brings r (tested_by r b v (arrival now (tuple_of ip s) word s)).view
+  tested_brings r false = inside_brings v s.control 0 [] refl refl (Brings r) (λ w l k. record { listen = l; rx = inl (alone w k) })
     where
       alone : (w : View) → (w.rx_buffer ≡ v.rx_buffer) ⊎ (w.rx_buffer ≡ brought v.rx_buffer 0 []) → w.rx_buffer ≡ v.rx_buffer
       alone w (inl e) = e
       alone w (inr e) = e
-  tested_brings r true = go (is_inside (receive_window v) s.seq_number (length s.payload)) refl
+  tested_brings r true = go (is_inside (accepted_window r v) s.seq_number (length s.payload)) refl
     where
-      go : (b : Bool) → is_inside (receive_window v) s.seq_number (length s.payload) ≡ b → Brings (if b then cut_inside (receive_window v) (cut_of (receive_window v) s.seq_number (length s.payload)) v (arrival now (tuple_of ip s) word s) else refused r v (arrival now (tuple_of ip s) word s)).view
+      go : (b : Bool) → is_inside (accepted_window r v) s.seq_number (length s.payload) ≡ b → Brings r (if b then cut_inside (accepted_window r v) (cut_of (accepted_window r v) s.seq_number (length s.payload)) v (arrival now (tuple_of ip s) word s) else refused r v (arrival now (tuple_of ip s) word s)).view
       go false e = refused_brings r
-      go true e = inside_brings numbered (counted_control s.control (receive_window v) s.seq_number (length s.payload)) offset_in bytes_in refl refl Brings (λ w l r. record { listen = l; rx = there w r })
+      go true e = inside_brings numbered (counted_control s.control (accepted_window r v) s.seq_number (length s.payload)) (offset_in r) (bytes_in r) refl refl (Brings r) (λ w l k. record { listen = l; rx = there w k })
         where
-          there : (w : View) → (w.rx_buffer ≡ v.rx_buffer) ⊎ (w.rx_buffer ≡ brought v.rx_buffer offset_in bytes_in) → (w.rx_buffer ≡ v.rx_buffer) ⊎ ((is_inside (receive_window v) s.seq_number (length s.payload) ≡ true) × (w.rx_buffer ≡ brought v.rx_buffer offset_in bytes_in))
+          there : (w : View) → (w.rx_buffer ≡ v.rx_buffer) ⊎ (w.rx_buffer ≡ brought v.rx_buffer (offset_in r) (bytes_in r)) → (w.rx_buffer ≡ v.rx_buffer) ⊎ ((is_inside (accepted_window r v) s.seq_number (length s.payload) ≡ true) × (w.rx_buffer ≡ brought v.rx_buffer (offset_in r) (bytes_in r)))
           there w (inl h) = inl h
           there w (inr h) = inr (e, h)
 
-  recovered_brings : (w : View) → Brings w → Brings (recovered (before_of v s) w now)
+  recovered_brings : (r : Rules) (w : View) → Brings r w → Brings r (recovered (before_of v s) w now)
   unfolding recovered
-  recovered_brings w h = record { listen = h.listen; rx = h.rx }
+  recovered_brings r w h = record { listen = h.listen; rx = h.rx }
 
-  by_verdict_brings : (r : Rules) (x : Verdict) → Brings (by_verdict r x v (arrival now (tuple_of ip s) word s)).view
-  by_verdict_brings r verdicts.Drop = kept v (same v)
-  by_verdict_brings r verdicts.Reset = kept v (same v)
-  by_verdict_brings r verdicts.Challenge = kept _ (challenged_keeps s now v)
-  by_verdict_brings r verdicts.Pass = let h = tested_brings r (has_window v.state) in recovered_as (λ o. Brings o.view) r v now s _ h (recovered_brings _ h)
+  by_verdict_brings : (r : Rules) (x : Verdict) → Brings r (by_verdict r x v (arrival now (tuple_of ip s) word s)).view
+  by_verdict_brings r verdicts.Drop = kept r v (same v)
+  by_verdict_brings r verdicts.Reset = kept r v (same v)
+  by_verdict_brings r verdicts.Challenge = kept r _ (challenged_keeps s now v)
+  by_verdict_brings r verdicts.Pass = let h = tested_brings r (has_window v.state) in recovered_as (λ o. Brings r o.view) r v now s _ h (recovered_brings r _ h)
 
   -- ---- the peer
 
@@ -355,11 +355,11 @@ module _ (v : View) (now : Instant) (word : ℕ) (ip : IpRepr) (s : Segment) whe
 
   tested_peers : (r : Rules) (b : Bool) → Peered v → Peered (tested_by r b v (arrival now (tuple_of ip s) word s)).view
   tested_peers r false p = inside_peers v s.control 0 [] p
-  tested_peers r true p = go (is_inside (receive_window v) s.seq_number (length s.payload))
+  tested_peers r true p = go (is_inside (accepted_window r v) s.seq_number (length s.payload))
     where
-      go : (b : Bool) → Peered (if b then cut_inside (receive_window v) (cut_of (receive_window v) s.seq_number (length s.payload)) v (arrival now (tuple_of ip s) word s) else refused r v (arrival now (tuple_of ip s) word s)).view
+      go : (b : Bool) → Peered (if b then cut_inside (accepted_window r v) (cut_of (accepted_window r v) s.seq_number (length s.payload)) v (arrival now (tuple_of ip s) word s) else refused r v (arrival now (tuple_of ip s) word s)).view
       go false = refused_peers r p
-      go true = inside_peers numbered (counted_control s.control (receive_window v) s.seq_number (length s.payload)) offset_in bytes_in p
+      go true = inside_peers numbered (counted_control s.control (accepted_window r v) s.seq_number (length s.payload)) (offset_in r) (bytes_in r) p
 
   recovered_peers : (w : View) → Peered w → Peered (recovered (before_of v s) w now)
   unfolding recovered
@@ -388,11 +388,11 @@ module _ (v : View) (now : Instant) (word : ℕ) (ip : IpRepr) (s : Segment) whe
 
   tested_back : (r : Rules) (b : Bool) → GoesBack s (tested_by r b v (arrival now (tuple_of ip s) word s)).reply
   tested_back r false = inside_back v s.control 0 []
-  tested_back r true = go (is_inside (receive_window v) s.seq_number (length s.payload))
+  tested_back r true = go (is_inside (accepted_window r v) s.seq_number (length s.payload))
     where
-      go : (b : Bool) → GoesBack s (if b then cut_inside (receive_window v) (cut_of (receive_window v) s.seq_number (length s.payload)) v (arrival now (tuple_of ip s) word s) else refused r v (arrival now (tuple_of ip s) word s)).reply
+      go : (b : Bool) → GoesBack s (if b then cut_inside (accepted_window r v) (cut_of (accepted_window r v) s.seq_number (length s.payload)) v (arrival now (tuple_of ip s) word s) else refused r v (arrival now (tuple_of ip s) word s)).reply
       go false = refused_back r
-      go true = inside_back numbered (counted_control s.control (receive_window v) s.seq_number (length s.payload)) offset_in bytes_in
+      go true = inside_back numbered (counted_control s.control (accepted_window r v) s.seq_number (length s.payload)) (offset_in r) (bytes_in r)
 
   by_verdict_back : (r : Rules) (x : Verdict) → GoesBack s (by_verdict r x v (arrival now (tuple_of ip s) word s)).reply
   by_verdict_back r verdicts.Drop = tt
@@ -402,7 +402,7 @@ module _ (v : View) (now : Instant) (word : ℕ) (ip : IpRepr) (s : Segment) whe
 
 -- ---- the whole, of a segment with the window that it counts as telling
 
-pub process_brings : (v : View) (now : Instant) (word : ℕ) (ip : IpRepr) (s : Segment) (r : Rules) → Brings v now word ip s (processed_by r v now word ip s).view
+pub process_brings : (v : View) (now : Instant) (word : ℕ) (ip : IpRepr) (s : Segment) (r : Rules) → Brings v now word ip s r (processed_by r v now word ip s).view
 unfolding processed_by
 process_brings v now word ip s r = let h = by_verdict_brings v now word ip (windowed r v s) r (verdict_by r v now s) in record { listen = h.listen; rx = h.rx }
 

@@ -22,7 +22,7 @@ use Rattle.sock_tcp.specs.Replies.{ack_kept}
 use Rattle.sock_tcp.specs.Steps.{scale_of, window_of, window_taken, released, is_duplicate, is_last_ack, is_window_changed, duplicate_counted, ack_counted, una_advanced, acknowledged, timestamp_taken, timer_set, heard, joined, ack_delayed}
 use Rattle.sock_tcp.specs.Rfc.Checks.{verdict_by}
 use Rattle.sock_tcp.specs.View.{View}
-use Rattle.sock_tcp.specs.Window.{receive_window, is_inside, cut_of, cut_bytes}
+use Rattle.sock_tcp.specs.Window.{accepted_window, receive_window, is_inside, cut_of, cut_bytes}
 use Rattle.sock_tcp.specs.declared.acked.Acked.{Acked}
 use Rattle.sock_tcp.specs.declared.state.State.{State}
 use Rattle.sock_tcp.specs.declared.state.State.TheVariants as state
@@ -137,7 +137,7 @@ some_window control.Psh n scale h = scaled n (scale_of scale) h
 some_window control.Fin n scale h = scaled n (scale_of scale) h
 some_window control.Rst n scale h = scaled n (scale_of scale) h
 
-module _ (v : View) (now : Instant) (word : ℕ) (ip : IpRepr) (s : Segment) where
+module _ (r : Rules) (v : View) (now : Instant) (word : ℕ) (ip : IpRepr) (s : Segment) where
   abbrev u : View
   u = record v { local_rx_last_seq = Some s.seq_number }
 
@@ -145,18 +145,18 @@ module _ (v : View) (now : Instant) (word : ℕ) (ip : IpRepr) (s : Segment) whe
   a = acked_of v s.control s.ack_number
 
   abbrev c : TcpControl
-  c = counted_control s.control (receive_window v) s.seq_number (length s.payload)
+  c = counted_control s.control (accepted_window r v) s.seq_number (length s.payload)
 
   abbrev cut : Cut
-  cut = cut_of (receive_window v) s.seq_number (length s.payload)
+  cut = cut_of (accepted_window r v) s.seq_number (length s.payload)
 
   abbrev inside_as : State → TcpControl → Outcome
   inside_as st b = after_table (advance_in st b a.fin u (arrival now (tuple_of ip s) word s) a.len) (arrival now (tuple_of ip s) word s) a cut.offset (cut_bytes cut s.payload)
 
   -- behind the test of the window
-  in_window : (r : Rules) → has_window v.state ≡ true → is_inside (receive_window v) s.seq_number (length s.payload) ≡ true → by_verdict r verdicts.Pass v (arrival now (tuple_of ip s) word s) ≡ recovered_by r v now s (inside_as v.state c)
+  in_window : has_window v.state ≡ true → is_inside (accepted_window r v) s.seq_number (length s.payload) ≡ true → by_verdict r verdicts.Pass v (arrival now (tuple_of ip s) word s) ≡ recovered_by r v now s (inside_as v.state c)
   unfolding processed_inside advanced
-  in_window r has i = rw (has, i) refl
+  in_window has i = rw (has, i) refl
 
   -- ---- LAST-ACK
 
@@ -164,12 +164,6 @@ module _ (v : View) (now : Instant) (word : ℕ) (ip : IpRepr) (s : Segment) whe
   unfolding processed_inside advanced
   last_ack_by smoltcp is h true = subst (λ st. HeardNothing v (after_table (advance_in st c a.fin u (arrival now (tuple_of ip s) word s) a.len) (arrival now (tuple_of ip s) word s) a cut.offset (cut_bytes cut s.payload)).view) (sym is) (subst (λ z. HeardNothing v (after_table (advance_in state.LastAck c z u (arrival now (tuple_of ip s) word s) a.len) (arrival now (tuple_of ip s) word s) a cut.offset (cut_bytes cut s.payload)).view) (sym h.fin) (subst (λ n. HeardNothing v (after_table (advance_in state.LastAck c false u (arrival now (tuple_of ip s) word s) n) (arrival now (tuple_of ip s) word s) a cut.offset (cut_bytes cut s.payload)).view) (sym h.bytes) (row_unheard now s v is u smoltcp c (tuple_of ip s) word a cut.offset (cut_bytes cut s.payload) (record { last = refl; timeout = refl; window = refl; timer = refl; queue = refl; una = refl; nxt = refl }))))
   last_ack_by smoltcp is h false = outside_unheard now s v is
-
-  last_ack : v.rules ≡ rules.Smoltcp → v.state ≡ state.LastAck → AcksNothing v s → (x : Verdict) → HeardNothing v (by_verdict rules.Smoltcp x v (arrival now (tuple_of ip s) word s)).view
-  last_ack smoltcp is h verdicts.Drop = unheard v
-  last_ack smoltcp is h verdicts.Reset = unheard v
-  last_ack smoltcp is h verdicts.Challenge = challenged_unheard now s v
-  last_ack smoltcp is h verdicts.Pass = subst (λ st. HeardNothing v (tested_by rules.Smoltcp (has_window st) v (arrival now (tuple_of ip s) word s)).view) (sym is) (last_ack_by smoltcp is h (is_inside (receive_window v) s.seq_number (length s.payload)))
 
   -- ---- the states that hear a window
 
@@ -199,8 +193,8 @@ module _ (v : View) (now : Instant) (word : ℕ) (ip : IpRepr) (s : Segment) whe
   unfolding recovered
   recovered_tells o h = h
 
-  tells_inside : hears_window v.state ≡ true → is_inside (receive_window v) s.seq_number (length s.payload) ≡ true → c ≡ control.None → (r : Rules) → Tells (by_verdict r verdicts.Pass v (arrival now (tuple_of ip s) word s))
-  tells_inside hears inside no_bit r = let t : Tells (inside_as v.state c) = rw no_bit (row_tells v.state a.fin hears) in rw (in_window r (has v.state hears) inside) (recovered_as Tells r v now s (inside_as v.state c) t (recovered_tells (inside_as v.state c) t))
+  tells_inside : hears_window v.state ≡ true → is_inside (accepted_window r v) s.seq_number (length s.payload) ≡ true → c ≡ control.None → Tells (by_verdict r verdicts.Pass v (arrival now (tuple_of ip s) word s))
+  tells_inside hears inside no_bit = let t : Tells (inside_as v.state c) = rw no_bit (row_tells v.state a.fin hears) in rw (in_window (has v.state hears) inside) (recovered_as Tells r v now s (inside_as v.state c) t (recovered_tells (inside_as v.state c) t))
 
   abbrev Fast : Outcome → Type 0
   Fast x = x.view.timer ≡ timer.FastRetransmit
@@ -223,6 +217,12 @@ not_listening _ h e = absurd cc
 
 -- ---- the laws
 
+last_ack : (v : View) (now : Instant) (word : ℕ) (ip : IpRepr) (s : Segment) → v.rules ≡ rules.Smoltcp → v.state ≡ state.LastAck → AcksNothing v s → (x : Verdict) → HeardNothing v (by_verdict rules.Smoltcp x v (arrival now (tuple_of ip s) word s)).view
+last_ack v now word ip s smoltcp is h verdicts.Drop = unheard v
+last_ack v now word ip s smoltcp is h verdicts.Reset = unheard v
+last_ack v now word ip s smoltcp is h verdicts.Challenge = challenged_unheard now s v
+last_ack v now word ip s smoltcp is h verdicts.Pass = subst (λ st. HeardNothing v (tested_by rules.Smoltcp (has_window st) v (arrival now (tuple_of ip s) word s)).view) (sym is) (last_ack_by rules.Smoltcp v now word ip s smoltcp is h (is_inside (receive_window v) s.seq_number (length s.payload)))
+
 pub last_ack_hears_nothing : LastAckHearsNothing
 unfolding processed_by
 last_ack_hears_nothing v now word ip s smoltcp is h = subst (λ r. HeardNothing v (processed_by r v now word ip s).view) (sym smoltcp) (last_ack v now word ip s smoltcp is h (verdict_by rules.Smoltcp v now s))
@@ -233,7 +233,7 @@ unfolding processed_by
 passed_as r v now word ip s p = ap (λ x. by_verdict r x v (arrival now (tuple_of ip s) word (windowed r v s))) p
 
 tells : (v : View) (now : Instant) (word : ℕ) (ip : IpRepr) (s : Segment) → TellsWindow v now s → (processed v now word ip s).view.remote_win_len ≡ window_of s.control (told_by v.rules v s) v.remote_win_scale
-tells v now word ip s h = ap (λ (o : Outcome). o.view.remote_win_len) (passed_as v.rules v now word ip s h.passes) ∙ tells_inside v now word ip (windowed v.rules v s) h.hears h.inside h.no_bit v.rules
+tells v now word ip s h = ap (λ (o : Outcome). o.view.remote_win_len) (passed_as v.rules v now word ip s h.passes) ∙ tells_inside v.rules v now word ip (windowed v.rules v s) h.hears h.inside h.no_bit
 
 pub window_wakes : WindowWakes
 window_wakes v now word ip s t f r small numbered h z send =
@@ -302,13 +302,13 @@ unfolding acked_at
 third_duplicate_wakes v now word ip s k r numbered h d =
     let o : IsOrdered v = reached_ordered v r in
     let e : acked_of v s.control s.ack_number ≡ acked_of v s.control (Some k) = ap (acked_of v s.control) d.number in
-    let nr = not_rst s.control (receive_window v) s.seq_number (length s.payload) h.no_bit in
+    let nr = not_rst s.control (accepted_window v.rules v) s.seq_number (length s.payload) h.no_bit in
     let z : seq_sub k v.local_seq_no ≡ 0 = at_una v.state s.control k v.local_seq_no v.remote_last_seq (length v.tx_buffer.bytes) h.hears nr (ap (λ (x : Acked). x.fin) (sym e) ∙ d.nothing.fin) (ap (λ (x : Acked). x.len) (sym e) ∙ d.nothing.bytes) in
     let i : flight v ≤ length v.tx_buffer.bytes + 1 = near v.state v.timer v.keep_alive (flight v) (length v.tx_buffer.bytes) h.hears o.row in
     let b = (and_parts (is_before k v.remote_last_seq) _ (and_parts (is_last_ack v.local_rx_last_ack k) _ d.duplicate).1).0 in
     let n = not_all v.remote_last_seq k v.local_seq_no o.nxt_small (numbered.ack_number k d.number) o.una_small (omega (arith, i, o.room)) z b in
     let all : (acked_of v s.control s.ack_number).all ≡ false = ap (λ (x : Acked). x.all) e ∙ all_sent v.state s.control k v.local_seq_no v.remote_last_seq (length v.tx_buffer.bytes) n in
     let y : Segment = windowed v.rules v s in
-    let timer = heard_third now y (u v now word ip y) (a v now word ip y) k d.number all d.nothing.bytes d.two_before d.duplicate (not_zero _ (some_window s.control (told_by v.rules v s) v.remote_win_scale h.window)) in
-    let fast : Fast v now word ip y (inside_as v now word ip y v.state (c v now word ip y)) = rw (h.no_bit, d.nothing.fin) (row_fast v now word ip y v.state h.hears timer) in
-    rw (passed_as v.rules v now word ip s h.passes, in_window v now word ip y v.rules (has v now word ip y v.state h.hears) h.inside) (fast_resends v.rules v now y (inside_as v now word ip y v.state (c v now word ip y)) fast)
+    let timer = heard_third now y (u v.rules v now word ip y) (a v.rules v now word ip y) k d.number all d.nothing.bytes d.two_before d.duplicate (not_zero _ (some_window s.control (told_by v.rules v s) v.remote_win_scale h.window)) in
+    let fast : Fast v.rules v now word ip y (inside_as v.rules v now word ip y v.state (c v.rules v now word ip y)) = rw (h.no_bit, d.nothing.fin) (row_fast v.rules v now word ip y v.state h.hears timer) in
+    rw (passed_as v.rules v now word ip s h.passes, in_window v.rules v now word ip y (has v.rules v now word ip y v.state h.hears) h.inside) (fast_resends v.rules v now y (inside_as v.rules v now word ip y v.state (c v.rules v now word ip y)) fast)

@@ -37,3 +37,4 @@ pub mod LossFollows
 pub mod Pointed
 pub mod OwnWindows
 pub mod OlderWindows
+pub mod Honored

@@ -22,7 +22,7 @@ use Rattle.sock_tcp.specs.Rfc.Windows.{field_kept, is_newer, is_newer_by, told_b
 use Rattle.sock_tcp.specs.Scale.{scale_of}
 use Rattle.sock_tcp.specs.Steps.{ack_counted, ack_delayed, duplicate_counted, heard, joined, released, timer_set, timestamp_taken, una_advanced, window_of, window_taken}
 use Rattle.sock_tcp.specs.View.{View}
-use Rattle.sock_tcp.specs.Window.{cut_of, is_inside, receive_window}
+use Rattle.sock_tcp.specs.Window.{cut_of, is_inside, accepted_window}
 use Rattle.sock_tcp.specs.declared.acked.Acked.{Acked}
 use Rattle.sock_tcp.specs.declared.advance.Next.{Next}
 use Rattle.sock_tcp.specs.declared.advance.Next.TheVariants as next
@@ -158,11 +158,11 @@ module _ (v : View) (s : Segment) (is : v.rules ≡ rules.Rfc) (old : is_newer v
 
     tests : (r : Rules) (b : Bool) → Bounded (tested_by r b v come).view
     tests r false = inside v g.control 0 [] no_syn start
-    tests r true = go (is_inside (receive_window v) g.seq_number (length g.payload))
+    tests r true = go (is_inside (accepted_window r v) g.seq_number (length g.payload))
       where
-        go : (b : Bool) → Bounded (if b then cut_inside (receive_window v) (cut_of (receive_window v) g.seq_number (length g.payload)) v come else refused r v come).view
+        go : (b : Bool) → Bounded (if b then cut_inside (accepted_window r v) (cut_of (accepted_window r v) g.seq_number (length g.payload)) v come else refused r v come).view
         go false = refuses r
-        go true = inside (record v { local_rx_last_seq = Some g.seq_number }) (counted_control g.control (receive_window v) g.seq_number (length g.payload)) _ _ (counted_no_syn g.control (receive_window v) g.seq_number (length g.payload) no_syn) start
+        go true = inside (record v { local_rx_last_seq = Some g.seq_number }) (counted_control g.control (accepted_window r v) g.seq_number (length g.payload)) _ _ (counted_no_syn g.control (accepted_window r v) g.seq_number (length g.payload) no_syn) start
 
     passes : (r : Rules) (b : Bool) → Bounded (recovered_by r v now g (tested_by r b v come)).view
     unfolding recovered

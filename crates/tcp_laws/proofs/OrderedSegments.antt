@@ -22,7 +22,7 @@ use Rattle.sock_tcp.specs.Steps.{window_taken, released, is_duplicate, is_last_a
 use Rattle.sock_tcp.specs.Verdict.{fin_place, is_next, open_verdict, verdict_at, verdict_of}
 use Rattle.sock_tcp.specs.Rfc.Windows.{windowed}
 use Rattle.sock_tcp.specs.View.{View}
-use Rattle.sock_tcp.specs.Window.{receive_window, is_inside, cut_of}
+use Rattle.sock_tcp.specs.Window.{accepted_window, is_inside, cut_of}
 use Rattle.sock_tcp.specs.declared.acked.Acked.{Acked}
 use Rattle.sock_tcp.specs.declared.advance.Next.TheVariants as next
 use Rattle.sock_tcp.specs.declared.state.State.{State}
@@ -440,11 +440,11 @@ module _ (now : Instant) (word : ℕ) (ip : IpRepr) (s : Segment) (small : word 
 
   tested_ordered : (r : Rules) (v : View) → IsOrdered v → (v.state ≡ state.Listen → s.ack_number ≡ None) → verdict_of v s.control s.ack_number ≡ verdicts.Pass → (b : Bool) → IsOrdered (tested_by r b v (arrival now (tuple_of ip s) word s)).view
   tested_ordered r v h bare p false = inside_ordered v s.control 0 [] h bare (λ e. e) p
-  tested_ordered r v h bare p true = go (is_inside (receive_window v) s.seq_number (length s.payload))
+  tested_ordered r v h bare p true = go (is_inside (accepted_window r v) s.seq_number (length s.payload))
     where
-      go : (b : Bool) → IsOrdered (if b then cut_inside (receive_window v) (cut_of (receive_window v) s.seq_number (length s.payload)) v (arrival now (tuple_of ip s) word s) else refused r v (arrival now (tuple_of ip s) word s)).view
+      go : (b : Bool) → IsOrdered (if b then cut_inside (accepted_window r v) (cut_of (accepted_window r v) s.seq_number (length s.payload)) v (arrival now (tuple_of ip s) word s) else refused r v (arrival now (tuple_of ip s) word s)).view
       go false = refused_ordered r v h bare p
-      go true = inside_ordered (record v { local_rx_last_seq = Some s.seq_number }) (counted_control s.control (receive_window v) s.seq_number (length s.payload)) _ _ h bare (λ e. rst_counts _ e (receive_window v) s.seq_number (length s.payload)) p
+      go true = inside_ordered (record v { local_rx_last_seq = Some s.seq_number }) (counted_control s.control (accepted_window r v) s.seq_number (length s.payload)) _ _ h bare (λ e. rst_counts _ e (accepted_window r v) s.seq_number (length s.payload)) p
 
   -- ---- where it has recovered
 

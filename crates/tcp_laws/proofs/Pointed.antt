@@ -29,7 +29,7 @@ use Rattle.sock_tcp.specs.Rfc.Windows.{windowed}
 use Rattle.sock_tcp.specs.Sent.{after_any, after_probe, resent_by, snd_nxt_moved}
 use Rattle.sock_tcp.specs.Steps.{ack_counted, ack_delayed, duplicate_counted, heard, joined, released, timer_set, timestamp_taken, una_advanced, window_taken}
 use Rattle.sock_tcp.specs.View.{View, fresh}
-use Rattle.sock_tcp.specs.Window.{cut_of, is_inside, receive_window}
+use Rattle.sock_tcp.specs.Window.{cut_of, is_inside, accepted_window}
 use Rattle.sock_tcp.specs.declared.acked.Acked.{Acked}
 use Rattle.sock_tcp.specs.declared.advance.Next.{Next}
 use Rattle.sock_tcp.specs.declared.advance.Next.TheVariants as next
@@ -138,11 +138,11 @@ module _ (v : View) (now : Instant) (word : ℕ) (ip : IpRepr) (s : Segment) whe
 
   tested_stays : (b : Bool) → Stays (tested_by rules.Smoltcp b v come).view
   tested_stays false = inside_stays v s.control 0 [] refl
-  tested_stays true = go (is_inside (receive_window v) s.seq_number (length s.payload))
+  tested_stays true = go (is_inside (accepted_window rules.Smoltcp v) s.seq_number (length s.payload))
     where
-      go : (b : Bool) → Stays (if b then cut_inside (receive_window v) (cut_of (receive_window v) s.seq_number (length s.payload)) v come else outside v now s).view
+      go : (b : Bool) → Stays (if b then cut_inside (accepted_window rules.Smoltcp v) (cut_of (accepted_window rules.Smoltcp v) s.seq_number (length s.payload)) v come else outside v now s).view
       go false = outside_kept Stays now s answers restarts v refl
-      go true = inside_stays (record v { local_rx_last_seq = Some s.seq_number }) (counted_control s.control (receive_window v) s.seq_number (length s.payload)) _ _ refl
+      go true = inside_stays (record v { local_rx_last_seq = Some s.seq_number }) (counted_control s.control (accepted_window rules.Smoltcp v) s.seq_number (length s.payload)) _ _ refl
 
 -- ---- and by the RFCs'
 

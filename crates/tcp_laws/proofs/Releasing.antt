@@ -12,7 +12,7 @@ use Rattle.sock_tcp.specs.Queue.{Queue}
 use Rattle.sock_tcp.specs.Rfc.Windows.{windowed}
 use Rattle.sock_tcp.specs.View.{View}
 use Rattle.sock_tcp.specs.Rfc.Checks.{verdict_by}
-use Rattle.sock_tcp.specs.Window.{receive_window, is_inside, cut_of, cut_bytes}
+use Rattle.sock_tcp.specs.Window.{accepted_window, is_inside, cut_of, cut_bytes}
 use Rattle.sock_tcp.specs.Acked.{acked_of}
 use Rattle.sock_tcp.specs.Advance.{advance_in, advanced, counted_control, fallen_back, fin_counted, options_taken, syn_answered, syn_received}
 use Rattle.sock_tcp.specs.Replies.{ack_kept}
@@ -135,11 +135,11 @@ module _ (v : View) (now : Instant) (word : ℕ) (ip : IpRepr) (s : Segment) whe
 
     tested_releases : (r : Rules) (b : Bool) → Releases v (tested_by r b v (arrival now (tuple_of ip s) word s)).view
     tested_releases r false = inside_releases v s.control 0 []
-    tested_releases r true = go (is_inside (receive_window v) s.seq_number (length s.payload))
+    tested_releases r true = go (is_inside (accepted_window r v) s.seq_number (length s.payload))
       where
-        go : (b : Bool) → Releases v (if b then cut_inside (receive_window v) (cut_of (receive_window v) s.seq_number (length s.payload)) v (arrival now (tuple_of ip s) word s) else refused r v (arrival now (tuple_of ip s) word s)).view
+        go : (b : Bool) → Releases v (if b then cut_inside (accepted_window r v) (cut_of (accepted_window r v) s.seq_number (length s.payload)) v (arrival now (tuple_of ip s) word s) else refused r v (arrival now (tuple_of ip s) word s)).view
         go false = refused_releases r
-        go true = let r = inside_releases (record v { local_rx_last_seq = Some s.seq_number }) (counted_control s.control (receive_window v) s.seq_number (length s.payload)) (cut_of (receive_window v) s.seq_number (length s.payload)).offset (cut_bytes (cut_of (receive_window v) s.seq_number (length s.payload)) s.payload) in record { count = r.count; tx = r.tx; una = r.una }
+        go true = let r = inside_releases (record v { local_rx_last_seq = Some s.seq_number }) (counted_control s.control (accepted_window r v) s.seq_number (length s.payload)) (cut_of (accepted_window r v) s.seq_number (length s.payload)).offset (cut_bytes (cut_of (accepted_window r v) s.seq_number (length s.payload)) s.payload) in record { count = r.count; tx = r.tx; una = r.una }
 
     recovered_releases : (w : View) → Releases v w → Releases v (recovered (before_of v s) w now)
     unfolding recovered

@@ -19,7 +19,7 @@ use Rattle.tcp_laws.specs.SocketRun.{Counts, Step, Process, Connect, IsNumbered,
 use Rattle.sock_tcp.specs.Verdict.{verdict_of}
 use Rattle.sock_tcp.specs.Rfc.Windows.{windowed}
 use Rattle.sock_tcp.specs.View.{View}
-use Rattle.sock_tcp.specs.Window.{receive_window, is_inside, cut_of}
+use Rattle.sock_tcp.specs.Window.{accepted_window, is_inside, cut_of}
 use Rattle.sock_tcp.specs.declared.error.ConnectError.{ConnectError}
 use Rattle.sock_tcp.specs.declared.state.State.{State}
 use Rattle.sock_tcp.specs.declared.state.State.TheVariants as state
@@ -83,11 +83,11 @@ module _ (now : Instant) (m n : ℕ) (ip : IpRepr) (s : Segment) where
 
   tested_alike : (r : Rules) (v : View) (b : Bool) → has_window v.state ≡ b → draws verdicts.Pass v.state s.control ≡ false → tested_by r b v (arrival now (tuple_of ip s) m s) ≡ tested_by r b v (arrival now (tuple_of ip s) n s)
   tested_alike r v false w e = inside_alike v s.control 0 [] e
-  tested_alike r v true w e = go (is_inside (receive_window v) s.seq_number (length s.payload))
+  tested_alike r v true w e = go (is_inside (accepted_window r v) s.seq_number (length s.payload))
     where
-      go : (b : Bool) → (if b then cut_inside (receive_window v) (cut_of (receive_window v) s.seq_number (length s.payload)) v (arrival now (tuple_of ip s) m s) else refused r v (arrival now (tuple_of ip s) m s)) ≡ (if b then cut_inside (receive_window v) (cut_of (receive_window v) s.seq_number (length s.payload)) v (arrival now (tuple_of ip s) n s) else refused r v (arrival now (tuple_of ip s) n s))
+      go : (b : Bool) → (if b then cut_inside (accepted_window r v) (cut_of (accepted_window r v) s.seq_number (length s.payload)) v (arrival now (tuple_of ip s) m s) else refused r v (arrival now (tuple_of ip s) m s)) ≡ (if b then cut_inside (accepted_window r v) (cut_of (accepted_window r v) s.seq_number (length s.payload)) v (arrival now (tuple_of ip s) n s) else refused r v (arrival now (tuple_of ip s) n s))
       go false = refused_alike r v w
-      go true = inside_alike (record v { local_rx_last_seq = Some s.seq_number }) (counted_control s.control (receive_window v) s.seq_number (length s.payload)) _ _ (windowed_draws v.state _ w)
+      go true = inside_alike (record v { local_rx_last_seq = Some s.seq_number }) (counted_control s.control (accepted_window r v) s.seq_number (length s.payload)) _ _ (windowed_draws v.state _ w)
 
   verdict_alike : (r : Rules) (v : View) (x : Verdict) → draws x v.state s.control ≡ false → by_verdict r x v (arrival now (tuple_of ip s) m s) ≡ by_verdict r x v (arrival now (tuple_of ip s) n s)
   verdict_alike r v verdicts.Drop e = refl

@@ -249,8 +249,8 @@ left_of xs zero = ap (λ i. drop i xs) {x = length xs - length xs} {y = 0} (omeg
 left_of [] (suc n) = refl
 left_of (x ∷ xs) (suc n) = ap (λ i. drop i (x ∷ xs)) {x = length (x ∷ xs) - length (drop n xs)} {y = suc (length xs - length (drop n xs))} (omega (arith, length-drop n xs)) ∙ left_of xs n
 
-segment_kept : (v w : View) (k : Counts) (s : Segment) → Holds v k → Releases v w → MayTake v s w → Holds w (with_segment k v w)
-segment_kept v w k s c r m = by m
+segment_kept : (x : Rules) (v w : View) (k : Counts) (s : Segment) → Holds v k → Releases v w → MayTake x v s w → Holds w (with_segment k v w)
+segment_kept x v w k s c r m = by m
   where
     gone : ℕ
     gone = length v.tx_buffer.bytes - length w.tx_buffer.bytes
@@ -264,7 +264,7 @@ segment_kept v w k s c r m = by m
     joins : (run : List ℕ) → w.rx_buffer.bytes ≡ v.rx_buffer.bytes ++ run → k.joined ++ drop (length v.rx_buffer.bytes) w.rx_buffer.bytes ≡ k.handed ++ w.rx_buffer.bytes
     joins run e = ap (λ x. k.joined ++ drop (length v.rx_buffer.bytes) x) e ∙ ap (λ x. k.joined ++ x) (drop-append_seam v.rx_buffer.bytes run) ∙ ap (λ x. x ++ run) c.receive_queue ∙ append_assoc k.handed v.rx_buffer.bytes run ∙ ap (λ x. k.handed ++ x) (sym e)
 
-    by : MayTake v s w → Holds w (with_segment k v w)
+    by : MayTake x v s w → Holds w (with_segment k v w)
     by (inl e) = record {
       una_small = r.una c.una_small;
       room = subst (λ b. room_of b ≤ 2 ^ 30) (sym e) c.room;
@@ -289,8 +289,8 @@ again_or_not false w k c = c
 process_kept : (x : Rules) (v w : View) (k : Counts) (now : Instant) (word : ℕ) (ip : IpRepr) (s : Segment) → Holds v k → word < 2 ^ 32 → IsNumbered s → length s.payload ≤ 65535 → w ≡ (processed_by x v now word ip s).view → Holds w (starting_if (listens_again v.state w.state) w (with_segment k v w))
 process_kept x v w k now word ip s c small numbered short e =
     let r : Releases v w = subst (Releases v) (sym e) (process_releases v now word ip s small numbered.ack_number x) in
-    let m : MayTake v s w = subst (MayTake v s) (sym e) (only_appends x v now word ip s c.room numbered.seq_number short) in
-    again_or_not (listens_again v.state w.state) w (with_segment k v w) (segment_kept v w k s c r m)
+    let m : MayTake x v s w = subst (MayTake x v s) (sym e) (only_appends x v now word ip s c.room numbered.seq_number short) in
+    again_or_not (listens_again v.state w.state) w (with_segment k v w) (segment_kept x v w k s c r m)
 
 -- ---- dispatch
 

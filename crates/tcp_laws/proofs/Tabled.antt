@@ -23,7 +23,7 @@ use Rattle.sock_tcp.specs.Steps.{ack_counted, ack_delayed, ack_heard, begins_pro
 use Rattle.sock_tcp.specs.Timers.{idle_from, probe_from, retransmit_from}
 use Rattle.sock_tcp.proofs.Recovering.{known_as}
 use Rattle.sock_tcp.specs.View.{View}
-use Rattle.sock_tcp.specs.Window.{cut_of, is_inside, receive_window}
+use Rattle.sock_tcp.specs.Window.{cut_of, is_inside, accepted_window}
 use Rattle.sock_tcp.specs.declared.acked.Acked.{Acked}
 use Rattle.sock_tcp.specs.declared.advance.Next.{Next}
 use Rattle.sock_tcp.specs.declared.advance.Next.TheVariants as next
@@ -326,11 +326,11 @@ module _ (v : View) (now : Instant) (word : ℕ) (ip : IpRepr) (s : Segment) (aw
 
   tested_left : (b : Bool) → Left (tested_by rules.Rfc b v come).view
   tested_left false = inside_left v left_v s.control 0 []
-  tested_left true = go (is_inside (receive_window v) s.seq_number (length s.payload))
+  tested_left true = go (is_inside (accepted_window rules.Rfc v) s.seq_number (length s.payload))
     where
-      go : (b : Bool) → Left (if b then cut_inside (receive_window v) (cut_of (receive_window v) s.seq_number (length s.payload)) v come else refused rules.Rfc v come).view
+      go : (b : Bool) → Left (if b then cut_inside (accepted_window rules.Rfc v) (cut_of (accepted_window rules.Rfc v) s.seq_number (length s.payload)) v come else refused rules.Rfc v come).view
       go false = refused_left
-      go true = inside_left (record v { local_rx_last_seq = Some s.seq_number }) left_v (counted_control s.control (receive_window v) s.seq_number (length s.payload)) _ _
+      go true = inside_left (record v { local_rx_last_seq = Some s.seq_number }) left_v (counted_control s.control (accepted_window rules.Rfc v) s.seq_number (length s.payload)) _ _
 
   chosen : (w : View) (b : Bool) → b ≡ true → Rests (waited_for (before_of v s) w now) (flight w) w.remote_win_len (length w.tx_buffer.bytes) → Rests (if b then waited_for (before_of v s) w now else w.timer) (flight w) w.remote_win_len (length w.tx_buffer.bytes)
   chosen w true e h = h

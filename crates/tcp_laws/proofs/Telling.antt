@@ -29,7 +29,7 @@ use Rattle.sock_tcp.specs.Rfc.Windows.{windowed}
 use Rattle.sock_tcp.specs.Steps.{ack_delayed, heard, joined}
 use Rattle.sock_tcp.specs.Timers.{after, challenge_interval}
 use Rattle.sock_tcp.specs.View.{View, moment_of}
-use Rattle.sock_tcp.specs.Window.{cut_of, is_inside, next_ack, receive_window}
+use Rattle.sock_tcp.specs.Window.{cut_of, is_inside, next_ack, accepted_window}
 use Rattle.sock_tcp.specs.declared.acked.Acked.{Acked}
 use Rattle.sock_tcp.specs.declared.advance.Next.{Next}
 use Rattle.sock_tcp.specs.declared.advance.Next.TheVariants as next
@@ -200,11 +200,11 @@ module _ (now : Instant) (word : ℕ) (ip : IpRepr) (s : Segment) where
 
   tested_says : (r : Rules) (v : View) (b : Bool) → Says (tested_by r b v come)
   tested_says r v false = inside_says v s.control 0 []
-  tested_says r v true = go (is_inside (receive_window v) s.seq_number (length s.payload))
+  tested_says r v true = go (is_inside (accepted_window r v) s.seq_number (length s.payload))
     where
-      go : (b : Bool) → Says (if b then cut_inside (receive_window v) (cut_of (receive_window v) s.seq_number (length s.payload)) v come else refused r v come)
+      go : (b : Bool) → Says (if b then cut_inside (accepted_window r v) (cut_of (accepted_window r v) s.seq_number (length s.payload)) v come else refused r v come)
       go false = refused_says r v
-      go true = inside_says (record v { local_rx_last_seq = Some s.seq_number }) (counted_control s.control (receive_window v) s.seq_number (length s.payload)) _ _
+      go true = inside_says (record v { local_rx_last_seq = Some s.seq_number }) (counted_control s.control (accepted_window r v) s.seq_number (length s.payload)) _ _
 
   -- what is done of loss changes neither what is held nor what is answered
   recovered_says : (v : View) (o : Outcome) → Says o → Says (record { view = recovered (before_of v s) o.view now; reply = o.reply })

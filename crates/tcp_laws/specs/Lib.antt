@@ -11,3 +11,4 @@ pub mod Speaking
 pub mod Loss
 pub mod Telling
 pub mod Windows
+pub mod Honored

@@ -6,7 +6,7 @@ use Rattle.sock_tcp.specs.Opening.{endpoints}
 use Rattle.tcp_laws.specs.SocketRun.{Counts, Step, Listen, Connect, Process, Dispatch}
 use Rattle.tcp_laws.specs.SocketRun.{is_reset, listens_again, opens_listener}
 use Rattle.sock_tcp.specs.View.{View}
-use Rattle.sock_tcp.specs.Window.{receive_window, is_inside, cut_of, cut_bytes}
+use Rattle.sock_tcp.specs.Window.{accepted_window, is_inside, cut_of, cut_bytes}
 
 -- What a socket has at a place of the peer's stream, counted from the first byte that joined: a byte that joined, one
 -- that is held behind a gap, or none
@@ -26,9 +26,9 @@ begins v k w j _ = false
 -- nothing; any other call nothing
 abbrev pub IsBrought : (v : View) (k : Counts) (w : View) (j : Counts) → Step v k w j → ℕ → List ℕ → Type 0
 IsBrought v k w j (Process r now word ip s small numbered short bare h is) o bs =
-    (bs ≡ []) ⊎ ((is_inside (receive_window v) s.seq_number (length s.payload) ≡ true)
-    × (o ≡ (cut_of (receive_window v) s.seq_number (length s.payload)).offset)
-    × (bs ≡ cut_bytes (cut_of (receive_window v) s.seq_number (length s.payload)) s.payload))
+    (bs ≡ []) ⊎ ((is_inside (accepted_window r v) s.seq_number (length s.payload) ≡ true)
+    × (o ≡ (cut_of (accepted_window r v) s.seq_number (length s.payload)).offset)
+    × (bs ≡ cut_bytes (cut_of (accepted_window r v) s.seq_number (length s.payload)) s.payload))
 IsBrought v k w j _ o bs = bs ≡ []
 
 -- Each byte that joined stays at its place, and so does each that is held, but where bytes come that replace it

@@ -257,7 +257,7 @@ SendsParts v k = (f : Facts) (out : Sending) (w : View)
 abbrev pub OnlyAppends : View → Type 0
 OnlyAppends v = (now : Instant) (word : ℕ) (ip : IpRepr) (s : Segment)
     → IsNumbered s → length s.payload ≤ 65535
-    → MayTake v s (processed v now word ip s).view
+    → MayTake v.rules v s (processed v now word ip s).view
 
 -- what holds between any two calls
 pub record Promised (v : View) (k : Counts) : Type 0 where

@@ -15,7 +15,7 @@ use Rattle.sock_tcp.specs.Steps.{is_duplicate, is_window_changed}
 use Rattle.sock_tcp.specs.Rfc.Checks.{verdict_by}
 use Rattle.sock_tcp.specs.Rfc.Windows.{told_by}
 use Rattle.sock_tcp.specs.View.{View}
-use Rattle.sock_tcp.specs.Window.{receive_window, is_inside}
+use Rattle.sock_tcp.specs.Window.{accepted_window, is_inside}
 use Rattle.sock_tcp.specs.declared.state.State.TheVariants as state
 use Rattle.sock_tcp.specs.declared.state.State.{State}
 use Rattle.sock_tcp.specs.declared.rules.Rules.{Rules}
@@ -76,8 +76,8 @@ hears_window _ = false
 pub record TellsWindow (v : View) (now : Instant) (s : Segment) : Type 0 where
   pub hears : hears_window v.state ≡ true
   pub passes : verdict_by v.rules v now s ≡ verdicts.Pass
-  pub inside : is_inside (receive_window v) s.seq_number (length s.payload) ≡ true
-  pub no_bit : counted_control s.control (receive_window v) s.seq_number (length s.payload) ≡ control.None
+  pub inside : is_inside (accepted_window v.rules v) s.seq_number (length s.payload) ≡ true
+  pub no_bit : counted_control s.control (accepted_window v.rules v) s.seq_number (length s.payload) ≡ control.None
   pub window : 0 < told_by v.rules v s
 
 -- bytes wait, or a FIN does

@@ -36,7 +36,7 @@ use sock_tcp::{ConnectError, ListenError, RecvError, Reply, SendError, Socket, T
 pub fn process_only_appends()
     ensures { (v : View) (now : Instant) (word : ℕ) (ip : IpRepr) (s : Segment)
         → room_of v.rx_buffer ≤ 2 ^ 30 → s.seq_number.0 < 2 ^ 32 → length s.payload ≤ 65535
-        → MayTake v s (processed v now word ip s).view }
+        → MayTake v.rules v s (processed v now word ip s).view }
 {}
 
 /// The promise of one socket. After any list of calls on a new socket over any two buffers, with any segments that

@@ -1,4 +1,5 @@
 //! Laws on the windows that a socket tells and hears, and on the numbers that it sends, by the RFCs' rules.
+ghost use Rattle.tcp_laws.specs.Honored.{ToldWindowsAreHonored};
 ghost use Rattle.tcp_laws.specs.Windows.{NoWindowByBytes, NumberIsNotBehind, OlderWindowIsNotTaken};
 ghost use Rattle.tcp_laws.specs.Windows.{OpenedWindowIsTold, RightEdgeStays};
 
@@ -7,6 +8,14 @@ ghost use Rattle.tcp_laws.specs.Windows.{OpenedWindowIsTold, RightEdgeStays};
 /// of at most 2^30 bytes, with any segments that `accepts` lets in.
 pub fn right_edge_stays()
     ensures { RightEdgeStays }
+{}
+
+/// Whatever window was told once is honored (RFC 7323, section 2.4): after any such list, and any further calls on the
+/// same connection, the right edge that was told before them, if by a keep-alive, does not lie behind that of the window
+/// in which a segment is taken, and each number from RCV.NXT on, and before that edge, lies inside: also where the right
+/// edge that is told has gone back since.
+pub fn told_windows_are_honored()
+    ensures { ToldWindowsAreHonored }
 {}
 
 /// It moves on by less than such a unit, and no segment goes out to tell it, while less is free behind it than half of

@@ -14,7 +14,7 @@ use Rattle.sock_core.specs.Seq.{is_before}
 use Rattle.sock_tcp.specs.Timers.{after, is_over}
 use Rattle.sock_tcp.specs.Verdict.{verdict_of}
 use Rattle.sock_tcp.specs.View.{View}
-use Rattle.sock_tcp.specs.Window.{has_window, receive_window, starts_inside}
+use Rattle.sock_tcp.specs.Window.{has_window, honored_window, starts_inside}
 use Rattle.sock_tcp.specs.declared.advance.Next.{Next}
 use Rattle.sock_tcp.specs.declared.advance.Next.TheVariants as next
 use Rattle.sock_tcp.specs.declared.rules.Rules.{Rules}
@@ -60,7 +60,7 @@ stamp_checked v now (Some t) =
 -- one is acknowledged (RFC 5961, section 4.2)
 abbrev pub checked_in : State → TcpControl → View → Instant → Segment → Next
 checked_in state.TimeWait control.Rst v now s = next.Stop
-checked_in _ control.Rst v now s = rst_checked (receive_window v) s.seq_number
+checked_in _ control.Rst v now s = rst_checked (honored_window v) s.seq_number
 checked_in state.SynReceived control.Syn v now s = stamp_checked v now s.timestamp
 checked_in _ control.Syn v now s = next.Challenge
 checked_in _ _ v now s = stamp_checked v now s.timestamp

@@ -27,7 +27,7 @@ use Rattle.sock_tcp.specs.Rfc.TailLoss.{is_alone, may_probe, tail_waits}
 use Rattle.sock_tcp.specs.Steps.{is_duplicate}
 use Rattle.sock_tcp.specs.Timers.{idle_from, probe_from, retransmit_from}
 use Rattle.sock_tcp.specs.View.{View}
-use Rattle.sock_tcp.specs.Window.{is_inside, receive_window}
+use Rattle.sock_tcp.specs.Window.{honored_window, is_inside}
 use Rattle.sock_tcp.specs.declared.recovery.Before.{Before}
 use Rattle.sock_tcp.specs.declared.recovery.Recovery.{Recovery}
 use Rattle.sock_tcp.specs.declared.recovery.Recovery.TheVariants as recovery
@@ -63,9 +63,9 @@ highest_of (recovery.Timeout point) nxt = later_of nxt point
 abbrev pub sent_of : View → ℕ
 sent_of v = seq_sub (highest_of v.recovery v.remote_last_seq) v.local_seq_no
 
--- the peer said that it tells, and the segment lies in the receive window
+-- the peer said that it tells, and the segment lies in the window in which it is taken
 abbrev pub may_tell : View → Segment → Bool
-may_tell v s = v.remote_has_sack && is_inside (receive_window v) s.seq_number (length s.payload)
+may_tell v s = v.remote_has_sack && is_inside (honored_window v) s.seq_number (length s.payload)
 
 -- the segment has a block with something new
 unfoldable pub is_telling : View → Segment → Bool

@@ -11,7 +11,7 @@ use Rattle.sock_core.specs.Seq.{is_not_after}
 use Rattle.sock_tcp.specs.Arrival.{Arrival}
 use Rattle.sock_tcp.specs.Inside.{Outcome, acked_by, outside, processed_inside, stopped}
 use Rattle.sock_tcp.specs.View.{View}
-use Rattle.sock_tcp.specs.Window.{receive_window}
+use Rattle.sock_tcp.specs.Window.{honored_window}
 use Rattle.sock_tcp.specs.declared.acked.Acked.{Acked}
 use Rattle.sock_tcp.specs.declared.rules.Rules.{Rules}
 use Rattle.sock_tcp.specs.declared.rules.Rules.TheVariants as rules
@@ -50,7 +50,7 @@ is_near w room number news =
 
 abbrev pub is_heard_outside : View → Segment → Acked → Bool
 is_heard_outside v s k =
-    is_plain_control s.control && is_near (receive_window v) (room_of v.rx_buffer) s.seq_number (acks_something k)
+    is_plain_control s.control && is_near (honored_window v) (room_of v.rx_buffer) s.seq_number (acks_something k)
 
 -- ---- what is done
 
@@ -73,7 +73,7 @@ then_answered o a = answered_if_not o.reply o a
 -- its FIN is taken; or its acknowledgement and its window are heard; or it is answered alone
 unfoldable pub rfc_refused : View → Arrival → Outcome
 rfc_refused v a =
-    if is_next_fin a.segment.control (receive_window v) a.segment.seq_number (length a.segment.payload)
+    if is_next_fin a.segment.control (honored_window v) a.segment.seq_number (length a.segment.payload)
     then processed_inside v a control.Fin 0 []
     else (if is_heard_outside v a.segment (acked_by v a)
     then then_answered (processed_inside v a control.None 0 []) a
