@@ -4,7 +4,7 @@ ghost use Rattle.std.specs.Prelude.{◌≡◌};
 use sock_tcp::TsvalSource;
 
 /// A clock that stands still. No socket is given one.
-#[derive(Debug, Clone, Copy)]
+#[derive(Clone, Copy)]
 pub struct Clock;
 
 impl TsvalSource for Clock {

@@ -20,7 +20,7 @@ const PACKETS: usize = 16_384;
 const LOOKS: usize = 32;
 
 /// What came of the packets that arrived.
-#[derive(Debug, Clone, Copy, Default)]
+#[derive(Clone, Copy)]
 pub struct Counts {
     /// Packets that arrived.
     pub arrived: u64,

@@ -3,11 +3,12 @@
 use crate::clock::Clock;
 use crate::request::Request;
 use smoltcp_socket::tcp;
+use smoltcp_socket::wire::IpEndpoint;
 use std::alloc::{AllocError, Global};
-use std::fmt::Write;
+use std::fmt::{Display, Write};
 
 /// How many bytes a connection has brought and taken, its answer included.
-#[derive(Debug, Clone, Copy, PartialEq, Eq)]
+#[derive(Clone, Copy)]
 pub struct Traffic {
     /// Bytes that came.
     pub received: u64,
@@ -36,29 +37,45 @@ pub fn answer(
 
 fn head(alloc: Global, status: &str, kind: &str, length: u64) -> Result<String, AllocError> {
     let mut out = String::new(alloc);
+    match put_head(&mut out, status, kind, length) {
+        Ok(()) => Ok(out),
+        Err(error) => Err(error),
+    }
+}
+
+// What owns a text has no way out but its end, so the texts are written behind a `&mut`: that is cheaper to prove.
+fn put_head(out: &mut String, status: &str, kind: &str, length: u64) -> Result<(), AllocError> {
+    let allow = if status.starts_with("405") {
+        "Allow: GET\r\n"
+    } else {
+        ""
+    };
     write!(
         out,
-        "HTTP/1.1 {status}\r\nServer: live_host\r\nConnection: close\r\n"
+        "HTTP/1.1 {status}\r\nServer: live_host\r\nConnection: close\r\n{allow}"
     )?;
-    if status.starts_with("405") {
-        write!(out, "Allow: GET\r\n")?;
-    }
     write!(
         out,
         "Content-Type: {kind}\r\nContent-Length: {length}\r\n\r\n"
-    )?;
-    Ok(out)
+    )
 }
 
 fn text(alloc: Global, status: &str, content: &str) -> Result<String, AllocError> {
-    let mut out = head(
-        alloc,
+    let mut out = String::new(alloc);
+    match put_text(&mut out, status, content) {
+        Ok(()) => Ok(out),
+        Err(error) => Err(error),
+    }
+}
+
+fn put_text(out: &mut String, status: &str, content: &str) -> Result<(), AllocError> {
+    put_head(
+        out,
         status,
         "text/plain; charset=utf-8",
         content.len() as u64,
     )?;
-    write!(out, "{content}")?;
-    Ok(out)
+    out.push_str(content)
 }
 
 // What the socket knows of the connection that the page goes out on.
@@ -68,34 +85,71 @@ fn page(
     traffic: Traffic,
 ) -> Result<String, AllocError> {
     let mut out = String::new(alloc);
-    writeln!(
-        out,
-        "The proved TCP sockets of smoltcp, on a stream of packets.\n"
-    )?;
-    if let (Some(local), Some(remote)) = (socket.local_endpoint(), socket.remote_endpoint()) {
-        writeln!(
-            out,
-            "from               {local}\nto                 {remote}"
-        )?;
+    match put_page(&mut out, socket, traffic) {
+        Ok(()) => Ok(out),
+        Err(error) => Err(error),
     }
-    writeln!(out, "state              {}", socket.state())?;
-    writeln!(out, "your window        {} bytes", socket.remote_window())?;
+}
+
+fn put_page(
+    out: &mut String,
+    socket: &tcp::Socket<'_, Clock>,
+    traffic: Traffic,
+) -> Result<(), AllocError> {
+    out.push_str("The proved TCP sockets of smoltcp, on a stream of packets.\n\n")?;
+    if let (Some(local), Some(remote)) = (socket.local_endpoint(), socket.remote_endpoint()) {
+        put_ends(out, local, remote)?;
+    }
+    put_row(out, "state              ", socket.state().name(), "\n")?;
+    put_rows(out, &rows(socket, traffic))
+}
+
+fn put_ends(out: &mut String, local: IpEndpoint, remote: IpEndpoint) -> Result<(), AllocError> {
     writeln!(
         out,
-        "congestion window  {} bytes",
-        socket.congestion_window()
-    )?;
-    writeln!(
-        out,
-        "round trip         {} ms",
-        socket.smoothed_round_trip()
-    )?;
-    writeln!(
-        out,
-        "sent again after   {} ms",
-        socket.retransmission_timeout().total_millis()
-    )?;
-    writeln!(out, "bytes in           {}", traffic.received)?;
-    writeln!(out, "bytes out          {} before this page", traffic.sent)?;
-    Ok(out)
+        "from               {local}\nto                 {remote}"
+    )
+}
+
+// A name, a number, and its unit.
+type Row = (&'static str, u64, &'static str);
+
+fn rows(socket: &tcp::Socket<'_, Clock>, traffic: Traffic) -> [Row; 6] {
+    let timeout = socket.retransmission_timeout().total_millis();
+    [
+        (
+            "your window        ",
+            socket.remote_window() as u64,
+            " bytes\n",
+        ),
+        (
+            "congestion window  ",
+            socket.congestion_window() as u64,
+            " bytes\n",
+        ),
+        (
+            "round trip         ",
+            u64::from(socket.smoothed_round_trip()),
+            " ms\n",
+        ),
+        ("sent again after   ", timeout, " ms\n"),
+        ("bytes in           ", traffic.received, "\n"),
+        ("bytes out          ", traffic.sent, " before this page\n"),
+    ]
+}
+
+fn put_rows(out: &mut String, rows: &[Row]) -> Result<(), AllocError> {
+    for (name, number, unit) in rows {
+        put_row(out, name, *number, unit)?;
+    }
+    Ok(())
+}
+
+fn put_row<D: Display + Drop>(
+    out: &mut String,
+    name: &str,
+    value: D,
+    unit: &str,
+) -> Result<(), AllocError> {
+    write!(out, "{name}{value}{unit}")
 }

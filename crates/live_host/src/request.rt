@@ -10,7 +10,7 @@ pub const LONGEST_HEAD: usize = 2048;
 const FIELDS: usize = 32;
 
 /// What a client asks for.
-#[derive(Debug, Clone, Copy, PartialEq, Eq)]
+#[derive(Clone, Copy, PartialEq, Eq)]
 pub enum Request {
     /// The head has not all come yet.
     Unfinished,

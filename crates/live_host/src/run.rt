@@ -51,7 +51,7 @@ const ECHO: IpListenEndpoint = IpListenEndpoint {
 };
 
 /// The host's address, the key of its random words, the rules of its sockets, and how many they are.
-#[derive(Debug, Clone, Copy)]
+#[derive(Clone, Copy)]
 pub struct Setup {
     /// The IPv4 address; the IPv6 address ends in it.
     pub addr: Ipv4Address,
@@ -84,11 +84,16 @@ pub fn run<R: Read, W: Write>(
         PacketBuffer::new(&mut tx_places, &mut tx),
     );
     let _ = udp.bind(ECHO);
-    let host = match host(alloc, setup, bytes.as_mut_slice(), size, udp) {
-        Ok(host) => host,
-        Err(_) => return Err(Fault::Memory),
-    };
-    exchange(host, input, output)
+    match host(alloc, setup, bytes.as_mut_slice(), size, udp) {
+        Ok(host) => {
+            let mut host = host;
+            match exchange(&mut host, input, output) {
+                Ok(()) => Ok(host.counts()),
+                Err(fault) => Err(fault),
+            }
+        }
+        Err(_) => Err(Fault::Memory),
+    }
 }
 
 fn buffer_size(sockets: usize, rules: Rules) -> usize
@@ -101,7 +106,7 @@ fn buffer_size(sockets: usize, rules: Rules) -> usize
     if sockets <= FEW { BUFFER } else { SMALL_BUFFER }
 }
 
-// Makes the TCP sockets, each over two pieces of the bytes, and the host.
+// Makes the sockets and the host.
 fn host<'a>(
     alloc: Global,
     setup: Setup,
@@ -111,30 +116,57 @@ fn host<'a>(
 ) -> Result<LiveHost<'a>, AllocError>
     requires { 0 < size }
 {
-    let mut sockets = SocketSet::new(alloc, setup.sockets.saturating_add(1))?;
+    let addresses = addresses(alloc, setup.addr)?;
+    let outbox = Outbox::new(alloc)?;
     let mut slots = Vec::new(alloc);
+    let mut sockets = SocketSet::new(alloc, setup.sockets.saturating_add(1))?;
+    match add_sockets(alloc, &mut sockets, &mut slots, setup, bytes, size, udp) {
+        Ok(udp) => {
+            let interface = interface(addresses, setup);
+            let kept_from = kept_from(setup.sockets, setup.rules);
+            Ok(Host::new(alloc, interface, sockets, slots, udp, kept_from, outbox))
+        }
+        Err(error) => Err(error),
+    }
+}
+
+fn interface(addresses: Vec<IpCidr>, setup: Setup) -> Interface<Secret> {
+    let mut interface = Interface::new(addresses, secret(setup.seed));
+    interface.set_guards(GuardSettings {
+        handshake: Some(HANDSHAKE),
+        ..GuardSettings::new()
+    });
+    if setup.rules == Rules::Rfc {
+        let kept_from = kept_from(setup.sockets, setup.rules);
+        interface.set_syn_cookies(Some(SynCookies::new(cookie_key(setup.seed), kept_from)));
+    }
+    interface
+}
+
+// Makes the TCP sockets, each over two pieces of the bytes, and the UDP socket behind them, whose handle it answers.
+fn add_sockets<'a>(
+    alloc: Global,
+    sockets: &mut SocketSet<'a, Clock>,
+    slots: &mut Vec<Slot>,
+    setup: Setup,
+    bytes: &'a mut [u8],
+    size: usize,
+    udp: udp::Socket<'a>,
+) -> Result<SocketHandle, AllocError>
+    requires { 0 < size }
+{
     let mut buffers = bytes.chunks_exact_mut(size);
     for _ in 0..setup.sockets {
         let (Some(rx), Some(tx)) = (buffers.next(), buffers.next()) else {
             break;
         };
-        let handle = add_tcp(&mut sockets, rx, tx, setup.rules)?;
+        let handle = add_tcp(sockets, rx, tx, setup.rules)?;
         slots.push(Slot::new(alloc, handle))?;
     }
-    let Ok(udp) = sockets.add(Socket::Udp(udp)) else {
-        return Err(AllocError);
-    };
-    let mut interface = Interface::new(addresses(alloc, setup.addr)?, secret(setup.seed));
-    interface.set_guards(GuardSettings {
-        handshake: Some(HANDSHAKE),
-        ..GuardSettings::new()
-    });
-    let kept_from = kept_from(setup.sockets, setup.rules);
-    if setup.rules == Rules::Rfc {
-        interface.set_syn_cookies(Some(SynCookies::new(cookie_key(setup.seed), kept_from)));
+    match sockets.add(Socket::Udp(udp)) {
+        Ok(handle) => Ok(handle),
+        Err(_) => Err(AllocError),
     }
-    let outbox = Outbox::new(alloc)?;
-    Ok(Host::new(alloc, interface, sockets, slots, udp, kept_from, outbox))
 }
 
 fn add_tcp<'a>(
@@ -202,31 +234,45 @@ fn kept_from(sockets: usize, rules: Rules) -> usize {
 
 // Each record is answered before the next is read.
 fn exchange<R: Read, W: Write>(
-    mut host: LiveHost<'_>,
+    host: &mut LiveHost<'_>,
     input: &mut R,
     output: &mut W,
-) -> Result<Counts, Fault> {
+) -> Result<(), Fault> {
     let mut header = [0u8; HEADER];
     if fill(input, &mut header)? < HEADER {
         return Err(Fault::Pcap(PcapError::Cut));
     }
-    let format = Format::of_header(&header).map_err(Fault::Pcap)?;
+    let format = match Format::of_header(&header) {
+        Ok(format) => format,
+        Err(error) => return Err(Fault::Pcap(error)),
+    };
     put(output, &stream_header())?;
     let mut packet = [0u8; LONGEST];
     for _ in 0..u64::MAX {
-        let Some(record) = next(input, format)? else {
-            break;
-        };
-        let len = record.len.min(LONGEST);
-        if fill(input, &mut packet[..len])? < len {
-            return Err(Fault::Pcap(PcapError::Cut));
+        match next(input, format)? {
+            Some(record) => take(host, record, &mut packet, input, output)?,
+            None => break,
         }
-        if host.receive(record.micros, &packet[..len]).is_err() {
-            return Err(Fault::Memory);
-        }
-        put(output, host.records())?;
     }
-    Ok(host.counts())
+    Ok(())
+}
+
+// Reads the packet of a record, and writes what answers it.
+fn take<R: Read, W: Write>(
+    host: &mut LiveHost<'_>,
+    record: Record,
+    packet: &mut [u8; LONGEST],
+    input: &mut R,
+    output: &mut W,
+) -> Result<(), Fault> {
+    let len = record.len.min(LONGEST);
+    if fill(input, &mut packet[..len])? < len {
+        return Err(Fault::Pcap(PcapError::Cut));
+    }
+    if host.receive(record.micros, &packet[..len]).is_err() {
+        return Err(Fault::Memory);
+    }
+    put(output, host.records())
 }
 
 // The next record's header; none where the stream ends before it.
@@ -234,7 +280,10 @@ fn next<R: Read>(input: &mut R, format: Format) -> Result<Option<Record>, Fault>
     let mut header = [0u8; RECORD];
     match fill(input, &mut header)? {
         0 => Ok(None),
-        RECORD => format.record(&header).map(Some).map_err(Fault::Pcap),
+        RECORD => match format.record(&header) {
+            Ok(record) => Ok(Some(record)),
+            Err(error) => Err(Fault::Pcap(error)),
+        },
         _ => Err(Fault::Pcap(PcapError::Cut)),
     }
 }

@@ -3,7 +3,7 @@
 use smoltcp_socket::wire::IpListenEndpoint;
 
 /// What a connection to the host is for.
-#[derive(Debug, Clone, Copy, PartialEq, Eq)]
+#[derive(Clone, Copy, PartialEq, Eq)]
 pub enum Service {
     /// Sends back what comes (RFC 862).
     Echo,

@@ -1,8 +1,9 @@
 //! Arrows, one for each way of a segment.
 
+use crate::drawing::{Drawing, Part};
 use crate::page::lifeline;
 use sock_pair::Side;
-use std::fmt;
+use std::io::Write;
 
 /// How a segment's way ended.
 #[derive(Clone, Copy)]
@@ -33,6 +34,22 @@ pub struct Arrow {
 }
 
 impl Arrow {
+    /// Draws it.
+    pub fn put<W: Write>(&self, out: &mut Drawing<'_, W>) {
+        let (tip_x, tip_y) = self.tip();
+        out.put(
+            "<path class=\"%%\" d=\"M% % % %\"/>\n",
+            &[
+                Part::Text(self.class()),
+                Part::Text(self.further_classes()),
+                Part::Place(lifeline(self.from)),
+                Part::Place(self.departure),
+                Part::Place(tip_x),
+                Part::Place(tip_y),
+            ],
+        );
+    }
+
     // Where the arrow ends. One that is refused stops before the lifeline.
     fn tip(&self) -> (usize, usize) {
         let line = lifeline(self.from);
@@ -71,17 +88,5 @@ fn toward(from: usize, to: usize, distance: usize) -> usize {
         from.saturating_add(distance)
     } else {
         from.saturating_sub(distance)
-    }
-}
-
-impl fmt::Display for Arrow {
-    fn fmt<W: fmt::Write>(&self, f: &mut fmt::Formatter<W>) -> fmt::Result {
-        let (class, further) = (self.class(), self.further_classes());
-        let (x, y) = (lifeline(self.from), self.departure);
-        let (tip_x, tip_y) = self.tip();
-        write!(
-            f,
-            "<path class=\"{class}{further}\" d=\"M{x} {y} {tip_x} {tip_y}\"/>"
-        )
     }
 }

@@ -1,8 +1,7 @@
 //! The texts of calls.
 
-use crate::text::Quoted;
+use crate::drawing::Part;
 use sock_pair::{Event, Outcome, Setting};
-use std::fmt;
 
 /// A call of a side, and what it came to: `send "abc": accepted 3`.
 #[derive(Clone, Copy)]
@@ -11,39 +10,35 @@ pub struct Call<'a> {
     pub outcome: &'a Outcome,
 }
 
-impl fmt::Display for Call<'_> {
-    fn fmt<W: fmt::Write>(&self, f: &mut fmt::Formatter<W>) -> fmt::Result {
+impl Call<'_> {
+    /// The form of a call: a name, with a number or bytes behind it, or both, and the same of what it came to.
+    pub const FORM: &'static str = "%%%: %%%";
+
+    /// The parts of the form.
+    pub fn parts(&self) -> [Part<'_>; 6] {
         let (event, outcome) = (self.event, self.outcome);
-        write_words(
-            f,
-            event_name(event),
-            event_number(event),
-            event_bytes(event),
-        )?;
-        f.write_str(": ")?;
-        write_words(
-            f,
-            outcome_name(outcome),
-            outcome_number(outcome),
-            outcome_bytes(outcome),
-        )
+        [
+            Part::Text(event_name(event)),
+            number(event_number(event)),
+            bytes(event_bytes(event)),
+            Part::Text(outcome_name(outcome)),
+            number(outcome_number(outcome)),
+            bytes(outcome_bytes(outcome)),
+        ]
     }
 }
 
-// A name, with a number or bytes behind it, or both.
-fn write_words<W: fmt::Write>(
-    f: &mut fmt::Formatter<W>,
-    name: &str,
-    number: Option<usize>,
-    bytes: Option<&[u8]>,
-) -> fmt::Result {
-    f.write_str(name)?;
-    if let Some(number) = number {
-        write!(f, " {number}")?;
+fn number(number: Option<usize>) -> Part<'static> {
+    match number {
+        Some(number) => Part::Named(" ", number as u64),
+        None => Part::Nothing,
     }
+}
+
+fn bytes(bytes: Option<&[u8]>) -> Part<'_> {
     match bytes {
-        Some(bytes) => write!(f, " {}", Quoted(bytes)),
-        None => Ok(()),
+        Some(bytes) => Part::Quoted(bytes),
+        None => Part::Nothing,
     }
 }
 

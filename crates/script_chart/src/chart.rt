@@ -6,6 +6,7 @@
 
 use crate::arrow::{Arrow, Ending};
 use crate::call::Call;
+use crate::drawing::{Drawing, Part};
 use crate::history::Step;
 use crate::label::{Label, Name};
 use crate::marks::{Mark, Marker};
@@ -18,14 +19,12 @@ use sock_pair::script::End;
 use sock_pair::{Event, Outcome, Segment, Side};
 use sock_tcp::State;
 use std::alloc::Global;
-use std::fmt::Display;
 use std::io::Write;
-use std::{fmt, io};
 
 /// A chart on its way to a writer.
 #[derive(Drop)]
 struct Chart<'w, 's, W> {
-    out: &'w mut W,
+    out: Drawing<'w, W>,
     // The segments, and how their numbers are shown.
     segments: &'s [Segment],
     numbers: Numbers,
@@ -41,16 +40,6 @@ struct Chart<'w, 's, W> {
     marker: Marker,
     // The moment of the last step that had one.
     millis: Option<u64>,
-}
-
-// How many steps in a row were the same.
-#[derive(Clone, Copy)]
-struct Times(usize);
-
-impl Display for Times {
-    fn fmt<W: fmt::Write>(&self, f: &mut fmt::Formatter<W>) -> fmt::Result {
-        write!(f, "{} times", self.0)
-    }
 }
 
 // How a segment set out.
@@ -84,7 +73,7 @@ pub fn draw<W: Write>(
         return End::Memory;
     };
     let mut chart = Chart {
-        out,
+        out: Drawing::new(out),
         segments,
         numbers,
         row: Row::FIRST,
@@ -96,99 +85,119 @@ pub fn draw<W: Write>(
         marker: Marker::new(),
         millis: None,
     };
-    match chart.draw(steps) {
-        Ok(()) => End::Done,
-        Err(_) => End::Write,
+    chart.draw(steps);
+    if chart.out.is_whole() {
+        End::Done
+    } else {
+        End::Write
     }
 }
 
 // How many rows steps have.
 fn count_rows(steps: &[Step<'_>]) -> usize {
-    let mut rows = steps.len();
-    for (before, step) in steps.iter().zip(steps.iter().skip(1)) {
-        if step.repeats(before) {
-            rows = rows.saturating_sub(1);
+    let mut rows = 0usize;
+    let mut before = None;
+    for step in steps {
+        if !repeats(step, before) {
+            rows = rows.saturating_add(1);
         }
+        before = Some(step);
     }
     rows
 }
 
+// Whether a step says the same as the one before it.
+fn repeats(step: &Step<'_>, before: Option<&Step<'_>>) -> bool {
+    match before {
+        Some(before) => step.repeats(before),
+        None => false,
+    }
+}
+
 impl<W: Write> Chart<'_, '_, W> {
-    fn draw(&mut self, steps: &[Step<'_>]) -> io::Result<()> {
-        self.begin(height(count_rows(steps)))?;
-        self.steps(steps)?;
-        self.end()
+    // What stands above and behind the rows comes first, and what stands over the arrows last.
+    fn draw(&mut self, steps: &[Step<'_>]) {
+        self.begin(height(count_rows(steps)));
+        self.steps(steps);
+        self.lost();
+        self.names();
+        self.labels();
+        self.out.text("</svg>\n");
     }
 
-    // What stands above and behind the rows.
-    fn begin(&mut self, height: usize) -> io::Result<()> {
-        self.open(height)?;
-        self.ground()?;
-        self.head(Side::A, height)?;
-        self.head(Side::B, height)
-    }
-
-    // What stands over the arrows.
-    fn end(&mut self) -> io::Result<()> {
-        self.lost()?;
-        self.names()?;
-        self.labels()?;
-        self.out.write_all(b"</svg>\n")
+    fn begin(&mut self, height: usize) {
+        self.open(height);
+        self.ground();
+        self.head(Side::A, height);
+        self.head(Side::B, height);
     }
 
     // The root element, and the style sheet.
-    fn open(&mut self, height: usize) -> io::Result<()> {
-        writeln!(
-            self.out,
-            "<svg xmlns=\"http://www.w3.org/2000/svg\" width=\"{WIDTH}\" height=\"{height}\" \
-            viewBox=\"0 0 {WIDTH} {height}\">"
-        )?;
-        self.out.write_all(STYLE.as_bytes())
+    fn open(&mut self, height: usize) {
+        let (width, height) = (Part::Place(WIDTH), Part::Place(height));
+        self.out.put(
+            "<svg xmlns=\"http://www.w3.org/2000/svg\" width=\"%\" height=\"%\" viewBox=\"0 0 % %\">\n",
+            &[width, height, width, height],
+        );
+        self.out.text(STYLE);
     }
 
     // The page, with a thin line above each row, and the legend.
-    fn ground(&mut self) -> io::Result<()> {
-        writeln!(
-            self.out,
-            "<pattern id=\"rows\" patternUnits=\"userSpaceOnUse\" y=\"{HEAD}\" width=\"{WIDTH}\" height=\"{ROW}\">\
-            <path class=\"row\" d=\"M0 0H{WIDTH}\"/></pattern>\n\
-            <rect class=\"page\" width=\"100%\" height=\"100%\"/>\n\
-            <rect fill=\"url(#rows)\" y=\"{HEAD}\" width=\"100%\" height=\"100%\"/>\n\
-            <text class=\"time\" x=\"{LINE}\" text-anchor=\"end\" y=\"94\">line</text>\n\
-            <text class=\"time\" x=\"{TIME}\" text-anchor=\"end\" y=\"94\">ms</text>"
-        )?;
-        self.out.write_all(LEGEND.as_bytes())
+    fn ground(&mut self) {
+        let (head, width, row) = (Part::Place(HEAD), Part::Place(WIDTH), Part::Place(ROW));
+        self.out.put(
+            "<pattern id=\"rows\" patternUnits=\"userSpaceOnUse\" y=\"%\" width=\"%\" height=\"%\">\
+            <path class=\"row\" d=\"M0 0H%\"/></pattern>\n",
+            &[head, width, row, width],
+        );
+        self.out
+            .text("<rect class=\"page\" width=\"100%\" height=\"100%\"/>\n");
+        self.out.put("<rect fill=\"url(#rows)\" y=\"%\"", &[head]);
+        self.out.text(" width=\"100%\" height=\"100%\"/>\n");
+        self.column(LINE, "line");
+        self.column(TIME, "ms");
+        self.out.text(LEGEND);
+    }
+
+    // The name of a column at the left.
+    fn column(&mut self, x: usize, name: &str) {
+        self.number(x, 94, Part::Text(name));
     }
 
     // The lifeline of a side, and above it the side's name and first state.
-    fn head(&mut self, side: Side, height: usize) -> io::Result<()> {
-        let (x, anchor, name) = (lifeline(side), Anchor::outside(side), name(side));
-        writeln!(
-            self.out,
-            "<text class=\"name\" x=\"{x}\" y=\"72\">{name}</text>\n\
-            <path class=\"lifeline\" d=\"M{x} 82V{height}\"/>\n\
-            <text class=\"state\" {anchor} y=\"94\">CLOSED</text>"
-        )
+    fn head(&mut self, side: Side, height: usize) {
+        let x = Part::Place(lifeline(side));
+        self.out.put(
+            "<text class=\"name\" x=\"%\" y=\"72\">%</text>\n\
+            <path class=\"lifeline\" d=\"M% 82V%\"/>\n\
+            <text class=\"state\" % y=\"94\">CLOSED</text>\n",
+            &[
+                x,
+                Part::Text(name(side)),
+                x,
+                Part::Place(height),
+                Part::At(Anchor::outside(side)),
+            ],
+        );
     }
 
     // Draws each step, and those that say the same in one row.
-    fn steps(&mut self, steps: &[Step<'_>]) -> io::Result<()> {
+    fn steps(&mut self, steps: &[Step<'_>]) {
         let mut count = 0usize;
         for (index, step) in steps.iter().enumerate() {
             if count == 0 {
-                self.step(step)?;
+                self.step(step);
             }
             count = count.saturating_add(1);
             if is_repeated(step, steps.get(index.saturating_add(1))) {
                 continue;
             }
             if count > 1 {
-                self.repeated(step, count)?;
+                self.repeated(step, count);
             }
             count = 0;
             self.next_row();
         }
-        Ok(())
     }
 
     // The row of the next step. Between two screens is one for the names.
@@ -202,69 +211,72 @@ impl<W: Write> Chart<'_, '_, W> {
     }
 
     // How many steps this row stands for, with the line and the moment of the last.
-    fn repeated(&mut self, last: &Step<'_>, count: usize) -> io::Result<()> {
+    fn repeated(&mut self, last: &Step<'_>, count: usize) {
         let y = self.row.second_line();
-        self.time(y, last)?;
-        match last.event {
-            Event::Dispatch { side, .. } => { self.beside(*side, "quiet", Times(count)) }
-            _ => Ok(()),
+        self.time(y, last);
+        if let Event::Dispatch { side, .. } = last.event {
+            self.beside(*side, "quiet", "% times", &[Part::Place(count)]);
         }
     }
 
     // Where time went on by much more than a row tells: a break in both lifelines, with its length.
-    fn gap(&mut self, millis: u64) -> io::Result<()> {
+    fn gap(&mut self, millis: u64) {
         let gap = millis.saturating_sub(self.millis.unwrap_or(millis));
         if gap < GAP {
-            return Ok(());
+            return;
         }
         let y = self.row.edge();
-        self.interrupt(lifeline(Side::A), y)?;
-        self.interrupt(lifeline(Side::B), y)?;
-        let base = y.saturating_add(4);
-        writeln!(
-            self.out,
-            "<text class=\"time\" x=\"{NEITHER}\" y=\"{base}\">+{gap} ms</text>"
-        )
+        self.interrupt(lifeline(Side::A), y);
+        self.interrupt(lifeline(Side::B), y);
+        self.out.put(
+            "<text class=\"time\" x=\"%\" y=\"%\">+% ms</text>\n",
+            &[
+                Part::Place(NEITHER),
+                Part::Place(y.saturating_add(4)),
+                Part::Number(gap),
+            ],
+        );
     }
 
     // A break in a lifeline at this height.
-    fn interrupt(&mut self, x: usize, y: usize) -> io::Result<()> {
-        let (left, right) = (x.saturating_sub(6), x.saturating_add(6));
+    fn interrupt(&mut self, x: usize, y: usize) {
+        let left = Part::Place(x.saturating_sub(6));
+        let right = Part::Place(x.saturating_add(6));
         let (low, high) = (y.saturating_add(5), y.saturating_sub(1));
-        let base = y.saturating_add(4);
-        writeln!(
-            self.out,
-            "<path class=\"gap\" d=\"M{left} {y} {right} {high}M{left} {low} {right} {base}\"/>"
-        )
+        self.out.put(
+            "<path class=\"gap\" d=\"M% % % %M% % % %\"/>\n",
+            &[
+                left,
+                Part::Place(y),
+                right,
+                Part::Place(high),
+                left,
+                Part::Place(low),
+                right,
+                Part::Place(y.saturating_add(4)),
+            ],
+        );
     }
 
     // Draws a step, and the state of each side where it is another one now.
-    fn step(&mut self, step: &Step<'_>) -> io::Result<()> {
+    fn step(&mut self, step: &Step<'_>) {
         if let Some(millis) = step.millis() {
-            self.gap(millis)?;
+            self.gap(millis);
         }
-        let y = self.time_line(step);
-        self.time(y, step)?;
-        self.call(step)?;
-        self.states(step)
+        self.time(self.time_line(step), step);
+        self.call(step);
+        self.state(Side::A, step.a);
+        self.state(Side::B, step.b);
+        self.mark_emitted(step.reply());
     }
 
     // The number of a step's line and its moment.
-    fn time(&mut self, y: usize, step: &Step<'_>) -> io::Result<()> {
-        self.number(LINE, y, step.line)?;
-        match step.millis() {
-            None => Ok(()),
-            Some(millis) => {
-                self.millis = Some(millis);
-                self.number(TIME, y, millis)
-            }
+    fn time(&mut self, y: usize, step: &Step<'_>) {
+        self.number(LINE, y, Part::Place(step.line));
+        if let Some(millis) = step.millis() {
+            self.millis = Some(millis);
+            self.number(TIME, y, Part::Number(millis));
         }
-    }
-
-    fn states(&mut self, step: &Step<'_>) -> io::Result<()> {
-        self.state(Side::A, step.a)?;
-        self.state(Side::B, step.b)?;
-        self.reply_mark(step)
     }
 
     // Where the line's number and the time of a step stand: beside the label of what it emitted.
@@ -276,7 +288,7 @@ impl<W: Write> Chart<'_, '_, W> {
     }
 
     // The event's own row: a segment's way, or a text beside a lifeline.
-    fn call(&mut self, step: &Step<'_>) -> io::Result<()> {
+    fn call(&mut self, step: &Step<'_>) {
         let call = Call {
             event: step.event,
             outcome: &step.outcome,
@@ -292,21 +304,25 @@ impl<W: Write> Chart<'_, '_, W> {
             | Event::Recv { side, .. }
             | Event::Close { side }
             | Event::Abort { side }
-            | Event::Set { side, .. } => self.beside(*side, "call", call),
+            | Event::Set { side, .. } => self.call_beside(*side, "call", call),
         }
     }
 
-    fn dispatch(&mut self, side: Side, call: Call<'_>) -> io::Result<()> {
+    fn call_beside(&mut self, side: Side, class: &str, call: Call<'_>) {
+        self.beside(side, class, Call::FORM, &call.parts());
+    }
+
+    fn dispatch(&mut self, side: Side, call: Call<'_>) {
         match call.outcome {
             Outcome::Emitted(index) => {
                 self.depart(*index, false);
-                self.mark(*index)
+                self.mark_emitted(Some(*index));
             }
             Outcome::EmitFailed => {
-                self.fail(side)?;
-                self.beside(side, "failed-text", call)
+                self.fail(side);
+                self.call_beside(side, "failed-text", call);
             }
-            _ => self.beside(side, "quiet", call),
+            _ => self.call_beside(side, "quiet", call),
         }
     }
 
@@ -322,19 +338,26 @@ impl<W: Write> Chart<'_, '_, W> {
         }
     }
 
-    // Says beside its emitter's lifeline what the segment of this index repeats.
-    fn mark(&mut self, index: usize) -> io::Result<()> {
-        let Some(segment) = self.segments.get(index) else {
-            return Ok(());
+    // Says beside its emitter's lifeline what the segment of this index, if there is one, repeats.
+    fn mark_emitted(&mut self, index: Option<usize>) {
+        let segments = self.segments;
+        let Some(index) = index else {
+            return;
         };
+        if let Some(segment) = segments.get(index) {
+            self.mark(segment);
+        }
+    }
+
+    fn mark(&mut self, segment: &Segment) {
         match self.marker.mark(segment) {
-            Mark::New => Ok(()),
-            mark => self.beside(segment.from, "mark", mark),
+            Mark::New => {}
+            mark => self.beside(segment.from, "mark", "%%", &mark.parts()),
         }
     }
 
     // An emit failed.
-    fn fail(&mut self, from: Side) -> io::Result<()> {
+    fn fail(&mut self, from: Side) {
         let arrow = Arrow {
             from,
             departure: self.row.departure(),
@@ -342,28 +365,33 @@ impl<W: Write> Chart<'_, '_, W> {
             reply: false,
             again: false,
         };
-        writeln!(self.out, "{arrow}")
+        arrow.put(&mut self.out);
     }
 
-    fn deliver(&mut self, index: usize, call: Call<'_>) -> io::Result<()> {
+    fn deliver(&mut self, index: usize, call: Call<'_>) {
         match call.outcome {
             Outcome::Delivered(reply) => {
                 self.reply(*reply);
-                self.arrive(index, None)
+                self.arrive(index, None);
             }
             Outcome::NotAccepted(reply) => {
                 self.reply(*reply);
-                self.arrive(index, Some("not accepted"))
+                self.arrive(index, Some("not accepted"));
             }
             Outcome::TooOld => self.arrive(index, Some("too old")),
-            _ => {
-                let y = self.row.first_line();
-                writeln!(
-                    self.out,
-                    "<text class=\"quiet\" x=\"{NEITHER}\" y=\"{y}\">{call}</text>"
-                )
-            }
+            _ => self.stray(call),
         }
+    }
+
+    // What was to be delivered is not there.
+    fn stray(&mut self, call: Call<'_>) {
+        let y = self.row.first_line();
+        self.out.put(
+            "<text class=\"quiet\" x=\"%\" y=\"%\">",
+            &[Part::Place(NEITHER), Part::Place(y)],
+        );
+        self.out.put(Call::FORM, &call.parts());
+        self.out.text("</text>\n");
     }
 
     // A reply departs in this row, if there is one.
@@ -373,35 +401,35 @@ impl<W: Write> Chart<'_, '_, W> {
         }
     }
 
-    // Says what the reply of a step repeats, if there is one.
-    fn reply_mark(&mut self, step: &Step<'_>) -> io::Result<()> {
-        match step.reply() {
-            Some(index) => self.mark(index),
-            None => Ok(()),
-        }
-    }
-
     // The segment of this index comes to the other side in this row, which may refuse it.
-    fn arrive(&mut self, index: usize, refusal: Option<&str>) -> io::Result<()> {
-        let Some(arrow) = self.arrow_of(index, refusal.is_some()) else {
-            return Ok(());
+    fn arrive(&mut self, index: usize, refusal: Option<&str>) {
+        let segments = self.segments;
+        let Some(segment) = segments.get(index) else {
+            return;
         };
-        writeln!(self.out, "{arrow}")?;
-        match (refusal, self.segments.get(index)) {
-            (None, Some(segment)) => {
-                self.marker.hear(segment);
-                Ok(())
+        let Some(arrow) = self.arrow_of(index, segment.from, refusal.is_some()) else {
+            return;
+        };
+        arrow.put(&mut self.out);
+        match refusal {
+            None => self.marker.hear(segment),
+            Some(why) => {
+                self.beside(
+                    segment.from.other(),
+                    "refused-text",
+                    "%",
+                    &[Part::Text(why)],
+                );
             }
-            (Some(why), _) => self.beside(arrow.from.other(), "refused-text", why),
-            _ => Ok(()),
         }
     }
 
     // Its arrow, and that it came.
-    fn arrow_of(&mut self, index: usize, is_refused: bool) -> Option<Arrow> {
+    fn arrow_of(&mut self, index: usize, from: Side, is_refused: bool) -> Option<Arrow> {
         let arrival = self.row.arrival();
-        let from = self.segments.get(index)?.from;
-        let departure = self.departures.get_mut(index)?;
+        let Some(departure) = self.departures.get_mut(index) else {
+            return None;
+        };
         let again = departure.arrived;
         departure.arrived = true;
         Some(Arrow {
@@ -418,81 +446,109 @@ impl<W: Write> Chart<'_, '_, W> {
     }
 
     // Writes the state of a side where it is another one now.
-    fn state(&mut self, side: Side, state: State) -> io::Result<()> {
+    fn state(&mut self, side: Side, state: State) {
         let last = match side {
             Side::A => &mut self.a,
             Side::B => &mut self.b,
         };
         if state == *last {
-            return Ok(());
+            return;
         }
         *last = state;
-        self.beside(side, "state", state.name())
+        self.beside(side, "state", "%", &[Part::Text(state.name())]);
     }
 
     // Writes a text beside the lifeline of a side, in the next line of this row.
-    fn beside<D: Display + Drop>(&mut self, side: Side, class: &str, text: D) -> io::Result<()> {
-        let (anchor, y) = (Anchor::outside(side), self.line);
+    fn beside(&mut self, side: Side, class: &str, form: &str, parts: &[Part<'_>]) {
+        let y = self.line;
         self.line = self.row.second_line();
-        writeln!(
-            self.out,
-            "<text class=\"{class}\" {anchor} y=\"{y}\">{text}</text>"
-        )
+        self.out.put(
+            "<text class=\"%\" % y=\"%\">",
+            &[
+                Part::Text(class),
+                Part::At(Anchor::outside(side)),
+                Part::Place(y),
+            ],
+        );
+        self.out.put(form, parts);
+        self.out.text("</text>\n");
     }
 
     // Writes a number of the columns at the left, which ends at `x`.
-    fn number<D: Display + Drop>(&mut self, x: usize, y: usize, number: D) -> io::Result<()> {
-        writeln!(
-            self.out,
-            "<text class=\"time\" x=\"{x}\" text-anchor=\"end\" y=\"{y}\">{number}</text>"
-        )
+    fn number(&mut self, x: usize, y: usize, number: Part<'_>) {
+        self.out.put(
+            "<text class=\"time\" x=\"%\" text-anchor=\"end\" y=\"%\">%</text>\n",
+            &[Part::Place(x), Part::Place(y), number],
+        );
     }
 
     // Draws the segments that never came.
-    fn lost(&mut self) -> io::Result<()> {
-        for (departure, segment) in self.departures.iter().zip(self.segments) {
+    fn lost(&mut self) {
+        for index in 0..self.segments.len() {
+            self.lost_at(index);
+        }
+    }
+
+    fn lost_at(&mut self, index: usize) {
+        if let (Some(departure), Some(segment)) = (
+            self.departures.get(index),
+            self.segments.get(index),
+        ) {
             if !departure.arrived {
-                draw_lost(self.out, departure, segment.from)?;
+                let arrow = Arrow {
+                    from: segment.from,
+                    departure: departure.row.departure(),
+                    ending: Ending::Lost,
+                    reply: departure.reply,
+                    again: false,
+                };
+                arrow.put(&mut self.out);
             }
         }
-        Ok(())
     }
 
     // The names of the sides, after each screen.
-    fn names(&mut self) -> io::Result<()> {
+    fn names(&mut self) {
         let mut row = Row::FIRST;
         for index in 1..self.rows {
             row = row.next();
             if index % SCREEN == 0 {
                 let y = row.label();
-                self.name(Side::A, y)?;
-                self.name(Side::B, y)?;
+                self.name(Side::A, y);
+                self.name(Side::B, y);
                 row = row.next();
             }
         }
-        Ok(())
     }
 
-    fn name(&mut self, side: Side, y: usize) -> io::Result<()> {
+    fn name(&mut self, side: Side, y: usize) {
         let name = Name {
             name: name(side),
             x: lifeline(side),
             y,
         };
-        writeln!(self.out, "{name}")
+        name.put(&mut self.out);
     }
 
-    fn labels(&mut self) -> io::Result<()> {
-        for (index, (departure, segment)) in self.departures.iter().zip(self.segments).enumerate() {
+    fn labels(&mut self) {
+        for index in 0..self.segments.len() {
+            self.label(index);
+        }
+    }
+
+    fn label(&mut self, index: usize) {
+        if let (Some(departure), Some(segment)) = (
+            self.departures.get(index),
+            self.segments.get(index),
+        ) {
             let label = Label {
                 index,
                 segment,
                 numbers: self.numbers,
                 y: departure.row.label(),
             };
-            draw_label(self.out, &label)?;
+            label.put(&mut self.out);
         }
-        Ok(())
     }
 }
 
@@ -502,20 +558,4 @@ fn is_repeated(step: &Step<'_>, next: Option<&Step<'_>>) -> bool {
         Some(next) => next.repeats(step),
         None => false,
     }
-}
-
-fn draw_label<W: Write>(out: &mut W, label: &Label<'_>) -> io::Result<()> {
-    writeln!(out, "{label}")
-}
-
-// Draws a segment that never came.
-fn draw_lost<W: Write>(out: &mut W, departure: &Departure, from: Side) -> io::Result<()> {
-    let arrow = Arrow {
-        from,
-        departure: departure.row.departure(),
-        ending: Ending::Lost,
-        reply: departure.reply,
-        again: false,
-    };
-    writeln!(out, "{arrow}")
 }

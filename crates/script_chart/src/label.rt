@@ -1,11 +1,12 @@
 //! The labels of segments.
 
+use crate::drawing::{Drawing, Part};
 use crate::numbers::Numbers;
 use crate::page::{Anchor, BETWEEN};
 use sock_pair::Segment;
 use sock_pair::script::flags;
-use std::fmt;
-use std::fmt::Write;
+use std::io;
+use std::io::Write;
 
 /// What a segment says, after its index, in its place.
 #[derive(Clone, Copy)]
@@ -17,29 +18,44 @@ pub struct Label<'a> {
     pub y: usize,
 }
 
-impl fmt::Display for Label<'_> {
-    // The text, with an edge of the page's colour, so that it can be read over an arrow, and no arrow is cut by more
-    // than its letters. A text that is too long is condensed.
-    fn fmt<W: fmt::Write>(&self, f: &mut fmt::Formatter<W>) -> fmt::Result {
-        let (index, y) = (self.index, self.y);
-        let headers = Headers {
-            segment: self.segment,
-            numbers: self.numbers,
-        };
-        let mut length = Length(0);
-        write!(length, "{index} {headers}")?;
-        let (anchor, width) = (Anchor::inside(self.segment.from), length.width());
-        write!(f, "<text class=\"label\" {anchor} y=\"{y}\"")?;
-        if width > BETWEEN {
-            write!(
-                f,
-                " textLength=\"{BETWEEN}\" lengthAdjust=\"spacingAndGlyphs\""
-            )?;
+impl Label<'_> {
+    /// Draws the text, with an edge of the page's colour, so that it can be read over an arrow, and no arrow is cut by
+    /// more than its letters. A text that is too long is condensed.
+    pub fn put<W: Write>(&self, out: &mut Drawing<'_, W>) {
+        self.begin(out);
+        out.put(
+            "><tspan class=\"index\">%</tspan> ",
+            &[Part::Place(self.index)],
+        );
+        self.put_headers(out);
+        out.text("</text>\n");
+    }
+
+    fn begin<W: Write>(&self, out: &mut Drawing<'_, W>) {
+        let anchor = Anchor::inside(self.segment.from);
+        out.put(
+            "<text class=\"label\" % y=\"%\"",
+            &[Part::At(anchor), Part::Place(self.y)],
+        );
+        if self.width() > BETWEEN {
+            out.put(
+                " textLength=\"%\" lengthAdjust=\"spacingAndGlyphs\"",
+                &[Part::Place(BETWEEN)],
+            );
         }
-        write!(
-            f,
-            "><tspan class=\"index\">{index}</tspan> {headers}</text>"
-        )
+    }
+
+    // How wide the text is at most.
+    fn width(&self) -> usize {
+        let mut length = Length(0);
+        let mut out = Drawing::new(&mut length);
+        out.put("% ", &[Part::Place(self.index)]);
+        self.put_headers(&mut out);
+        length.width()
+    }
+
+    fn put_headers<W: Write>(&self, out: &mut Drawing<'_, W>) {
+        out.put(HEADERS, &self.headers());
     }
 }
 
@@ -53,14 +69,17 @@ pub struct Name {
     pub y: usize,
 }
 
-impl fmt::Display for Name {
-    // The name, with an edge of the page's colour.
-    fn fmt<W: fmt::Write>(&self, f: &mut fmt::Formatter<W>) -> fmt::Result {
-        let Name { name, x, y } = *self;
-        write!(
-            f,
-            "<text class=\"label name\" x=\"{x}\" y=\"{y}\">{name}</text>"
-        )
+impl Name {
+    /// Draws the name, with an edge of the page's colour.
+    pub fn put<W: Write>(&self, out: &mut Drawing<'_, W>) {
+        out.put(
+            "<text class=\"label name\" x=\"%\" y=\"%\">%</text>\n",
+            &[
+                Part::Place(self.x),
+                Part::Place(self.y),
+                Part::Text(self.name),
+            ],
+        );
     }
 }
 
@@ -75,82 +94,82 @@ impl Length {
     }
 }
 
-impl fmt::Write for Length {
-    fn write_str(&mut self, s: &str) -> fmt::Result {
-        self.0 = self.0.saturating_add(s.len());
+impl Write for Length {
+    fn write(&mut self, buf: &[u8]) -> io::Result<usize> {
+        self.0 = self.0.saturating_add(buf.len());
+        Ok(buf.len())
+    }
+
+    fn flush(&mut self) -> io::Result<()> {
         Ok(())
     }
 }
 
-// `FLAGS seq N ack N win N len N`, and the options behind it
-#[derive(Clone, Copy)]
-struct Headers<'a> {
-    segment: &'a Segment,
-    numbers: Numbers,
-}
+// `FLAGS seq N ack N win N len N`, the options of a SYN and those of SACK.
+const HEADERS: &str = "% seq % ack % win % len %%%%%%%%";
 
-impl fmt::Display for Headers<'_> {
-    fn fmt<W: fmt::Write>(&self, f: &mut fmt::Formatter<W>) -> fmt::Result {
-        self.write_numbers(f)?;
-        let (win, len) = (
-            self.segment.header.repr.window_len,
-            self.segment.payload.len(),
-        );
-        write!(f, " win {win} len {len}")?;
-        write_syn_options(f, self.segment)?;
-        self.write_sack(f)
-    }
-}
-
-// The options of a SYN: the largest payload, whether SACK is permitted, and the window scale.
-fn write_syn_options<W: fmt::Write>(f: &mut fmt::Formatter<W>, segment: &Segment) -> fmt::Result {
-    if let Some(size) = segment.header.repr.max_seg_size {
-        write!(f, " mss {size}")?;
-    }
-    if segment.header.repr.sack_permitted {
-        f.write_str(" sackOK")?;
-    }
-    match segment.header.repr.window_scale {
-        Some(scale) => write!(f, " wscale {scale}"),
-        None => Ok(()),
-    }
-}
-
-impl Headers<'_> {
-    // `FLAGS seq N ack N`, or `-` for the last number.
-    fn write_numbers<W: fmt::Write>(&self, f: &mut fmt::Formatter<W>) -> fmt::Result {
+impl Label<'_> {
+    // The parts of the headers' form, with `-` where there is no acknowledgement.
+    fn headers(&self) -> [Part<'static>; 12] {
         let (header, from) = (&self.segment.header.repr, self.segment.from);
-        let flags = flags(header.control, header.ack_number.is_some());
-        let seq = self.numbers.of(from, header.seq_number.0);
-        write!(f, "{flags} seq {seq} ack ")?;
-        match header.ack_number {
-            None => f.write_str("-"),
-            Some(ack) => write!(f, "{}", self.numbers.of(from.other(), ack.0)),
+        let [first, second, third] = header.sack_ranges;
+        [
+            Part::Text(flags(header.control, header.ack_number.is_some())),
+            Part::Number(u64::from(self.numbers.of(from, header.seq_number.0))),
+            self.ack(),
+            Part::Number(u64::from(header.window_len)),
+            Part::Place(self.segment.payload.len()),
+            size(header.max_seg_size),
+            said(header.sack_permitted, " sackOK"),
+            scale(header.window_scale),
+            said(
+                first.is_some() || second.is_some() || third.is_some(),
+                " sack",
+            ),
+            self.range(first),
+            self.range(second),
+            self.range(third),
+        ]
+    }
+
+    fn ack(&self) -> Part<'static> {
+        match self.segment.header.repr.ack_number {
+            None => Part::Text("-"),
+            Some(ack) => Part::Number(u64::from(self.numbers.of(self.segment.from.other(), ack.0))),
         }
     }
 
-    // The ranges of the other side's numbers that came out of order: the first number, and that behind the last.
-    fn write_sack<W: fmt::Write>(&self, f: &mut fmt::Formatter<W>) -> fmt::Result {
-        let segment = self.segment;
-        let [first, second, third] = segment.header.repr.sack_ranges;
-        if first.is_some() || second.is_some() || third.is_some() {
-            f.write_str(" sack")?;
-        }
-        self.write_range(f, first)?;
-        self.write_range(f, second)?;
-        self.write_range(f, third)
-    }
-
-    fn write_range<W: fmt::Write>(
-        &self,
-        f: &mut fmt::Formatter<W>,
-        range: Option<(u32, u32)>,
-    ) -> fmt::Result {
-        let Some((left, right)) = range else {
-            return Ok(());
-        };
+    // A range of the other side's numbers that came out of order: the first number, and that behind the last.
+    fn range(&self, range: Option<(u32, u32)>) -> Part<'static> {
         let side = self.segment.from.other();
-        let (left, right) = (self.numbers.of(side, left), self.numbers.of(side, right));
-        write!(f, " {left}-{right}")
+        match range {
+            None => Part::Nothing,
+            Some((left, right)) => {
+                Part::Range(self.numbers.of(side, left), self.numbers.of(side, right))
+            }
+        }
+    }
+}
+
+// The largest payload that a SYN asks for.
+fn size(size: Option<u16>) -> Part<'static> {
+    match size {
+        None => Part::Nothing,
+        Some(size) => Part::Named(" mss ", u64::from(size)),
+    }
+}
+
+fn scale(scale: Option<u8>) -> Part<'static> {
+    match scale {
+        None => Part::Nothing,
+        Some(scale) => Part::Named(" wscale ", u64::from(scale)),
+    }
+}
+
+fn said(is_said: bool, text: &'static str) -> Part<'static> {
+    if is_said {
+        Part::Text(text)
+    } else {
+        Part::Nothing
     }
 }

@@ -5,6 +5,7 @@ mod arrow;
 mod axis;
 mod call;
 mod chart;
+pub mod drawing;
 mod history;
 mod label;
 mod marks;

@@ -1,8 +1,8 @@
 //! What segments repeat, and what they ask.
 
+use crate::drawing::Part;
 use control_wire::TcpControl;
 use sock_pair::{Segment, Side};
-use std::fmt;
 
 /// What a segment repeats of those that its side emitted before, or what it asks.
 #[derive(Clone, Copy)]
@@ -21,14 +21,15 @@ pub enum Mark {
     DuplicateAck(usize),
 }
 
-impl fmt::Display for Mark {
-    fn fmt<W: fmt::Write>(&self, f: &mut fmt::Formatter<W>) -> fmt::Result {
+impl Mark {
+    /// What it says, in the form of a text and a number.
+    pub fn parts(&self) -> [Part<'static>; 2] {
         match self {
-            Mark::New => Ok(()),
-            Mark::KeepAlive => f.write_str("keep-alive"),
-            Mark::Probe(_) => f.write_str("zero-window probe"),
-            Mark::Retransmission(_) => f.write_str("retransmission"),
-            Mark::DuplicateAck(count) => write!(f, "duplicate ACK {count}"),
+            Mark::New => [Part::Nothing, Part::Nothing],
+            Mark::KeepAlive => [Part::Text("keep-alive"), Part::Nothing],
+            Mark::Probe(_) => [Part::Text("zero-window probe"), Part::Nothing],
+            Mark::Retransmission(_) => [Part::Text("retransmission"), Part::Nothing],
+            Mark::DuplicateAck(count) => [Part::Text("duplicate ACK "), Part::Place(*count)],
         }
     }
 }

@@ -4,7 +4,6 @@
 ghost use Rattle.std.specs.Prelude.{◌≡◌, ◌+◌, ◌<◌, ◌≤◌, ◌^◌};
 
 use sock_pair::Side;
-use std::fmt;
 
 /// The width of the page.
 pub const WIDTH: usize = 1300;
@@ -142,15 +141,6 @@ impl Anchor {
         match side {
             Side::A => Anchor::End(LINE_A - 10),
             Side::B => Anchor::Start(LINE_B + 10),
-        }
-    }
-}
-
-impl fmt::Display for Anchor {
-    fn fmt<W: fmt::Write>(&self, f: &mut fmt::Formatter<W>) -> fmt::Result {
-        match self {
-            Anchor::Start(x) => write!(f, "x=\"{x}\""),
-            Anchor::End(x) => write!(f, "x=\"{x}\" text-anchor=\"end\""),
         }
     }
 }

@@ -4,6 +4,7 @@
 //! window where they arrived.
 
 use crate::axis::Axis;
+use crate::drawing::{Drawing, Part};
 use crate::history::Step;
 use crate::marks::{Mark, Marker, length};
 use crate::moments::{Time, last_moment};
@@ -14,7 +15,6 @@ use control_wire::TcpControl;
 use sock_pair::script::End;
 use sock_pair::{Segment, Side};
 use std::alloc::{AllocError, Global};
-use std::io;
 use std::io::Write;
 
 // The page, and the frame on it.
@@ -36,7 +36,7 @@ const LOWEST: u64 = 578;
 // A picture on its way to a writer.
 #[derive(Drop)]
 struct Picture<'w, 'h, W> {
-    out: &'w mut W,
+    out: Drawing<'w, W>,
     heard: Heard<'h>,
     // Which segments arrived at all.
     arrived: Vec<bool>,
@@ -74,15 +74,17 @@ pub fn draw<W: Write>(
         shift: shift(segments, side),
     };
     let mut picture = Picture {
-        out,
+        out: Drawing::new(out),
         heard,
         arrived,
         time: Time::of(steps, LEFT, RIGHT),
         number: heard.number_axis(steps),
     };
-    match picture.draw(steps) {
-        Ok(()) => End::Done,
-        Err(_) => End::Write,
+    picture.draw(steps);
+    if picture.out.is_whole() {
+        End::Done
+    } else {
+        End::Write
     }
 }
 
@@ -137,12 +139,27 @@ impl Heard<'_> {
 
     // The segment that a step delivered to this side, with its acknowledgement. A reset opens and shuts no window.
     fn heard(&self, step: &Step<'_>) -> Option<(&Segment, u64)> {
-        let segment = self.segments.get(step.delivered()?)?;
-        let ack = segment.header.repr.ack_number?;
+        let Some(index) = step.delivered() else {
+            return None;
+        };
+        let Some(segment) = self.segments.get(index) else {
+            return None;
+        };
+        let Some(ack) = segment.header.repr.ack_number else {
+            return None;
+        };
         if segment.from == self.side || segment.header.repr.control == TcpControl::Rst {
             return None;
         }
         Some((segment, self.offset(ack.0)))
+    }
+
+    // The moment of such a step, beside what it delivered.
+    fn arrival(&self, step: &Step<'_>) -> Option<(u64, &Segment, u64)> {
+        match (step.millis(), self.heard(step)) {
+            (Some(millis), Some((segment, ack))) => Some((millis, segment, ack)),
+            _ => None,
+        }
     }
 
     // The window of such a segment, in bytes.
@@ -194,235 +211,259 @@ impl Heard<'_> {
 }
 
 impl<W: Write> Picture<'_, '_, W> {
-    fn draw(&mut self, steps: &[Step<'_>]) -> io::Result<()> {
-        self.open()?;
-        self.marks(last_moment(steps))?;
-        self.lines(steps)?;
-        self.out.write_all(b"</svg>\n")
-    }
-
-    // The frame, with the marks beside it.
-    fn marks(&mut self, end: u64) -> io::Result<()> {
-        self.times(end)?;
-        self.numbers()?;
-        self.frame()
-    }
-
-    // What happened.
-    fn lines(&mut self, steps: &[Step<'_>]) -> io::Result<()> {
-        self.line(steps, "acked", false)?;
-        self.line(steps, "window", true)?;
-        self.bars(steps)?;
-        self.answers(steps)?;
-        self.resets(steps)
+    // The frame, with the marks beside it, and then what happened.
+    fn draw(&mut self, steps: &[Step<'_>]) {
+        self.open();
+        self.times(last_moment(steps));
+        self.numbers();
+        self.frame();
+        self.line(steps, "acked", false);
+        self.line(steps, "window", true);
+        self.bars(steps);
+        self.answers(steps);
+        self.resets(steps);
+        self.out.text("</svg>\n");
     }
 
     // The root element, the style sheet, the page, the legend, and what is drawn.
-    fn open(&mut self) -> io::Result<()> {
-        writeln!(
-            self.out,
-            "<svg xmlns=\"http://www.w3.org/2000/svg\" width=\"{WIDTH}\" height=\"{HEIGHT}\" \
-            viewBox=\"0 0 {WIDTH} {HEIGHT}\">"
-        )?;
-        self.out.write_all(SEQUENCE_STYLE.as_bytes())?;
-        let name = name(self.heard.side);
-        writeln!(
-            self.out,
-            "<rect class=\"page\" width=\"100%\" height=\"100%\"/>\n\
-            <text x=\"{LEFT}\" y=\"62\"><tspan class=\"name\">{name}</tspan>: sequence numbers from its SYN on</text>"
-        )?;
-        self.out.write_all(SEQUENCE_LEGEND.as_bytes())
+    fn open(&mut self) {
+        let (width, height) = (Part::Number(WIDTH), Part::Number(HEIGHT));
+        self.out.put(
+            "<svg xmlns=\"http://www.w3.org/2000/svg\" width=\"%\" height=\"%\" viewBox=\"0 0 % %\">\n",
+            &[width, height, width, height],
+        );
+        self.out.text(SEQUENCE_STYLE);
+        self.out
+            .text("<rect class=\"page\" width=\"100%\" height=\"100%\"/>\n");
+        self.out.put(
+            "<text x=\"%\" y=\"62\"><tspan class=\"name\">%</tspan>: sequence numbers from its SYN on</text>\n",
+            &[Part::Number(LEFT), Part::Text(name(self.heard.side))],
+        );
+        self.out.text(SEQUENCE_LEGEND);
     }
 
     // The marks of the milliseconds. The script ends at `end`.
-    fn times(&mut self, end: u64) -> io::Result<()> {
+    fn times(&mut self, end: u64) {
         let y = BOTTOM + 18;
         for index in 0..16u64 {
             if let Some(mark) = self.time.axis.mark(index) {
-                self.moment(mark, y)?;
+                self.moment(mark, y);
             }
         }
         if let Some(late) = self.time.late {
-            self.moment(late, y)?;
-            self.fold()?;
+            self.moment(late, y);
+            self.fold();
         }
-        self.end_of_times(end)
+        self.end_of_times(end);
     }
 
     // What these marks are of, and how long nothing happens behind them.
-    fn end_of_times(&mut self, end: u64) -> io::Result<()> {
-        let y = BOTTOM + 36;
-        write!(
-            self.out,
-            "<text class=\"mark\" x=\"{RIGHT}\" text-anchor=\"end\" y=\"{y}\">ms"
-        )?;
+    fn end_of_times(&mut self, end: u64) {
+        self.out.put(
+            "<text class=\"mark\" x=\"%\" text-anchor=\"end\" y=\"%\">ms",
+            &[Part::Number(RIGHT), Part::Number(BOTTOM + 36)],
+        );
         if end > self.time.last() {
-            write!(self.out, "; no segment from here to {end}")?;
+            self.out
+                .put("; no segment from here to %", &[Part::Number(end)]);
         }
-        writeln!(self.out, "</text>")
+        self.out.text("</text>\n");
     }
 
     // The mark of this moment, below the frame.
-    fn moment(&mut self, millis: u64, y: u64) -> io::Result<()> {
-        let x = self.time.place(millis);
-        writeln!(
-            self.out,
-            "<path class=\"grid\" d=\"M{x} {TOP}V{BOTTOM}\"/>\
-            <text class=\"mark\" x=\"{x}\" text-anchor=\"middle\" y=\"{y}\">{millis}</text>"
-        )
+    fn moment(&mut self, millis: u64, y: u64) {
+        let x = Part::Number(self.time.place(millis));
+        self.out.put(
+            "<path class=\"grid\" d=\"M% %V%\"/>\
+            <text class=\"mark\" x=\"%\" text-anchor=\"middle\" y=\"%\">%</text>\n",
+            &[
+                x,
+                Part::Number(TOP),
+                Part::Number(BOTTOM),
+                x,
+                Part::Number(y),
+                Part::Number(millis),
+            ],
+        );
     }
 
     // The break before the last moment.
-    fn fold(&mut self) -> io::Result<()> {
-        let (x, y) = (self.time.fold(), BOTTOM + 6);
-        writeln!(
-            self.out,
-            "<path class=\"frame\" d=\"M{x} {y}l6 -12m4 12l6 -12\"/>"
-        )
+    fn fold(&mut self) {
+        self.out.put(
+            "<path class=\"frame\" d=\"M% %l6 -12m4 12l6 -12\"/>\n",
+            &[Part::Number(self.time.fold()), Part::Number(BOTTOM + 6)],
+        );
     }
 
     // The marks of the numbers.
-    fn numbers(&mut self) -> io::Result<()> {
-        let (end, above) = (LEFT - 8, TOP - 8);
-        writeln!(
-            self.out,
-            "<text class=\"mark\" x=\"{end}\" text-anchor=\"end\" y=\"{above}\">number</text>"
-        )?;
+    fn numbers(&mut self) {
+        let end = LEFT - 8;
+        self.out.put(
+            "<text class=\"mark\" x=\"%\" text-anchor=\"end\" y=\"%\">number</text>\n",
+            &[Part::Number(end), Part::Number(TOP - 8)],
+        );
         for index in 0..16u64 {
             if let Some(mark) = self.number.mark(index) {
-                self.number_mark(mark, end)?;
+                self.number_mark(mark, end);
             }
         }
-        Ok(())
     }
 
     // The mark of this number, whose text ends at `end`.
-    fn number_mark(&mut self, mark: u64, end: u64) -> io::Result<()> {
+    fn number_mark(&mut self, mark: u64, end: u64) {
         let y = self.number.place(mark);
-        let base = y.saturating_add(4);
-        writeln!(
-            self.out,
-            "<path class=\"grid\" d=\"M{LEFT} {y}H{RIGHT}\"/>\
-            <text class=\"mark\" x=\"{end}\" text-anchor=\"end\" y=\"{base}\">{mark}</text>"
-        )
+        self.out.put(
+            "<path class=\"grid\" d=\"M% %H%\"/>\
+            <text class=\"mark\" x=\"%\" text-anchor=\"end\" y=\"%\">%</text>\n",
+            &[
+                Part::Number(LEFT),
+                Part::Number(y),
+                Part::Number(RIGHT),
+                Part::Number(end),
+                Part::Number(y.saturating_add(4)),
+                Part::Number(mark),
+            ],
+        );
     }
 
-    fn frame(&mut self) -> io::Result<()> {
-        writeln!(
-            self.out,
-            "<path class=\"frame\" d=\"M{LEFT} {TOP}V{BOTTOM}H{RIGHT}\"/>"
-        )
+    fn frame(&mut self) {
+        self.out.put(
+            "<path class=\"frame\" d=\"M% %V%H%\"/>\n",
+            &[
+                Part::Number(LEFT),
+                Part::Number(TOP),
+                Part::Number(BOTTOM),
+                Part::Number(RIGHT),
+            ],
+        );
     }
 
     // A line of what was acknowledged, or of the window's edge, from one arrival to the next.
-    fn line(&mut self, steps: &[Step<'_>], class: &str, is_edge: bool) -> io::Result<()> {
+    fn line(&mut self, steps: &[Step<'_>], class: &str, is_edge: bool) {
         let heard = self.heard;
         let mut acked = None;
         for step in steps {
-            let (Some(millis), Some((segment, ack))) = (step.millis(), heard.heard(step)) else {
-                continue;
-            };
-            let high = ack.max(acked.unwrap_or(0));
-            let ahead = if is_edge { heard.window(segment) } else { 0 };
-            let x = self.time.place(millis);
-            let y = self.number.place(high.saturating_add(ahead));
-            match acked {
-                None => write!(self.out, "<path class=\"{class}\" d=\"M{x} {y}")?,
-                Some(_) => write!(self.out, "H{x}V{y}")?,
+            if let Some((millis, segment, ack)) = heard.arrival(step) {
+                let high = ack.max(acked.unwrap_or(0));
+                let ahead = if is_edge { heard.window(segment) } else { 0 };
+                let y = self.number.place(high.saturating_add(ahead));
+                self.corner(acked.is_none(), class, self.time.place(millis), y);
+                acked = Some(high);
             }
-            acked = Some(high);
         }
-        match acked {
-            None => Ok(()),
-            Some(_) => writeln!(self.out, "H{RIGHT}\"/>"),
+        if acked.is_some() {
+            self.out.put("H%\"/>\n", &[Part::Number(RIGHT)]);
+        }
+    }
+
+    // The next corner of a line.
+    fn corner(&mut self, is_first: bool, class: &str, x: u64, y: u64) {
+        if is_first {
+            self.out.put(
+                "<path class=\"%\" d=\"M% %",
+                &[Part::Text(class), Part::Number(x), Part::Number(y)],
+            );
+        } else {
+            self.out.put("H%V%", &[Part::Number(x), Part::Number(y)]);
         }
     }
 
     // What the arrivals say beside that: acknowledgements of nothing new, and ranges that came out of order.
-    fn answers(&mut self, steps: &[Step<'_>]) -> io::Result<()> {
+    fn answers(&mut self, steps: &[Step<'_>]) {
         let heard = self.heard;
         let mut acked = 0;
         for step in steps {
-            let (Some(millis), Some((segment, ack))) = (step.millis(), heard.heard(step)) else {
-                continue;
-            };
-            let x = self.time.place(millis);
-            if ack <= acked && length(segment) == 0 {
-                let y = self.number.place(acked);
-                writeln!(self.out, "<path class=\"acked\" d=\"M{x} {y}v-8\"/>")?;
+            if let Some((millis, segment, ack)) = heard.arrival(step) {
+                let x = self.time.place(millis);
+                if ack <= acked && length(segment) == 0 {
+                    self.same_again(x, self.number.place(acked));
+                }
+                acked = acked.max(ack);
+                self.ranges(x, segment);
             }
-            acked = acked.max(ack);
-            self.ranges(x, segment)?;
         }
-        Ok(())
     }
 
-    fn ranges(&mut self, x: u64, segment: &Segment) -> io::Result<()> {
+    fn same_again(&mut self, x: u64, y: u64) {
+        self.out.put(
+            "<path class=\"acked\" d=\"M% %v-8\"/>\n",
+            &[Part::Number(x), Part::Number(y)],
+        );
+    }
+
+    fn ranges(&mut self, x: u64, segment: &Segment) {
         let [first, second, third] = segment.header.repr.sack_ranges;
-        self.range(x, first)?;
-        self.range(x, second)?;
-        self.range(x, third)
+        self.range(x, first);
+        self.range(x, second);
+        self.range(x, third);
     }
 
-    fn range(&mut self, x: u64, range: Option<(u32, u32)>) -> io::Result<()> {
+    fn range(&mut self, x: u64, range: Option<(u32, u32)>) {
         let Some((left, right)) = range else {
-            return Ok(());
+            return;
         };
         let heard = self.heard;
         let from = self.number.place(heard.offset(left));
         let to = self.number.place(heard.offset(right));
-        writeln!(self.out, "<path class=\"sack\" d=\"M{x} {from}V{to}\"/>")
+        self.out.put(
+            "<path class=\"sack\" d=\"M% %V%\"/>\n",
+            &[Part::Number(x), Part::Number(from), Part::Number(to)],
+        );
     }
 
     // The RSTs of both sides, each by a line over all numbers: it ends the connection where it is heard.
-    fn resets(&mut self, steps: &[Step<'_>]) -> io::Result<()> {
-        let heard = self.heard;
+    fn resets(&mut self, steps: &[Step<'_>]) {
         for step in steps {
-            let Some(millis) = step.millis() else {
-                continue;
-            };
-            if is_reset(heard.segments, step.emitted(), heard.side) {
-                self.reset(millis, "RST sent", TOP + 12)?;
-            }
-            if is_reset(heard.segments, step.delivered(), heard.side.other()) {
-                self.reset(millis, "RST came", TOP + 28)?;
+            if let Some(millis) = step.millis() {
+                self.reset_of(millis, step);
             }
         }
-        Ok(())
     }
 
-    fn reset(&mut self, millis: u64, text: &str, y: u64) -> io::Result<()> {
+    fn reset_of(&mut self, millis: u64, step: &Step<'_>) {
+        let heard = self.heard;
+        if is_reset(heard.segments, step.emitted(), heard.side) {
+            self.reset(millis, "RST sent", TOP + 12);
+        }
+        if is_reset(heard.segments, step.delivered(), heard.side.other()) {
+            self.reset(millis, "RST came", TOP + 28);
+        }
+    }
+
+    fn reset(&mut self, millis: u64, text: &str, y: u64) {
         let x = self.time.place(millis);
-        let beside = x.saturating_sub(6);
-        writeln!(
-            self.out,
-            "<path class=\"reset\" d=\"M{x} {TOP}V{BOTTOM}\"/>\
-            <text class=\"mark\" x=\"{beside}\" text-anchor=\"end\" y=\"{y}\">{text}</text>"
-        )
+        self.out.put(
+            "<path class=\"reset\" d=\"M% %V%\"/><text class=\"mark\" x=\"%\" text-anchor=\"end\" y=\"%\">%</text>\n",
+            &[
+                Part::Number(x),
+                Part::Number(TOP),
+                Part::Number(BOTTOM),
+                Part::Number(x.saturating_sub(6)),
+                Part::Number(y),
+                Part::Text(text),
+            ],
+        );
     }
 
     // The segments of this side that take numbers.
-    fn bars(&mut self, steps: &[Step<'_>]) -> io::Result<()> {
+    fn bars(&mut self, steps: &[Step<'_>]) {
         let heard = self.heard;
         let mut marker = Marker::new();
         for step in steps {
-            let (Some(millis), Some(index)) = (step.millis(), step.emitted()) else {
-                continue;
-            };
-            let Some(segment) = heard.segments.get(index) else {
-                continue;
-            };
-            let mark = marker.mark(segment);
-            if segment.from == heard.side && length(segment) > 0 {
-                let arrived = self.arrived.get(index) == Some(&true);
-                self.bar(self.time.place(millis), segment, mark, arrived)?;
+            if let (Some(millis), Some(index)) = (step.millis(), step.emitted())
+                && let Some(segment) = heard.segments.get(index)
+            {
+                let mark = marker.mark(segment);
+                if segment.from == heard.side && length(segment) > 0 {
+                    let arrived = self.arrived.get(index) == Some(&true);
+                    self.bar(self.time.place(millis), segment, mark, arrived);
+                }
             }
         }
-        Ok(())
     }
 
     // A segment: its numbers that were sent before, and the others.
-    fn bar(&mut self, x: u64, segment: &Segment, mark: Mark, arrived: bool) -> io::Result<()> {
+    fn bar(&mut self, x: u64, segment: &Segment, mark: Mark, arrived: bool) {
         let heard = self.heard;
         let from = heard.offset(segment.header.repr.seq_number.0);
         let to = from.saturating_add(u64::from(length(segment)));
@@ -432,48 +473,63 @@ impl<W: Write> Picture<'_, '_, W> {
             _ => 0,
         };
         let middle = from.saturating_add(again);
-        self.range_sent("again", x, from, middle)?;
-        self.range_sent("sent", x, middle, to)?;
+        self.range_sent("again", x, from, middle);
+        self.range_sent("sent", x, middle, to);
         if !arrived {
-            self.cross(x, from.saturating_add(to) / 2)?;
+            self.cross(x, from.saturating_add(to) / 2);
         }
-        self.flag(x, to, segment)
+        self.flag(x, to, segment);
     }
 
-    fn range_sent(&mut self, class: &str, x: u64, from: u64, to: u64) -> io::Result<()> {
+    fn range_sent(&mut self, class: &str, x: u64, from: u64, to: u64) {
         if to <= from {
-            return Ok(());
+            return;
         }
-        let (from, to) = (self.number.place(from), self.number.place(to));
-        let left = x.saturating_sub(3);
-        writeln!(
-            self.out,
-            "<path class=\"{class}\" d=\"M{left} {from}h6M{x} {from}V{to}M{left} {to}h6\"/>"
-        )
+        let from = Part::Number(self.number.place(from));
+        let to = Part::Number(self.number.place(to));
+        let left = Part::Number(x.saturating_sub(3));
+        self.out.put(
+            "<path class=\"%\" d=\"M% %h6M% %V%M% %h6\"/>\n",
+            &[
+                Part::Text(class),
+                left,
+                from,
+                Part::Number(x),
+                from,
+                to,
+                left,
+                to,
+            ],
+        );
     }
 
     // The segment that has this number in its middle never came.
-    fn cross(&mut self, x: u64, middle: u64) -> io::Result<()> {
+    fn cross(&mut self, x: u64, middle: u64) {
         let y = self.number.place(middle);
-        let (left, top) = (x.saturating_sub(4), y.saturating_sub(4));
-        writeln!(
-            self.out,
-            "<path class=\"lost\" d=\"M{left} {top}l8 8m0 -8l-8 8\"/>"
-        )
+        self.out.put(
+            "<path class=\"lost\" d=\"M% %l8 8m0 -8l-8 8\"/>\n",
+            &[
+                Part::Number(x.saturating_sub(4)),
+                Part::Number(y.saturating_sub(4)),
+            ],
+        );
     }
 
     // The name of a SYN or FIN, above its last number.
-    fn flag(&mut self, x: u64, last: u64, segment: &Segment) -> io::Result<()> {
+    fn flag(&mut self, x: u64, last: u64, segment: &Segment) {
         let name = match segment.header.repr.control {
             TcpControl::Syn => "SYN",
             TcpControl::Fin => "FIN",
-            _ => return Ok(()),
+            _ => return,
         };
         let y = self.number.place(last).saturating_sub(4);
-        let x = x.saturating_add(6);
-        writeln!(
-            self.out,
-            "<text class=\"mark\" x=\"{x}\" y=\"{y}\">{name}</text>"
-        )
+        self.out.put(
+            "<text class=\"mark\" x=\"%\" y=\"%\">%</text>\n",
+            &[
+                Part::Number(x.saturating_add(6)),
+                Part::Number(y),
+                Part::Text(name),
+            ],
+        );
     }
 }

@@ -3,10 +3,10 @@ ghost use Rattle.sock_tcp.specs.View.{IsShort};
 
 use crate::clock::Clock;
 use crate::getters::{endpoints, measures, poll, queues, settings, state};
-use crate::memory::NoMemory;
+use crate::line::{Line, Part};
 use crate::outbox::Host;
 use crate::seat::{Now, Seat};
-use crate::shown::{Address, ReadBytes};
+use crate::shown::{Ascii, ReadBytes};
 use crate::takes::take;
 use drill_lines::places::bytes_of_hex;
 use drill_lines::request::{Bytes, Call, Counted, Optional, Place, Plain, Switch};
@@ -21,20 +21,8 @@ use std::fmt::Write;
 // What is written where the call is none of such a socket.
 const NO_SUCH_CALL: &str = "no-such-call";
 
-// Writes a text.
-pub fn say(line: &mut String, text: &str) -> Result<(), NoMemory> {
-    line.push_str(text)?;
-    Ok(())
-}
-
 /// Makes a call and writes its answer.
-pub fn perform(
-    seat: &mut Seat<'_>,
-    alloc: Global,
-    now: Now,
-    call: &Call<'_>,
-    line: &mut String,
-) -> Result<(), NoMemory> {
+pub fn perform(seat: &mut Seat<'_>, alloc: Global, now: Now, call: &Call<'_>, line: &mut Line) {
     match call {
         Call::Plain(plain) => perform_plain(seat, *plain, line),
         Call::Switch(which, on) => {
@@ -53,11 +41,11 @@ pub fn perform(
 }
 
 // `done`, where the socket has such a call.
-fn done(known: bool, line: &mut String) -> Result<(), NoMemory> {
-    say(line, if known { "done" } else { NO_SUCH_CALL })
+fn done(known: bool, line: &mut Line) {
+    line.say(if known { "done" } else { NO_SUCH_CALL })
 }
 
-fn perform_other(seat: &mut Seat<'_>, call: &Call<'_>, line: &mut String) -> Result<(), NoMemory> {
+fn perform_other(seat: &mut Seat<'_>, call: &Call<'_>, line: &mut Line) {
     match call {
         Call::Listen(place) => listen(seat, *place, line),
         Call::Bind(place) => bind(seat, *place, line),
@@ -71,18 +59,18 @@ fn perform_other(seat: &mut Seat<'_>, call: &Call<'_>, line: &mut String) -> Res
         }
         Call::Checksums(checksum) => {
             seat.ipv4 = *checksum;
-            say(line, "done")
+            line.say("done")
         }
         Call::Ends(here, peer) => {
             seat.here = *here;
             seat.peer = *peer;
-            say(line, "done")
+            line.say("done")
         }
-        _ => say(line, NO_SUCH_CALL),
+        _ => line.say(NO_SUCH_CALL),
     }
 }
 
-fn perform_plain(seat: &mut Seat<'_>, plain: Plain, line: &mut String) -> Result<(), NoMemory> {
+fn perform_plain(seat: &mut Seat<'_>, plain: Plain, line: &mut Line) {
     match plain {
         Plain::Close => {
             let known = close(&mut seat.socket);
@@ -205,28 +193,24 @@ fn duration_of(millis: Option<u32>) -> Option<Duration>
 }
 
 // `opened`, or the refusal behind these words.
-fn opened<E: fmt::Display>(
-    answer: Result<(), E>,
-    refused: &str,
-    line: &mut String,
-) -> Result<(), NoMemory>
+fn opened<E: fmt::Display>(answer: Result<(), E>, refused: &str, line: &mut Line)
 where
     E: Drop,
 {
     match answer {
-        Ok(()) => say(line, "opened"),
+        Ok(()) => line.say("opened"),
         Err(error) => {
-            write!(line, "{refused} {error}")?;
-            Ok(())
+            line.put("% ", &[Part::Text(refused)]);
+            line.show(error);
         }
     }
 }
 
-fn listen(seat: &mut Seat<'_>, place: Place, line: &mut String) -> Result<(), NoMemory> {
+fn listen(seat: &mut Seat<'_>, place: Place, line: &mut Line) {
     let here = IpListenEndpoint::from(seat.here);
     match (&mut seat.socket, listen_place(place, here)) {
         (Socket::Tcp(socket), Some(at)) => opened(socket.listen(at), "listen-refused", line),
-        _ => say(line, NO_SUCH_CALL),
+        _ => line.say(NO_SUCH_CALL),
     }
 }
 
@@ -238,7 +222,7 @@ fn listen_place(place: Place, here: IpListenEndpoint) -> Option<IpListenEndpoint
     }
 }
 
-fn bind(seat: &mut Seat<'_>, place: Place, line: &mut String) -> Result<(), NoMemory> {
+fn bind(seat: &mut Seat<'_>, place: Place, line: &mut Line) {
     let here = IpListenEndpoint::from(seat.here);
     match (&mut seat.socket, place) {
         (Socket::Icmp(socket), Place::Messages(endpoint)) => {
@@ -246,7 +230,7 @@ fn bind(seat: &mut Seat<'_>, place: Place, line: &mut String) -> Result<(), NoMe
         }
         (Socket::Udp(socket), Place::Here) => opened(socket.bind(here), "bind-refused", line),
         (Socket::Udp(socket), Place::At(at)) => opened(socket.bind(at), "bind-refused", line),
-        _ => say(line, NO_SUCH_CALL),
+        _ => line.say(NO_SUCH_CALL),
     }
 }
 
@@ -256,8 +240,8 @@ fn perform_counted(
     now: Now,
     which: Counted,
     count: u32,
-    line: &mut String,
-) -> Result<(), NoMemory> {
+    line: &mut Line,
+) {
     match which {
         Counted::Connect => connect(seat, alloc, now, line),
         Counted::Fill => fill(seat, alloc, count as usize, line),
@@ -271,17 +255,14 @@ fn perform_counted(
     }
 }
 
-fn fill(
-    seat: &mut Seat<'_>,
-    alloc: Global,
-    count: usize,
-    line: &mut String,
-) -> Result<(), NoMemory> {
-    let bytes = vec![in alloc; b'x'; count]?;
-    send(seat, bytes.as_slice(), line)
+fn fill(seat: &mut Seat<'_>, alloc: Global, count: usize, line: &mut Line) {
+    match vec![in alloc; b'x'; count] {
+        Ok(bytes) => send(seat, bytes.as_slice(), line),
+        Err(_) => line.cut(),
+    }
 }
 
-fn tell_poll(seat: &Seat<'_>, alloc: Global, now: Now, line: &mut String) -> Result<(), NoMemory> {
+fn tell_poll(seat: &Seat<'_>, alloc: Global, now: Now, line: &mut Line) {
     let host = seat.host(alloc, now, false);
     poll(&seat.socket, &host, line)
 }
@@ -295,12 +276,7 @@ fn host_for(seat: &Seat<'_>, alloc: Global, now: Now, which: Counted) -> Host {
     }
 }
 
-fn connect(
-    seat: &mut Seat<'_>,
-    alloc: Global,
-    now: Now,
-    line: &mut String,
-) -> Result<(), NoMemory> {
+fn connect(seat: &mut Seat<'_>, alloc: Global, now: Now, line: &mut Line) {
     let mut host = seat.host(alloc, now, false);
     let (peer, here) = (seat.peer, IpListenEndpoint::from(seat.here));
     match &mut seat.socket {
@@ -308,41 +284,34 @@ fn connect(
             let answer = socket.connect(&mut host, peer, here);
             opened(answer, "connect-refused", line)
         }
-        _ => say(line, NO_SUCH_CALL),
+        _ => line.say(NO_SUCH_CALL),
     }
 }
 
 // `accepted N`, or the refusal.
-fn accepted<E: fmt::Display + Drop>(
-    answer: Result<usize, E>,
-    line: &mut String,
-) -> Result<(), NoMemory> {
+fn accepted<E: fmt::Display + Drop>(answer: Result<usize, E>, line: &mut Line) {
     match answer {
-        Ok(count) => write!(line, "accepted {count}")?,
-        Err(error) => write!(line, "send-refused {error}")?,
+        Ok(count) => line.put("accepted %", &[Part::Count(count)]),
+        Err(error) => {
+            line.say("send-refused ");
+            line.show(error);
+        }
     }
-    Ok(())
 }
 
 // Sends the bytes of a word.
-fn give(
-    seat: &mut Seat<'_>,
-    alloc: Global,
-    which: Bytes,
-    word: &[u8],
-    line: &mut String,
-) -> Result<(), NoMemory> {
+fn give(seat: &mut Seat<'_>, alloc: Global, which: Bytes, word: &[u8], line: &mut Line) {
     match which {
         Bytes::Send => send(seat, word, line),
-        Bytes::SendHex => {
-            let bytes = bytes_of_hex(alloc, word)?;
-            send(seat, bytes.as_slice(), line)
-        }
+        Bytes::SendHex => match bytes_of_hex(alloc, word) {
+            Ok(bytes) => send(seat, bytes.as_slice(), line),
+            Err(_) => line.cut(),
+        },
         Bytes::Write => write_text(seat, alloc, word, line),
     }
 }
 
-fn send(seat: &mut Seat<'_>, bytes: &[u8], line: &mut String) -> Result<(), NoMemory> {
+fn send(seat: &mut Seat<'_>, bytes: &[u8], line: &mut Line) {
     let (peer, len) = (seat.peer, bytes.len());
     match &mut seat.socket {
         Socket::Tcp(socket) => accepted(socket.send_slice(bytes), line),
@@ -376,62 +345,49 @@ fn send_raw(socket: &mut raw::Socket<'_>, bytes: &[u8]) -> Result<usize, raw::Se
 }
 
 // Writes a text by `write_str`, which keeps what fits.
-fn write_text(
-    seat: &mut Seat<'_>,
-    alloc: Global,
-    word: &[u8],
-    line: &mut String,
-) -> Result<(), NoMemory> {
+fn write_text(seat: &mut Seat<'_>, alloc: Global, word: &[u8], line: &mut Line) {
     let mut text = String::new(alloc);
-    write!(text, "{}", crate::shown::Ascii(word))?;
+    if write!(text, "{}", Ascii(word)).is_err() {
+        line.cut();
+        return;
+    }
     match &mut seat.socket {
-        Socket::Tcp(socket) => match socket.write_str(text.as_str()) {
-            Ok(()) => say(line, "done"),
-            Err(_) => say(line, "write-refused"),
-        },
-        _ => say(line, NO_SUCH_CALL),
+        Socket::Tcp(socket) => line.say(match socket.write_str(text.as_str()) {
+            Ok(()) => "done",
+            Err(_) => "write-refused",
+        }),
+        _ => line.say(NO_SUCH_CALL),
     }
 }
 
 // The bytes that were read, as many as there are, or the refusal.
-fn read_bytes<E: fmt::Display + Drop>(
-    answer: Result<usize, E>,
-    bytes: &[u8],
-    line: &mut String,
-) -> Result<(), NoMemory> {
+fn read_bytes<E: fmt::Display + Drop>(answer: Result<usize, E>, bytes: &[u8], line: &mut Line) {
     match answer {
-        Ok(count) => {
-            let shown = ReadBytes(&bytes[..count.min(bytes.len())]);
-            write!(line, "{shown}")?;
+        Ok(count) => line.show(ReadBytes(&bytes[..count.min(bytes.len())])),
+        Err(error) => {
+            line.say("recv-refused ");
+            line.show(error);
         }
-        Err(error) => write!(line, "recv-refused {error}")?,
     }
-    Ok(())
 }
 
 // What comes first, which is taken, or only looked at.
-fn read(
-    seat: &mut Seat<'_>,
-    alloc: Global,
-    size: usize,
-    takes: bool,
-    line: &mut String,
-) -> Result<(), NoMemory> {
-    let mut bytes = vec![in alloc; 0u8; size]?;
-    read_into(&mut seat.socket, bytes.as_mut_slice(), takes, line)
+fn read(seat: &mut Seat<'_>, alloc: Global, size: usize, takes: bool, line: &mut Line) {
+    match vec![in alloc; 0u8; size] {
+        Ok(bytes) => {
+            let mut bytes = bytes;
+            read_into(&mut seat.socket, bytes.as_mut_slice(), takes, line);
+        }
+        Err(_) => line.cut(),
+    }
 }
 
-fn read_into(
-    socket: &mut Socket<'_, Clock>,
-    out: &mut [u8],
-    takes: bool,
-    line: &mut String,
-) -> Result<(), NoMemory> {
+fn read_into(socket: &mut Socket<'_, Clock>, out: &mut [u8], takes: bool, line: &mut Line) {
     match socket {
         Socket::Tcp(socket) => read_bytes(read_tcp(socket, out, takes), out, line),
         Socket::Udp(socket) => came_udp(read_udp(socket, out, takes), out, line),
         Socket::Icmp(socket) if takes => came_icmp(socket.recv_slice(out), out, line),
-        Socket::Icmp(_) => say(line, NO_SUCH_CALL),
+        Socket::Icmp(_) => line.say(NO_SUCH_CALL),
         Socket::Raw(socket) => read_bytes(read_raw(socket, out, takes), out, line),
     }
 }
@@ -470,20 +426,15 @@ fn read_raw(
 }
 
 // The bytes of a datagram, where it came from, and to which address.
-fn came_udp(
-    answer: Result<(usize, UdpMetadata), udp::RecvError>,
-    bytes: &[u8],
-    line: &mut String,
-) -> Result<(), NoMemory> {
+fn came_udp(answer: Result<(usize, UdpMetadata), udp::RecvError>, bytes: &[u8], line: &mut Line) {
     match answer {
         Ok((count, meta)) => {
-            read_bytes::<udp::RecvError>(Ok(count), bytes, line)?;
-            write!(line, " from {meta}")?;
+            read_bytes::<udp::RecvError>(Ok(count), bytes, line);
+            line.say(" from ");
+            line.show(meta);
             if let Some(addr) = meta.local_address {
-                let addr = Address(addr);
-                write!(line, " to {addr}")?;
+                line.put(" to %", &[Part::Address(addr)]);
             }
-            Ok(())
         }
         Err(error) => read_bytes(Err(error), bytes, line),
     }
@@ -492,14 +443,12 @@ fn came_udp(
 fn came_icmp(
     answer: Result<(usize, ip_wire::IpAddress), icmp::RecvError>,
     bytes: &[u8],
-    line: &mut String,
-) -> Result<(), NoMemory> {
+    line: &mut Line,
+) {
     match answer {
         Ok((count, addr)) => {
-            read_bytes::<icmp::RecvError>(Ok(count), bytes, line)?;
-            let addr = Address(addr);
-            write!(line, " from {addr}")?;
-            Ok(())
+            read_bytes::<icmp::RecvError>(Ok(count), bytes, line);
+            line.put(" from %", &[Part::Address(addr)]);
         }
         Err(error) => read_bytes(Err(error), bytes, line),
     }

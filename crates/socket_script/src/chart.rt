@@ -1,10 +1,10 @@
 //! The chart of a drill: a row for each event, with what was asked and what came of it. At the left stands the lifeline
 //! of the sockets, at the right the wire.
 
-use crate::tally::{Unwritten, put};
+use crate::tally::Unwritten;
+use script_chart::drawing::{Drawing, Part};
 use script_chart::page::{Anchor, BETWEEN, HEAD, LINE, ROW, Row, TIME, WIDTH, lifeline};
 use script_chart::style::STYLE;
-use script_chart::text::Marked;
 use sock_pair::Side;
 use std::io::Write;
 
@@ -61,21 +61,18 @@ impl Chart {
     /// Begins the page of so many rows.
     pub fn open<W: Write>(&self, rows: usize, writer: &mut W) -> Result<(), Unwritten> {
         let height = rows.saturating_mul(ROW).saturating_add(HEAD + FOOT);
-        let begun = writeln!(
-            writer,
-            "<svg xmlns=\"http://www.w3.org/2000/svg\" width=\"{WIDTH}\" height=\"{height}\" \
-            viewBox=\"0 0 {WIDTH} {height}\">\n{STYLE}<rect class=\"page\" width=\"100%\" height=\"100%\"/>\n\
-            <text class=\"time\" x=\"{LINE}\" text-anchor=\"end\" y=\"94\">line</text>\n\
-            <text class=\"time\" x=\"{TIME}\" text-anchor=\"end\" y=\"94\">ms</text>"
-        );
-        written(begun.is_ok())?;
-        put_lifeline(SOCKETS, "sockets", height, writer)?;
-        put_lifeline(WIRE, "the wire", height, writer)
+        let mut out = Drawing::new(writer);
+        put_page(height, &mut out);
+        put_lifeline(SOCKETS, "sockets", height, &mut out);
+        put_lifeline(WIRE, "the wire", height, &mut out);
+        written(out.is_whole())
     }
 
     /// Ends the page.
     pub fn close<W: Write>(&self, writer: &mut W) -> Result<(), Unwritten> {
-        put(writer, b"</svg>\n")
+        let mut out = Drawing::new(writer);
+        out.text("</svg>\n");
+        written(out.is_whole())
     }
 
     /// The row in which an example of this name begins.
@@ -87,49 +84,71 @@ impl Chart {
             room: BETWEEN,
         };
         self.row = self.row.next();
-        put_text(place, b"", name, writer)
+        let mut out = Drawing::new(writer);
+        put_text(place, b"", name, &mut out);
+        written(out.is_whole())
     }
 
     /// The row of an event.
     pub fn draw<W: Write>(&mut self, drawn: &Drawn<'_>, writer: &mut W) -> Result<(), Unwritten> {
         let row = self.row;
         self.row = row.next();
-        put_rule(row, writer)?;
-        put_number(LINE, row, drawn.line, writer)?;
-        put_number(TIME, row, drawn.millis as usize, writer)?;
-        if drawn.came {
-            put_came(row, drawn, writer)
-        } else {
-            put_call(row, drawn, writer)
-        }
+        let mut out = Drawing::new(writer);
+        put_row(row, drawn, &mut out);
+        written(out.is_whole())
+    }
+}
+
+// The root element, the style sheet, and what stands above the columns.
+fn put_page<W: Write>(height: usize, out: &mut Drawing<'_, W>) {
+    let (width, height) = (Part::Place(WIDTH), Part::Place(height));
+    out.put(
+        "<svg xmlns=\"http://www.w3.org/2000/svg\" width=\"%\" height=\"%\" viewBox=\"0 0 % %\">\n",
+        &[width, height, width, height],
+    );
+    out.text(STYLE);
+    out.text("<rect class=\"page\" width=\"100%\" height=\"100%\"/>\n");
+    put_column(LINE, 94, Part::Text("line"), out);
+    put_column(TIME, 94, Part::Text("ms"), out);
+}
+
+fn put_row<W: Write>(row: Row, drawn: &Drawn<'_>, out: &mut Drawing<'_, W>) {
+    let line = row.first_line();
+    put_rule(row, out);
+    put_column(LINE, line, Part::Place(drawn.line), out);
+    put_column(TIME, line, Part::Number(u64::from(drawn.millis)), out);
+    if drawn.came {
+        put_came(row, drawn, out);
+    } else {
+        put_call(row, drawn, out);
     }
 }
 
 // A packet came, at the first line of the row; what was emitted as a reply goes out at the second.
-fn put_came<W: Write>(row: Row, drawn: &Drawn<'_>, writer: &mut W) -> Result<(), Unwritten> {
+fn put_came<W: Write>(row: Row, drawn: &Drawn<'_>, out: &mut Drawing<'_, W>) {
     let (first, second) = (row.first_line(), row.second_line());
-    put_arrow("sent", WIRE, first, writer)?;
-    put_text(between(first), drawn.name, drawn.values, writer)?;
+    put_arrow("sent", WIRE, first, out);
+    put_text(between(first), drawn.name, drawn.values, out);
     if is_emitted(drawn.answer) {
-        put_arrow("sent reply", SOCKETS, second, writer)?;
-        put_text(between(second), b"", drawn.answer, writer)?;
+        put_arrow("sent reply", SOCKETS, second, out);
+        put_text(between(second), b"", drawn.answer, out);
     } else {
-        put_text(beside("quiet", second), b"", drawn.answer, writer)?;
+        put_text(beside("quiet", second), b"", drawn.answer, out);
     }
-    put_state(beside("state", first), drawn.state, writer)
+    put_state(beside("state", first), drawn.state, out);
 }
 
 // A call stands beside the lifeline, and so does its answer, where that is no packet.
-fn put_call<W: Write>(row: Row, drawn: &Drawn<'_>, writer: &mut W) -> Result<(), Unwritten> {
+fn put_call<W: Write>(row: Row, drawn: &Drawn<'_>, out: &mut Drawing<'_, W>) {
     let (first, second) = (row.first_line(), row.second_line());
-    put_text(beside("call", first), drawn.name, drawn.values, writer)?;
+    put_text(beside("call", first), drawn.name, drawn.values, out);
     if is_emitted(drawn.answer) {
-        put_arrow("sent", SOCKETS, first, writer)?;
-        put_text(between(first), b"", drawn.answer, writer)?;
+        put_arrow("sent", SOCKETS, first, out);
+        put_text(between(first), b"", drawn.answer, out);
     } else if is_wide(drawn.answer.len(), BESIDE) {
-        put_text(between(first), b"", drawn.answer, writer)?;
+        put_text(between(first), b"", drawn.answer, out);
     } else {
-        put_text(beside("quiet", second), b"", drawn.answer, writer)?;
+        put_text(beside("quiet", second), b"", drawn.answer, out);
     }
     let place = Place {
         class: "label state",
@@ -137,7 +156,7 @@ fn put_call<W: Write>(row: Row, drawn: &Drawn<'_>, writer: &mut W) -> Result<(),
         y: second,
         room: BETWEEN,
     };
-    put_state(place, drawn.state, writer)
+    put_state(place, drawn.state, out);
 }
 
 // Whether a packet is printed in this answer.
@@ -166,14 +185,9 @@ fn beside(class: &str, y: usize) -> Place<'_> {
 }
 
 // Two texts, one behind the other, condensed where they are too long.
-fn put_text<W: Write>(
-    place: Place<'_>,
-    first: &[u8],
-    second: &[u8],
-    writer: &mut W,
-) -> Result<(), Unwritten> {
+fn put_text<W: Write>(place: Place<'_>, first: &[u8], second: &[u8], out: &mut Drawing<'_, W>) {
     if first.is_empty() && second.is_empty() {
-        return Ok(());
+        return;
     }
     let Place {
         class,
@@ -181,17 +195,17 @@ fn put_text<W: Write>(
         y,
         room,
     } = place;
-    let begun = write!(writer, "<text class=\"{class}\" {anchor} y=\"{y}\"");
-    written(begun.is_ok())?;
+    out.put(
+        "<text class=\"%\" % y=\"%\"",
+        &[Part::Text(class), Part::At(anchor), Part::Place(y)],
+    );
     if is_wide(first.len().saturating_add(second.len()), room) {
-        let condensed = write!(
-            writer,
-            " textLength=\"{room}\" lengthAdjust=\"spacingAndGlyphs\""
+        out.put(
+            " textLength=\"%\" lengthAdjust=\"spacingAndGlyphs\"",
+            &[Part::Place(room)],
         );
-        written(condensed.is_ok())?;
     }
-    let (first, second) = (Marked(first), Marked(second));
-    written(writeln!(writer, ">{first}{second}</text>").is_ok())
+    out.put(">%%</text>\n", &[Part::Marked(first), Part::Marked(second)]);
 }
 
 // Whether so many characters may be wider than this room, whatever the font: one is at most 37/60 of its size.
@@ -199,64 +213,49 @@ fn is_wide(count: usize, room: usize) -> bool {
     count.saturating_mul(37) / 5 > room
 }
 
-fn put_state<W: Write>(
-    place: Place<'_>,
-    state: Option<&'static str>,
-    writer: &mut W,
-) -> Result<(), Unwritten> {
-    match state {
-        Some(state) => put_text(place, b"", state.as_bytes(), writer),
-        None => Ok(()),
+fn put_state<W: Write>(place: Place<'_>, state: Option<&'static str>, out: &mut Drawing<'_, W>) {
+    if let Some(state) = state {
+        put_text(place, b"", state.as_bytes(), out);
     }
 }
 
 // An arrow under a line of text, from one side to the other.
-fn put_arrow<W: Write>(
-    class: &str,
-    from: Side,
-    line: usize,
-    writer: &mut W,
-) -> Result<(), Unwritten> {
-    let (start, end) = (lifeline(from), lifeline(from.other()));
-    let y = line.saturating_add(4);
-    written(writeln!(writer, "<path class=\"{class}\" d=\"M{start} {y}H{end}\"/>").is_ok())
+fn put_arrow<W: Write>(class: &str, from: Side, line: usize, out: &mut Drawing<'_, W>) {
+    out.put(
+        "<path class=\"%\" d=\"M% %H%\"/>\n",
+        &[
+            Part::Text(class),
+            Part::Place(lifeline(from)),
+            Part::Place(line.saturating_add(4)),
+            Part::Place(lifeline(from.other())),
+        ],
+    );
 }
 
 // A thin line above a row.
-fn put_rule<W: Write>(row: Row, writer: &mut W) -> Result<(), Unwritten> {
-    let y = row.edge();
-    written(writeln!(writer, "<path class=\"row\" d=\"M0 {y}H{WIDTH}\"/>").is_ok())
+fn put_rule<W: Write>(row: Row, out: &mut Drawing<'_, W>) {
+    out.put(
+        "<path class=\"row\" d=\"M0 %H%\"/>\n",
+        &[Part::Place(row.edge()), Part::Place(WIDTH)],
+    );
 }
 
-// A number of the columns at the left, which ends at `x`.
-fn put_number<W: Write>(
-    x: usize,
-    row: Row,
-    number: usize,
-    writer: &mut W,
-) -> Result<(), Unwritten> {
-    let y = row.first_line();
-    let put = writeln!(
-        writer,
-        "<text class=\"time\" x=\"{x}\" text-anchor=\"end\" y=\"{y}\">{number}</text>"
+// What stands in a column at the left, and ends at `x`.
+fn put_column<W: Write>(x: usize, y: usize, part: Part<'_>, out: &mut Drawing<'_, W>) {
+    out.put(
+        "<text class=\"time\" x=\"%\" text-anchor=\"end\" y=\"%\">%</text>\n",
+        &[Part::Place(x), Part::Place(y), part],
     );
-    written(put.is_ok())
 }
 
 // A lifeline, and the name above it.
-fn put_lifeline<W: Write>(
-    side: Side,
-    name: &str,
-    height: usize,
-    writer: &mut W,
-) -> Result<(), Unwritten> {
-    let x = lifeline(side);
-    let put = writeln!(
-        writer,
-        "<text class=\"name\" x=\"{x}\" y=\"72\">{name}</text>\n\
-        <path class=\"lifeline\" d=\"M{x} 82V{height}\"/>"
+fn put_lifeline<W: Write>(side: Side, name: &str, height: usize, out: &mut Drawing<'_, W>) {
+    let x = Part::Place(lifeline(side));
+    out.put(
+        "<text class=\"name\" x=\"%\" y=\"72\">%</text>\n\
+        <path class=\"lifeline\" d=\"M% 82V%\"/>\n",
+        &[x, Part::Text(name), x, Part::Place(height)],
     );
-    written(put.is_ok())
 }
 
 fn written(is_written: bool) -> Result<(), Unwritten> {

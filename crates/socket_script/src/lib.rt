@@ -6,6 +6,7 @@ mod capture;
 mod chart;
 mod clock;
 mod getters;
+mod line;
 mod memory;
 mod outbox;
 mod packet;

@@ -5,8 +5,9 @@ ghost use Rattle.socket_script.specs.Stops.{IfNoDrill};
 use crate::calls::perform;
 use crate::chart::{Chart, Drawn};
 use crate::clock::Clock;
-use crate::getters::{Served, state_name};
-use crate::memory::{Halt, NoMemory};
+use crate::getters::{served, state_name};
+use crate::line::Line;
+use crate::memory::Halt;
 use crate::packet::Packet;
 use crate::seat::{Now, Seat};
 use crate::storage::{Memory, socket_over};
@@ -17,8 +18,7 @@ use drill_lines::request::{Call, Counted, Expected, Request, Which};
 use drill_lines::room::Room;
 use smoltcp_socket::Socket;
 use sock_pair::script::ScriptError;
-use std::alloc::Global;
-use std::fmt::Write as _;
+use std::alloc::{AllocError, Global};
 use std::io::Write;
 
 /// Why there was no run, or why it ended before the end of the drill.
@@ -57,7 +57,7 @@ pub fn run<'t, W: Write>(
         reader: Reader::new(alloc, text),
         output: output_of(wanted, found.checks),
         tally: Tally::new(),
-        line: String::new(alloc),
+        line: Line::new(alloc),
         chart: Chart::new(),
     };
     match play_all(alloc, player, found.rows, writer) {
@@ -159,10 +159,14 @@ fn memory_of(alloc: Global, text: &[u8]) -> Result<Vec<Memory>, Halt> {
     Ok(memory)
 }
 
-fn add(alloc: Global, memory: &mut Vec<Memory>, room: Room) -> Result<(), NoMemory> {
-    let one = Memory::of(alloc, room)?;
-    memory.push(one)?;
-    Ok(())
+fn add(alloc: Global, memory: &mut Vec<Memory>, room: Room) -> Result<(), Halt> {
+    let Ok(one) = Memory::of(alloc, room) else {
+        return Err(Halt::Memory);
+    };
+    match memory.push(one) {
+        Ok(()) => Ok(()),
+        Err(_) => Err(Halt::Memory),
+    }
 }
 
 // Makes the sockets, and plays the lines.
@@ -191,7 +195,7 @@ struct Player<'t> {
     reader: Reader<'t>,
     output: Output,
     tally: Tally,
-    line: String,
+    line: Line,
     chart: Chart,
 }
 
@@ -247,7 +251,10 @@ impl<'t> Player<'t> {
             request => {
                 self.line.clear();
                 let before = sockets.state_of(&request);
-                sockets.perform(self.alloc, &request, &mut self.line)?;
+                sockets.perform(self.alloc, &request, &mut self.line);
+                if self.line.is_cut() {
+                    return Err(Halt::Memory);
+                }
                 self.print(sockets, numbered, before, writer)?;
             }
         }
@@ -307,8 +314,11 @@ impl<'t> Player<'t> {
         expected: &Expected<'_>,
         writer: &mut W,
     ) -> Result<(), Halt> {
-        let mut text = String::new(self.alloc);
-        sockets.tell(self.alloc, place, expected, &mut text)?;
+        let mut text = Line::new(self.alloc);
+        sockets.tell(self.alloc, place, expected, &mut text);
+        if text.is_cut() {
+            return Err(Halt::Memory);
+        }
         let word = match expected {
             Expected::State(word) | Expected::Poll(word) => word,
         };
@@ -379,33 +389,20 @@ impl Sockets<'_> {
     }
 
     // What a line asks for, and its answer as text.
-    fn perform(
-        &mut self,
-        alloc: Global,
-        request: &Request<'_>,
-        line: &mut String,
-    ) -> Result<(), NoMemory> {
+    fn perform(&mut self, alloc: Global, request: &Request<'_>, line: &mut Line) {
         match request {
             Request::Clock(millis) => self.now.millis = *millis,
             Request::Word(word) => self.now.word = *word,
-            Request::Call(place, call) => self.call(alloc, *place, call, line)?,
-            Request::Deliver(from, which, to) => self.deliver(alloc, *from, *which, *to, line)?,
+            Request::Call(place, call) => self.call(alloc, *place, call, line),
+            Request::Deliver(from, which, to) => self.deliver(alloc, *from, *which, *to, line),
             _ => {}
         }
-        Ok(())
     }
 
-    fn call(
-        &mut self,
-        alloc: Global,
-        place: usize,
-        call: &Call<'_>,
-        line: &mut String,
-    ) -> Result<(), NoMemory> {
+    fn call(&mut self, alloc: Global, place: usize, call: &Call<'_>, line: &mut Line) {
         let now = self.now_of(call);
-        match self.seats.get_mut(place) {
-            None => Ok(()),
-            Some(seat) => perform(seat, alloc, now, call, line),
+        if let Some(seat) = self.seats.get_mut(place) {
+            perform(seat, alloc, now, call, line);
         }
     }
 
@@ -427,22 +424,18 @@ impl Sockets<'_> {
         self.now
     }
 
-    fn deliver(
-        &mut self,
-        alloc: Global,
-        from: usize,
-        which: Which,
-        to: usize,
-        line: &mut String,
-    ) -> Result<(), NoMemory> {
-        let Some(packet) = self.sent_by(alloc, from, which)? else {
-            line.push_str("no-segment")?;
-            return Ok(());
-        };
+    fn deliver(&mut self, alloc: Global, from: usize, which: Which, to: usize, line: &mut Line) {
+        match self.sent_by(alloc, from, which) {
+            Err(_) => line.cut(),
+            Ok(None) => line.say("no-segment"),
+            Ok(Some(packet)) => self.hear(alloc, to, &packet, line),
+        }
+    }
+
+    fn hear(&mut self, alloc: Global, to: usize, packet: &Packet, line: &mut Line) {
         let now = self.now;
-        match self.seats.get_mut(to) {
-            None => Ok(()),
-            Some(seat) => hear(seat, alloc, now, &packet, line),
+        if let Some(seat) = self.seats.get_mut(to) {
+            hear(seat, alloc, now, packet, line);
         }
     }
 
@@ -452,7 +445,7 @@ impl Sockets<'_> {
         alloc: Global,
         from: usize,
         which: Which,
-    ) -> Result<Option<Packet>, NoMemory> {
+    ) -> Result<Option<Packet>, AllocError> {
         let Some(seat) = self.seats.get(from) else {
             return Ok(None);
         };
@@ -464,29 +457,24 @@ impl Sockets<'_> {
         };
         match packet {
             None => Ok(None),
-            Some(packet) => Ok(Some(packet.again(alloc)?)),
+            Some(packet) => match packet.again(alloc) {
+                Ok(packet) => Ok(Some(packet)),
+                Err(error) => Err(error),
+            },
         }
     }
 
     // What a socket says, as text.
-    fn tell(
-        &self,
-        alloc: Global,
-        place: usize,
-        expected: &Expected<'_>,
-        text: &mut String,
-    ) -> Result<(), NoMemory> {
+    fn tell(&self, alloc: Global, place: usize, expected: &Expected<'_>, text: &mut Line) {
         let Some(seat) = self.seats.get(place) else {
-            return Ok(());
+            return;
         };
         match expected {
-            Expected::State(_) => text.push_str(state_name(&seat.socket))?,
+            Expected::State(_) => text.say(state_name(&seat.socket)),
             Expected::Poll(_) => {
                 let host = seat.host(alloc, self.now, false);
-                let served = Served(seat.socket.poll_at(&host));
-                write!(text, "{served}")?;
+                served(seat.socket.poll_at(&host), text);
             }
         }
-        Ok(())
     }
 }

@@ -2,7 +2,8 @@
 
 use crate::capture::put_packet;
 use crate::clock::Clock;
-use crate::memory::{Halt, NoMemory};
+use crate::line::{Line, Part};
+use crate::memory::Halt;
 use crate::outbox::{Failed, Host, Moment, host};
 use crate::packet::{Kind, Packet};
 use crate::shown::Shown;
@@ -10,7 +11,6 @@ use control_wire::{IcmpRepr, TcpRepr, UdpRepr};
 use ip_wire::{Checksum, IpAddress, IpEndpoint, IpRepr, Ipv4Address, Ipv6Address};
 use smoltcp_socket::{Socket, icmp, raw, tcp, udp};
 use std::alloc::Global;
-use std::fmt::Write;
 use std::io;
 
 // Where a socket is and where its peer is, until a line says otherwise.
@@ -86,16 +86,16 @@ impl<'a> Seat<'a> {
     }
 
     /// Keeps a packet, and writes its number, counted from 1, and the packet.
-    pub fn keep(&mut self, packet: Packet, line: &mut String) -> Result<(), NoMemory> {
-        let number = self.sent.len().saturating_add(1);
-        let shown = Shown {
+    pub fn keep(&mut self, packet: Packet, line: &mut Line) {
+        line.put("% ", &[Part::Count(self.sent.len().saturating_add(1))]);
+        line.show(Shown {
             packet: &packet,
             here: self.here,
             peer: self.peer,
-        };
-        write!(line, "{number} {shown}")?;
-        self.sent.push(packet)?;
-        Ok(())
+        });
+        if self.sent.push(packet).is_err() {
+            line.cut();
+        }
     }
 
     /// Writes as records what came by hand and what was sent and is not written yet.
@@ -117,24 +117,19 @@ impl<'a> Seat<'a> {
     }
 
     /// Lets the socket emit at most one packet, and writes what came of it.
-    pub fn dispatch(&mut self, host: &mut Host, line: &mut String) -> Result<(), NoMemory> {
+    pub fn dispatch(&mut self, host: &mut Host, line: &mut Line) {
         let answer = dispatched(&mut self.socket, host);
         if host.outbox.is_out {
-            return Err(NoMemory);
+            line.cut();
         }
         match (answer, taken(host)) {
-            (Err(Failed), _) => {
-                line.push_str("emit-failed")?;
-            }
-            (Ok(()), None) => {
-                line.push_str("quiet")?;
-            }
+            (Err(Failed), _) => line.say("emit-failed"),
+            (Ok(()), None) => line.say("quiet"),
             (Ok(()), Some(packet)) => {
-                line.push_str("emitted ")?;
-                self.keep(packet, line)?;
+                line.say("emitted ");
+                self.keep(packet, line);
             }
         }
-        Ok(())
     }
 }
 

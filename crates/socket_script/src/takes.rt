@@ -1,7 +1,7 @@
 //! Packets that come to a socket, written by hand or emitted by another.
 
 use crate::clock::Clock;
-use crate::memory::NoMemory;
+use crate::line::Line;
 use crate::outbox::Host;
 use crate::packet::{Kind, Packet, header};
 use crate::seat::{Now, Seat};
@@ -13,25 +13,28 @@ use smoltcp_socket::{Context, Socket, icmp, raw, tcp, udp};
 use std::alloc::{AllocError, Global};
 
 /// A packet that is written by hand comes to the socket.
-pub fn take(
+pub fn take(seat: &mut Seat<'_>, alloc: Global, now: Now, fields: &Fields<'_>, line: &mut Line) {
+    match carried(alloc, fields) {
+        Ok(payload) => take_bytes(seat, alloc, now, fields, payload, line),
+        Err(_) => line.cut(),
+    }
+}
+
+fn take_bytes(
     seat: &mut Seat<'_>,
     alloc: Global,
     now: Now,
     fields: &Fields<'_>,
-    line: &mut String,
-) -> Result<(), NoMemory> {
+    payload: Vec<u8>,
+    line: &mut Line,
+) {
     let from = fields.from.unwrap_or(seat.peer);
     let to = fields.to.unwrap_or(seat.here);
-    let payload = carried(alloc, fields)?;
     match packet_of(&seat.socket, fields, from, to, payload) {
-        None => {
-            line.push_str("malformed")?;
-            Ok(())
-        }
+        None => line.say("malformed"),
         Some(packet) => {
-            hear(seat, alloc, now, &packet, line)?;
+            hear(seat, alloc, now, &packet, line);
             seat.came = Some(packet);
-            Ok(())
         }
     }
 }
@@ -104,26 +107,21 @@ fn segment(fields: &Fields<'_>, src_port: u16, dst_port: u16) -> TcpRepr<'static
 }
 
 /// A packet comes to the socket, and what came of it is written.
-pub fn hear(
-    seat: &mut Seat<'_>,
-    alloc: Global,
-    now: Now,
-    packet: &Packet,
-    line: &mut String,
-) -> Result<(), NoMemory> {
+pub fn hear(seat: &mut Seat<'_>, alloc: Global, now: Now, packet: &Packet, line: &mut Line) {
     let mut host = seat.host(alloc, now, false);
     let heard = heard_by(&mut seat.socket, &mut host, packet);
-    line.push_str(match heard.end {
+    line.say(match heard.end {
         End::Delivered => "delivered",
         End::NotAccepted => "not-accepted",
         End::Malformed => "malformed",
-    })?;
+    });
     if let Some((ip, reply)) = heard.reply {
-        line.push_str(" reply ")?;
-        let packet = Packet::of_segment(alloc, ip, &reply)?;
-        seat.keep(packet, line)?;
+        line.say(" reply ");
+        match Packet::of_segment(alloc, ip, &reply) {
+            Ok(packet) => seat.keep(packet, line),
+            Err(_) => line.cut(),
+        }
     }
-    Ok(())
 }
 
 // What becomes of a packet.
