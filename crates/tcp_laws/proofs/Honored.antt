@@ -1,23 +1,19 @@
 -- The free space's right edge only moves on, and no window that was told reaches beyond it.
-use Rattle.std.proofs.Common.{◌≡◌, ℕ, ◌+◌, ◌-◌, ◌*◌, ◌/◌, ◌<◌, ◌≤◌, ◌^◌, ◌⊎◌, inl, inr, Bool, true, false, ◌&&◌, ◌++◌, refl, sym, ap, subst, ◌∙◌, List, length, drop, replicate, Option, Some, None, Result, Ok, Err, is_ok, arith, length-append, div-mul-le_self, mul-le-mul_right, length-drop, min}
+use Rattle.std.proofs.Common.{◌≡◌, ℕ, ◌+◌, ◌-◌, ◌*◌, ◌/◌, ◌<◌, ◌≤◌, ◌^◌, inl, inr, Bool, true, false, ◌&&◌, ◌++◌, refl, sym, ap, subst, ◌∙◌, List, length, replicate, Option, Some, None, Result, Ok, Err, is_ok, arith, length-append, div-mul-le_self, mul-le-mul_right, length-drop}
 use Rattle.std.specs.Prelude.{if◌then◌else◌, ◌||◌}
 use Rattle.std.proofs.lemmas.Bool.{eq-eqb}
 use Rattle.std.proofs.lemmas.List.{length-replicate}
-use Rattle.net_base.specs.Ring.{Ring}
 use Rattle.control_wire.specs.Seq.{seq_add, seq_eq, seq_sub}
 use Rattle.control_wire.specs.Segment.{Segment}
 use Rattle.control_wire.specs.declared.seq_number.TcpSeqNumber.{TcpSeqNumber}
-use Rattle.sock_core.specs.Facts.{Facts}
-use Rattle.sock_core.specs.Received.{Received, handed_out, receiving, room_of}
+use Rattle.sock_core.specs.Received.{Received, handed_out, room_of}
 use Rattle.sock_core.specs.Seq.{is_before, is_not_after}
 use Rattle.sock_tcp.proofs.Lending.{first_within}
 use Rattle.sock_tcp.proofs.Windows.{accepted_end_small, accepted_start, accepted_start_small, not_far, window_width}
-use Rattle.sock_tcp.specs.Opening.{Listens, endpoints}
-use Rattle.sock_tcp.specs.Queue.{queue_of}
+use Rattle.sock_tcp.specs.Opening.{endpoints}
 use Rattle.sock_tcp.specs.Queues.{ReadsWithIf, fitting, may_recv, may_send, read_off, readable}
-use Rattle.sock_tcp.specs.Due.{window_field}
-use Rattle.sock_tcp.specs.Rfc.OwnWindow.{field_by, is_grown, kept_field, space_field, told_left}
-use Rattle.sock_tcp.specs.View.{View, fresh}
+use Rattle.sock_tcp.specs.Rfc.OwnWindow.{field_by, is_grown, kept_field, space_field}
+use Rattle.sock_tcp.specs.View.{View}
 use Rattle.sock_tcp.specs.Window.{accepted_window, honored_window, next_ack, space_end, starts_inside}
 use Rattle.sock_tcp.specs.declared.error.RecvError.{RecvError}
 use Rattle.sock_tcp.specs.declared.rules.Rules.{Rules}
@@ -26,10 +22,10 @@ use Rattle.sock_tcp.specs.declared.window.Window.{Window}
 use Rattle.tcp_laws.proofs.BytesAtPlaces.{closure_rx, dispatch_rx, listen_stays, no_start, queued_rx, refused}
 use Rattle.tcp_laws.proofs.Receiving.{only_appends}
 use Rattle.tcp_laws.proofs.SocketSteps.{Holds, holds_after, same_number, setting_leaves, step_keeps}
-use Rattle.tcp_laws.specs.Honored.{GoesOn, HasTold, Honors, Lasts, Stands, ToldWindowsAreHonored, width}
+use Rattle.tcp_laws.specs.Honored.{GoesOn, HasTold, Lasts, Stands, ToldWindowsAreHonored, width}
 use Rattle.tcp_laws.specs.Laws.{MayTake}
 use Rattle.tcp_laws.specs.SocketBytes.{begins}
-use Rattle.tcp_laws.specs.SocketRun.{Counts, Run, Step, any_taking, handed_slice, is_reset, listens_again, opens_listener, starting, taken_out, with_segment}
+use Rattle.tcp_laws.specs.SocketRun.{Counts, Step, any_taking, handed_slice, is_reset, listens_again, opens_listener, taken_out, with_segment}
 use Rattle.tcp_laws.specs.SocketRun.{Listen, Connect, SendSlice, Send, WriteStr, RecvSlice, Recv, Close, Abort, Set, Process, Dispatch}
 
 -- ---- what a call does to the room of the receive buffer, and to how many bytes were handed out
