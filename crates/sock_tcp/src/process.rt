@@ -222,11 +222,10 @@ impl<'a> ControlBlock<'a> {
         if !window.is_inside(number, length) {
             return self.refuse(cx, now, &window, ip_repr, repr);
         }
-        let control = window.counted_control(repr.control, number, length);
         let cut = window.cut(number, length);
         let bytes = cut.of(repr.payload);
         let taken = Taken {
-            control,
+            control: window.counted_control(repr.control, number, length),
             offset: cut.offset,
             bytes,
         };
