@@ -7,10 +7,12 @@ pub mod client;
 pub mod server;
 
 use crate::host::{FullHost, Moment, SOCKETS};
-use crate::trace::{Part, Trace};
+use crate::trace::Trace;
 use smoltcp_socket::tcp::State;
 use smoltcp_socket::wire::{IpListenEndpoint, IpProtocol};
 use smoltcp_socket::{Socket, tcp};
+use std::alloc::AllocError;
+use std::fmt::Write;
 
 /// The port of the echo server (RFC 862).
 pub const ECHO_PORT: u16 = 7;
@@ -33,7 +35,12 @@ const PLACES: usize = 4;
 /// What runs on a host.
 pub trait Application {
     /// Uses one of the host's sockets.
-    fn use_socket(&mut self, socket: &mut Socket<'_>, now: Moment, trace: &mut Trace);
+    fn use_socket(
+        &mut self,
+        socket: &mut Socket<'_>,
+        now: Moment,
+        trace: &mut Trace,
+    ) -> Result<(), AllocError>;
 }
 
 /// Asks an application: it uses the sockets of its host.
@@ -42,15 +49,16 @@ pub fn ask<A: Application>(
     host: &mut FullHost<'_>,
     now: Moment,
     trace: &mut Trace,
-) {
+) -> Result<(), AllocError> {
     for place in 0..SOCKETS {
         let Some(handle) = host.handle(place) else {
             continue;
         };
         if let Some(socket) = host.sockets.get_mut(handle) {
-            application.use_socket(socket, now, trace);
+            application.use_socket(socket, now, trace)?;
         }
     }
+    Ok(())
 }
 
 // A port, at every address of the host.
@@ -65,9 +73,10 @@ fn note_state(
     host: &str,
     now: u32,
     trace: &mut Trace,
-) {
+) -> Result<(), AllocError> {
     if socket.state() != *state {
         *state = socket.state();
-        trace.line(now, "%: %", &[Part::Text(host), Part::Text(state.name())]);
+        writeln!(trace.at(now)?, "{host}: {state}")?;
     }
+    Ok(())
 }

@@ -160,19 +160,8 @@ fn run<'a>(
     };
     client::open(&mut simulation.a);
     server::open(&mut simulation.b);
-    simulation.run();
-    if simulation.trace.is_cut() {
-        return Err(AllocError);
-    }
+    simulation.run()?;
     Ok(simulation.trace)
-}
-
-// Whether there was memory for a packet on the wire.
-fn carries(wire: &mut Wire, alloc: Global, packet: &[u8], arrival: u32) -> bool {
-    match Vec::from_slice(alloc, packet) {
-        Ok(packet) => wire.carry(packet, arrival).is_ok(),
-        Err(_) => false,
-    }
 }
 
 // The first whole millisecond that is not before the moment.
@@ -196,15 +185,11 @@ struct Simulation<S> {
 type FullSimulation<'a> = Simulation<SocketSet<'a>>;
 
 impl<'a> Simulation<SocketSet<'a>> {
-    // Goes from one moment at which something happens to the next, until nothing is left to do, or memory runs out.
-    // Between two rounds is a millisecond at least, so that a socket which always wants a dispatch does not keep the
-    // host at one moment.
-    fn run(&mut self) {
+    // Goes from one moment at which something happens to the next, until nothing is left to do. Between two rounds is a
+    // millisecond at least, so that a socket which always wants a dispatch does not keep the host at one moment.
+    fn run(&mut self) -> Result<(), AllocError> {
         for _ in 0..ROUNDS {
-            self.round();
-            if self.trace.is_cut() {
-                break;
-            }
+            self.round()?;
             let next = self.now.millis.saturating_add(1);
             match self.poll_at() {
                 PollAt::Now => self.now.millis = next,
@@ -212,72 +197,75 @@ impl<'a> Simulation<SocketSet<'a>> {
                 PollAt::Ingress => break,
             }
         }
+        Ok(())
     }
 
     // What happens now: packets arrive, the applications read and write, and the sockets emit what is due. A dispatch
     // may end a connection, so the applications then look again.
-    fn round(&mut self) {
-        self.receive();
-        self.run_applications();
-        self.emit();
-        self.run_applications();
+    fn round(&mut self) -> Result<(), AllocError> {
+        self.receive()?;
+        self.run_applications()?;
+        self.emit()?;
+        self.run_applications()
     }
 
     // Takes what has arrived off the wire.
-    fn receive(&mut self) {
+    fn receive(&mut self) -> Result<(), AllocError> {
         for _ in 0..ARRIVALS {
             match self.wire.arrived(self.now.millis) {
-                Some(packet) => self.deliver(packet.as_slice()),
+                Some(packet) => self.deliver(packet.as_slice())?,
                 None => break,
             }
         }
+        Ok(())
     }
 
     // A packet arrives at the host that it is for: each drops what is for the other. What answers it goes on the wire.
-    fn deliver(&mut self, packet: &[u8]) {
+    fn deliver(&mut self, packet: &[u8]) -> Result<(), AllocError> {
         let mut reply = [0u8; MTU];
         let count = self.a.receive(self.now, packet, &mut reply);
-        self.send(&reply[..count]);
+        self.send(&reply[..count])?;
         let count = self.b.receive(self.now, packet, &mut reply);
-        self.send(&reply[..count]);
+        self.send(&reply[..count])
     }
 
     // Puts what the sockets emit on the wire.
-    fn emit(&mut self) {
+    fn emit(&mut self) -> Result<(), AllocError> {
         let mut packet = [0u8; MTU];
         for _ in 0..EMISSIONS {
             let count = self.a.emit(self.now, &mut packet);
             if count == 0 {
                 break;
             }
-            self.send(&packet[..count]);
+            self.send(&packet[..count])?;
         }
         for _ in 0..EMISSIONS {
             let count = self.b.emit(self.now, &mut packet);
             if count == 0 {
                 break;
             }
-            self.send(&packet[..count]);
+            self.send(&packet[..count])?;
         }
+        Ok(())
     }
 
-    fn run_applications(&mut self) {
-        ask(&mut self.client, &mut self.a, self.now, &mut self.trace);
-        ask(&mut self.server, &mut self.b, self.now, &mut self.trace);
+    fn run_applications(&mut self) -> Result<(), AllocError> {
+        ask(&mut self.client, &mut self.a, self.now, &mut self.trace)?;
+        ask(&mut self.server, &mut self.b, self.now, &mut self.trace)
     }
 
     // Puts a packet on the wire; one of no bytes is none.
-    fn send(&mut self, packet: &[u8]) {
+    fn send(&mut self, packet: &[u8]) -> Result<(), AllocError> {
         if packet.is_empty() {
-            return;
+            return Ok(());
         }
         let arrival = self.wire.arrival(self.now.millis);
-        self.trace.packet(self.now.millis, packet, arrival);
+        self.trace.packet(self.now.millis, packet, arrival)?;
         if let Some(arrival) = arrival {
-            if !carries(&mut self.wire, self.now.alloc, packet, arrival) {
-                self.trace.cut();
-            }
+            let packet = Vec::from_slice(self.now.alloc, packet)?;
+            self.wire.carry(packet, arrival)?;
         }
+        Ok(())
     }
 
     // When something happens next.

@@ -6,7 +6,7 @@ use super::{
 use crate::context::{A, B};
 use crate::host::{FullHost, Host, Moment, SOCKETS};
 use crate::packet::icmp_bytes;
-use crate::trace::{Part, Trace};
+use crate::trace::Trace;
 use smoltcp_socket::tcp::State;
 use smoltcp_socket::time::Instant;
 use smoltcp_socket::udp::UdpMetadata;
@@ -14,7 +14,8 @@ use smoltcp_socket::wire::{
     ChecksumCapabilities, Icmpv4Repr, IpAddress, IpEndpoint, IpRepr, Ipv4Repr,
 };
 use smoltcp_socket::{PollAt, Socket, icmp, raw, tcp, udp};
-use std::alloc::Global;
+use std::alloc::{AllocError, Global};
+use std::fmt::Write;
 
 // The port that it connects from.
 const TCP_PORT: u16 = 49152;
@@ -68,7 +69,7 @@ pub fn open(host: &mut FullHost<'_>) {
 }
 
 /// The client: it sends a text to the echo server, asks for host b's name, pings it, and sends it one raw packet.
-#[derive(Drop)]
+#[derive(Debug, Drop)]
 pub struct Client {
     // the connection's state as it was seen last
     state: State,
@@ -87,12 +88,20 @@ pub struct Client {
 }
 
 impl Application for Client {
-    fn use_socket(&mut self, socket: &mut Socket<'_>, now: Moment, trace: &mut Trace) {
+    fn use_socket(
+        &mut self,
+        socket: &mut Socket<'_>,
+        now: Moment,
+        trace: &mut Trace,
+    ) -> Result<(), AllocError> {
         match socket {
             Socket::Tcp(socket) => self.run_tcp(socket, now, trace),
             Socket::Udp(socket) => self.ask_name(socket, now, trace),
             Socket::Icmp(socket) => self.ping(socket, now, trace),
-            Socket::Raw(socket) => self.send_raw(socket),
+            Socket::Raw(socket) => {
+                self.send_raw(socket);
+                Ok(())
+            }
         }
     }
 }
@@ -128,24 +137,25 @@ impl Client {
     }
 
     // Sends the text, reads what comes back, and closes when all of it is there.
-    fn run_tcp(&mut self, socket: &mut tcp::Socket<'_>, now: Moment, trace: &mut Trace) {
-        note_state(&mut self.state, socket, "a", now.millis, trace);
+    fn run_tcp(
+        &mut self,
+        socket: &mut tcp::Socket<'_>,
+        now: Moment,
+        trace: &mut Trace,
+    ) -> Result<(), AllocError> {
+        note_state(&mut self.state, socket, "a", now.millis, trace)?;
         self.send_piece(socket, now.millis);
-        self.read_echo(socket, now, trace);
+        self.read_echo(socket, now, trace)?;
         if self.state == State::Established && self.echoed.len() == TEXT.len() {
             socket.close();
-            self.compare_echo(now.millis, trace);
+            self.compare_echo(now.millis, trace)?;
         }
-        note_state(&mut self.state, socket, "a", now.millis, trace);
+        note_state(&mut self.state, socket, "a", now.millis, trace)
     }
 
-    fn compare_echo(&self, now: u32, trace: &mut Trace) {
-        let same = if self.echoed.as_slice() == TEXT {
-            "true"
-        } else {
-            "false"
-        };
-        trace.line(now, "a: all came back, the same: %", &[Part::Text(same)]);
+    fn compare_echo(&self, now: u32, trace: &mut Trace) -> Result<(), AllocError> {
+        let same = self.echoed.as_slice() == TEXT;
+        writeln!(trace.at(now)?, "a: all came back, the same: {same}")
     }
 
     fn send_piece(&mut self, socket: &mut tcp::Socket<'_>, now: u32) {
@@ -158,29 +168,32 @@ impl Client {
         }
     }
 
-    fn read_echo(&mut self, socket: &mut tcp::Socket<'_>, now: Moment, trace: &mut Trace) {
+    fn read_echo(
+        &mut self,
+        socket: &mut tcp::Socket<'_>,
+        now: Moment,
+        trace: &mut Trace,
+    ) -> Result<(), AllocError> {
         let mut bytes = [0u8; READ];
         if socket.can_recv() {
             if let Ok(count) = socket.recv_slice(&mut bytes) {
-                self.take_echo(&bytes[..count], now, trace);
+                self.echoed.extend_from_slice(&bytes[..count])?;
+                let text = String::from_utf8_lossy(now.alloc, &bytes[..count])?;
+                writeln!(trace.at(now.millis)?, "a: echo {text:?}")?;
             }
         }
-    }
-
-    fn take_echo(&mut self, bytes: &[u8], now: Moment, trace: &mut Trace) {
-        if self.echoed.extend_from_slice(bytes).is_err() {
-            trace.cut();
-        }
-        match String::from_utf8_lossy(now.alloc, bytes) {
-            Ok(text) => trace.line(now.millis, "a: echo %", &[Part::Quoted(text.as_str())]),
-            Err(_) => trace.cut(),
-        }
+        Ok(())
     }
 
     // Asks for the name until there is an answer.
-    fn ask_name(&mut self, socket: &mut udp::Socket<'_>, now: Moment, trace: &mut Trace) {
+    fn ask_name(
+        &mut self,
+        socket: &mut udp::Socket<'_>,
+        now: Moment,
+        trace: &mut Trace,
+    ) -> Result<(), AllocError> {
         for _ in 0..PLACES {
-            self.read_name(socket, now, trace);
+            self.read_name(socket, now, trace)?;
         }
         match self.next_question {
             Some(at) if at <= now.millis => {
@@ -193,20 +206,33 @@ impl Client {
             }
             _ => {}
         }
+        Ok(())
     }
 
-    fn read_name(&mut self, socket: &mut udp::Socket<'_>, now: Moment, trace: &mut Trace) {
+    fn read_name(
+        &mut self,
+        socket: &mut udp::Socket<'_>,
+        now: Moment,
+        trace: &mut Trace,
+    ) -> Result<(), AllocError> {
         let mut bytes = [0u8; READ];
         if let Ok((count, from)) = socket.recv_slice(&mut bytes) {
-            show_name(&bytes[..count], from, now, trace);
+            let text = String::from_utf8_lossy(now.alloc, &bytes[..count])?;
+            writeln!(trace.at(now.millis)?, "a: {from} answers {text:?}")?;
             self.next_question = None;
         }
+        Ok(())
     }
 
     // Shows the answers to its pings, and sends the next one when its time has come.
-    fn ping(&mut self, socket: &mut icmp::Socket<'_>, now: Moment, trace: &mut Trace) {
+    fn ping(
+        &mut self,
+        socket: &mut icmp::Socket<'_>,
+        now: Moment,
+        trace: &mut Trace,
+    ) -> Result<(), AllocError> {
         for _ in 0..PLACES {
-            read_pong(socket, now.millis, trace);
+            read_pong(socket, now.millis, trace)?;
         }
         if self.pings < PINGS && self.next_ping <= now.millis {
             self.pings += 1;
@@ -216,13 +242,10 @@ impl Client {
                 seq_no: self.pings,
                 body: b"ping",
             };
-            match icmp_bytes(now.alloc, &request) {
-                Ok(message) => {
-                    let _ = socket.send_slice(message.as_slice(), IpAddress::Ipv4(B));
-                }
-                Err(_) => trace.cut(),
-            }
+            let message = icmp_bytes(now.alloc, &request)?;
+            let _ = socket.send_slice(message.as_slice(), IpAddress::Ipv4(B));
         }
+        Ok(())
     }
 
     // Sends one packet of a protocol of its own: a raw socket is given the IP header too.
@@ -244,30 +267,16 @@ impl Client {
     }
 }
 
-fn show_name(bytes: &[u8], from: UdpMetadata, now: Moment, trace: &mut Trace) {
-    match String::from_utf8_lossy(now.alloc, bytes) {
-        Ok(text) => trace.line(
-            now.millis,
-            "a: % answers %",
-            &[Part::From(from), Part::Quoted(text.as_str())],
-        ),
-        Err(_) => trace.cut(),
-    }
-}
-
 // Shows the next answer to a ping.
-fn read_pong(socket: &mut icmp::Socket<'_>, now: u32, trace: &mut Trace) {
+fn read_pong(socket: &mut icmp::Socket<'_>, now: u32, trace: &mut Trace) -> Result<(), AllocError> {
     let mut bytes = [0u8; READ];
     if let Ok((count, _)) = socket.recv_slice(&mut bytes) {
         let message = Icmpv4Repr::parse(&bytes[..count], &ChecksumCapabilities::default());
         if let Ok(Icmpv4Repr::EchoReply { seq_no, .. }) = message {
-            trace.line(
-                now,
-                "a: ping % is answered",
-                &[Part::Number(u32::from(seq_no))],
-            );
+            writeln!(trace.at(now)?, "a: ping {seq_no} is answered")?;
         }
     }
+    Ok(())
 }
 
 fn moment(millis: u32) -> PollAt {

@@ -2,9 +2,11 @@
 
 use super::{Application, ECHO_PORT, NAME_PORT, PLACES, READ, note_state, port};
 use crate::host::{FullHost, Moment, SOCKETS};
-use crate::trace::{Part, Trace};
+use crate::trace::Trace;
 use smoltcp_socket::tcp::State;
 use smoltcp_socket::{Socket, raw, tcp, udp};
+use std::alloc::AllocError;
+use std::fmt::Write;
 
 /// Opens the servers' sockets on host b.
 pub fn open(host: &mut FullHost<'_>) {
@@ -26,18 +28,23 @@ pub fn open(host: &mut FullHost<'_>) {
 
 /// The servers: they echo what comes over TCP, tell the host's name over UDP, and show raw packets. Pings are answered
 /// by the host itself.
-#[derive(Drop)]
+#[derive(Debug, Drop)]
 pub struct Server {
     // the connection's state as it was seen last
     state: State,
 }
 
 impl Application for Server {
-    fn use_socket(&mut self, socket: &mut Socket<'_>, now: Moment, trace: &mut Trace) {
+    fn use_socket(
+        &mut self,
+        socket: &mut Socket<'_>,
+        now: Moment,
+        trace: &mut Trace,
+    ) -> Result<(), AllocError> {
         match socket {
             Socket::Tcp(socket) => self.echo(socket, now, trace),
             Socket::Udp(socket) => tell_name(socket, now, trace),
-            Socket::Icmp(_) => {}
+            Socket::Icmp(_) => Ok(()),
             Socket::Raw(socket) => show_packets(socket, now, trace),
         }
     }
@@ -52,13 +59,18 @@ impl Server {
     }
 
     // Sends back what has come, as far as there is room, and closes when the client has closed and nothing is left.
-    fn echo(&mut self, socket: &mut tcp::Socket<'_>, now: Moment, trace: &mut Trace) {
-        note_state(&mut self.state, socket, "b", now.millis, trace);
+    fn echo(
+        &mut self,
+        socket: &mut tcp::Socket<'_>,
+        now: Moment,
+        trace: &mut Trace,
+    ) -> Result<(), AllocError> {
+        note_state(&mut self.state, socket, "b", now.millis, trace)?;
         send_back(socket);
         if self.state == State::CloseWait && !socket.can_recv() {
             socket.close();
         }
-        note_state(&mut self.state, socket, "b", now.millis, trace);
+        note_state(&mut self.state, socket, "b", now.millis, trace)
     }
 }
 
@@ -73,26 +85,32 @@ fn send_back(socket: &mut tcp::Socket<'_>) {
 }
 
 // Answers every question with the name.
-fn tell_name(socket: &mut udp::Socket<'_>, now: Moment, trace: &mut Trace) {
+fn tell_name(
+    socket: &mut udp::Socket<'_>,
+    now: Moment,
+    trace: &mut Trace,
+) -> Result<(), AllocError> {
     let mut bytes = [0u8; READ];
     for _ in 0..PLACES {
         if let Ok((_, from)) = socket.recv_slice(&mut bytes) {
-            trace.line(now.millis, "b: % asks for the name", &[Part::From(from)]);
+            writeln!(trace.at(now.millis)?, "b: {from} asks for the name")?;
             let _ = socket.send_slice(b"host b", from);
         }
     }
+    Ok(())
 }
 
 // Shows each packet, which comes with its header.
-fn show_packets(socket: &mut raw::Socket<'_>, now: Moment, trace: &mut Trace) {
+fn show_packets(
+    socket: &mut raw::Socket<'_>,
+    now: Moment,
+    trace: &mut Trace,
+) -> Result<(), AllocError> {
     let mut bytes = [0u8; READ];
     for _ in 0..PLACES {
         if let Ok(count) = socket.recv_slice(&mut bytes) {
-            trace.line(
-                now.millis,
-                "b: a raw packet of % bytes",
-                &[Part::Count(count)],
-            );
+            writeln!(trace.at(now.millis)?, "b: a raw packet of {count} bytes")?;
         }
     }
+    Ok(())
 }
