@@ -4,11 +4,12 @@
 //! that stand again further down, come last, so that no arrow strikes through one; all that is kept for them is where
 //! each segment departed.
 
+mod ends;
+
 use crate::arrow::{Arrow, Ending};
 use crate::call::Call;
 use crate::drawing::{Drawing, Part};
 use crate::history::Step;
-use crate::label::{Label, Name};
 use crate::marks::{Mark, Marker};
 use crate::numbers::Numbers;
 use crate::page::{
@@ -480,75 +481,6 @@ impl<W: Write> Chart<'_, '_, W> {
             "<text class=\"time\" x=\"%\" text-anchor=\"end\" y=\"%\">%</text>\n",
             &[Part::Place(x), Part::Place(y), number],
         );
-    }
-
-    // Draws the segments that never came.
-    fn lost(&mut self) {
-        for index in 0..self.segments.len() {
-            self.lost_at(index);
-        }
-    }
-
-    fn lost_at(&mut self, index: usize) {
-        if let (Some(departure), Some(segment)) = (
-            self.departures.get(index),
-            self.segments.get(index),
-        ) {
-            if !departure.arrived {
-                let arrow = Arrow {
-                    from: segment.from,
-                    departure: departure.row.departure(),
-                    ending: Ending::Lost,
-                    reply: departure.reply,
-                    again: false,
-                };
-                arrow.put(&mut self.out);
-            }
-        }
-    }
-
-    // The names of the sides, after each screen.
-    fn names(&mut self) {
-        let mut row = Row::FIRST;
-        for index in 1..self.rows {
-            row = row.next();
-            if index % SCREEN == 0 {
-                let y = row.label();
-                self.name(Side::A, y);
-                self.name(Side::B, y);
-                row = row.next();
-            }
-        }
-    }
-
-    fn name(&mut self, side: Side, y: usize) {
-        let name = Name {
-            name: name(side),
-            x: lifeline(side),
-            y,
-        };
-        name.put(&mut self.out);
-    }
-
-    fn labels(&mut self) {
-        for index in 0..self.segments.len() {
-            self.label(index);
-        }
-    }
-
-    fn label(&mut self, index: usize) {
-        if let (Some(departure), Some(segment)) = (
-            self.departures.get(index),
-            self.segments.get(index),
-        ) {
-            let label = Label {
-                index,
-                segment,
-                numbers: self.numbers,
-                y: departure.row.label(),
-            };
-            label.put(&mut self.out);
-        }
     }
 }
 

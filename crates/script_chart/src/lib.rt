@@ -6,6 +6,7 @@ mod axis;
 mod call;
 mod chart;
 pub mod drawing;
+mod heard;
 mod history;
 mod label;
 mod marks;

@@ -5,10 +5,10 @@
 
 use crate::axis::Axis;
 use crate::drawing::{Drawing, Part};
+use crate::heard::{Heard, is_reset};
 use crate::history::Step;
 use crate::marks::{Mark, Marker, length};
 use crate::moments::{Time, last_moment};
-use crate::numbers::Numbers;
 use crate::page::name;
 use crate::style::{SEQUENCE_LEGEND, SEQUENCE_STYLE};
 use control_wire::TcpControl;
@@ -45,17 +45,6 @@ struct Picture<'w, 'h, W> {
     number: Axis,
 }
 
-// What happened, as one side sees it.
-#[derive(Clone, Copy)]
-struct Heard<'h> {
-    segments: &'h [Segment],
-    side: Side,
-    // The number of the side's SYN.
-    first: u32,
-    // How far the other side's windows are shifted.
-    shift: u8,
-}
-
 /// Draws the numbers of this side, counted from its SYN. Where there is no memory to begin, nothing is written.
 pub fn draw<W: Write>(
     alloc: Global,
@@ -67,18 +56,13 @@ pub fn draw<W: Write>(
     let Ok(arrived) = arrivals(alloc, steps, segments.len()) else {
         return End::Memory;
     };
-    let heard = Heard {
-        segments,
-        side,
-        first: Numbers::relative(segments).first(side).unwrap_or(0),
-        shift: shift(segments, side),
-    };
+    let heard = Heard::of(segments, side);
     let mut picture = Picture {
         out: Drawing::new(out),
         heard,
         arrived,
         time: Time::of(steps, LEFT, RIGHT),
-        number: heard.number_axis(steps),
+        number: number_axis(&heard, steps),
     };
     picture.draw(steps);
     if picture.out.is_whole() {
@@ -101,112 +85,15 @@ fn arrivals(alloc: Global, steps: &[Step<'_>], count: usize) -> Result<Vec<bool>
     Ok(arrived)
 }
 
-// How far the windows that a side hears of are shifted: by the other's scale, where both sides have one (RFC 7323,
-// section 2.2).
-fn shift(segments: &[Segment], side: Side) -> u8 {
-    match (scale(segments, side), scale(segments, side.other())) {
-        (Some(_), Some(scale)) => scale.min(14),
-        _ => 0,
-    }
-}
-
-// The window scale of a side's SYN.
-fn scale(segments: &[Segment], side: Side) -> Option<u8> {
-    for segment in segments {
-        if segment.from == side && segment.header.repr.control == TcpControl::Syn {
-            return segment.header.repr.window_scale;
-        }
-    }
-    None
-}
-
-// Whether the segment of this index is an RST of this side.
-fn is_reset(segments: &[Segment], index: Option<usize>, side: Side) -> bool {
-    let Some(index) = index else {
-        return false;
-    };
-    match segments.get(index) {
-        Some(segment) => segment.from == side && segment.header.repr.control == TcpControl::Rst,
-        None => false,
-    }
-}
-
-impl Heard<'_> {
-    // How many numbers behind the side's SYN this one is.
-    fn offset(&self, number: u32) -> u64 {
-        u64::from(number.wrapping_sub(self.first))
-    }
-
-    // The segment that a step delivered to this side, with its acknowledgement. A reset opens and shuts no window.
-    fn heard(&self, step: &Step<'_>) -> Option<(&Segment, u64)> {
-        let Some(index) = step.delivered() else {
-            return None;
-        };
-        let Some(segment) = self.segments.get(index) else {
-            return None;
-        };
-        let Some(ack) = segment.header.repr.ack_number else {
-            return None;
-        };
-        if segment.from == self.side || segment.header.repr.control == TcpControl::Rst {
-            return None;
-        }
-        Some((segment, self.offset(ack.0)))
-    }
-
-    // The moment of such a step, beside what it delivered.
-    fn arrival(&self, step: &Step<'_>) -> Option<(u64, &Segment, u64)> {
-        match (step.millis(), self.heard(step)) {
-            (Some(millis), Some((segment, ack))) => Some((millis, segment, ack)),
-            _ => None,
-        }
-    }
-
-    // The window of such a segment, in bytes.
-    fn window(&self, segment: &Segment) -> u64 {
-        let window = u64::from(segment.header.repr.window_len);
-        match segment.header.repr.control {
-            TcpControl::Syn => window,
-            _ => window.saturating_mul(1u64 << u32::from(self.shift.min(14))),
-        }
-    }
-
-    // All numbers that were sent, and those that the window let out, up to twice as many.
-    fn number_axis(&self, steps: &[Step<'_>]) -> Axis {
-        let sent = self.highest_sent();
-        let edge = self.highest_edge(steps).min(sent.saturating_mul(2));
-        Axis {
-            first: 0,
-            last: sent.max(edge),
-            from: LOWEST,
-            to: TOP,
-        }
-    }
-
-    fn highest_sent(&self) -> u64 {
-        let mut highest = 0;
-        for segment in self.segments {
-            if segment.from == self.side && length(segment) > 0 {
-                let end = segment
-                    .header
-                    .repr
-                    .seq_number
-                    .0
-                    .wrapping_add(length(segment));
-                highest = highest.max(self.offset(end));
-            }
-        }
-        highest
-    }
-
-    fn highest_edge(&self, steps: &[Step<'_>]) -> u64 {
-        let mut highest = 0;
-        for step in steps {
-            if let Some((segment, ack)) = self.heard(step) {
-                highest = highest.max(ack.saturating_add(self.window(segment)));
-            }
-        }
-        highest
+// All numbers that were sent, and those that the window let out, up to twice as many.
+fn number_axis(heard: &Heard<'_>, steps: &[Step<'_>]) -> Axis {
+    let sent = heard.highest_sent();
+    let edge = heard.highest_edge(steps).min(sent.saturating_mul(2));
+    Axis {
+        first: 0,
+        last: sent.max(edge),
+        from: LOWEST,
+        to: TOP,
     }
 }
 
