@@ -205,7 +205,8 @@ fn put_text<W: Write>(place: Place<'_>, first: &[u8], second: &[u8], out: &mut D
             &[Part::Place(room)],
         );
     }
-    out.put(">%%</text>\n", &[Part::Marked(first), Part::Marked(second)]);
+    out.put(">%", &[Part::Marked(first)]);
+    out.put("%</text>\n", &[Part::Marked(second)]);
 }
 
 // Whether so many characters may be wider than this room, whatever the font: one is at most 37/60 of its size.
