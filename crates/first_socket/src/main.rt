@@ -30,14 +30,14 @@ fn main(rt: HostRuntime) -> ExitCode {
     let (mut rx_b, mut tx_b) = ([0u8; 64], [0u8; 64]);
     let client = tcp::Socket::new(RingBuffer::new(&mut rx_a), RingBuffer::new(&mut tx_a));
     let server = tcp::Socket::new(RingBuffer::new(&mut rx_b), RingBuffer::new(&mut tx_b));
-    match (host(&rt, CLIENT, client), host(&rt, SERVER, server)) {
+    match (start(&rt, CLIENT, client), start(&rt, SERVER, server)) {
         (Ok(mut client), Ok(mut server)) => run(&rt, &mut client, &mut server),
         _ => ExitCode::FAILURE,
     }
 }
 
 // 2. A host: its address, its secret, which one on a network draws anew at each start, and its socket.
-fn host<'a>(
+fn start<'a>(
     rt: &HostRuntime,
     address: IpAddress,
     socket: tcp::Socket<'a>,

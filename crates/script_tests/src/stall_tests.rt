@@ -110,6 +110,75 @@ fn no_stall_sleeps_by_the_rules_of_the_rfcs(rt: HostRuntime) -> Result<(), Fail>
     Ok(())
 }
 
+// What goes on from there: the side sends of its own, and all that it sends then arrives.
+const FIN_GOES: &str = "deliver 5 5000 0\n";
+
+const WINDOW_GOES: &str = "dispatch a 10000\ndeliver 7 10000 0\ndispatch b 11000\n\
+    deliver 8 11000 0\ndispatch a 11000\ndeliver 9 11000 0\n";
+
+const PROBE_GOES: &str = "deliver 11 5000 0\n";
+
+const SYN_GOES: &str = "deliver 4 5000 0\ndeliver 5 5000 0\n";
+
+const LAST_ACK_GOES: &str = "dispatch a 10000\ndeliver 10 10000 0\ndispatch b 11000\n\
+    deliver 11 11000 0\ndispatch a 11000\ndeliver 12 11000 0\ndispatch b 12000\ndeliver 13 12000 0\n";
+
+// As `stall_empty_probe`, whose probes have a byte by these rules.
+const EMPTY_PROBE: &str =
+    "send a z\ndispatch a 10\ndeliver 3 20 0\nrecv b 1\ndispatch b 40\ndeliver 4 50 0\n\
+    send a abcdefgh\ndispatch a 60\nsend a ijk\ndeliver 3 70 0\ndeliver 6 71 0\ndeliver 6 72 0\n\
+    deliver 6 73 0\ndispatch a 80\ndeliver 5 90 0\ndispatch b 100\ndeliver 8 110 0\nrecv b 8\n\
+    dispatch b 120\ndispatch a 5000\n";
+
+const EMPTY_PROBE_GOES: &str = "deliver 10 5000 0\ndispatch b 6000\ndeliver 11 6000 0\n\
+    dispatch a 6000\ndeliver 12 6000 0\n";
+
+// As `endless_acks`, where nothing goes out without end by these rules.
+const ENDLESS: &str = "send a abcde\ndispatch a 0\ndeliver 3 0 0\ndispatch b 10\ndeliver 4 10 0\n\
+    close a\nrecv b 1\ndispatch b 10\ndispatch a 1010\n";
+
+const ENDLESS_GOES: &str = "deliver 5 1010 0\ndispatch b 1020\ndeliver 6 1020 0\ndispatch a 3010\n\
+    dispatch a 3010\ndispatch a 3010\nclose b\ndispatch b 3020\ndeliver 7 3020 0\n";
+
+// How many bytes of A's came to B, and the state of A, once the lines were played by the RFCs' rules of both sides.
+fn comes_to(
+    pair: &mut Pair<'_>,
+    alloc: Global,
+    lines: (&str, &str, &str),
+) -> Result<(u64, State), Fail> {
+    let text = format!(in alloc;
+        "pair 1 1 1 1 -\nrules a rfc\nrules b rfc\n{}{}{}",
+        lines.0, lines.1, lines.2
+    )?;
+    plays(pair, alloc, text.as_str())?;
+    Ok((pair.taken(Side::B), pair.socket(Side::A).state()))
+}
+
+// By the rules that each is cured by in docs/RULES.md, all bytes arrive, and connections that were closed end.
+#[test]
+fn each_stall_goes_on_by_the_rules_of_the_rfcs(rt: HostRuntime) -> Result<(), Fail> {
+    let stalls = [
+        (64, (OPENING, FIN, FIN_GOES), (0, State::CloseWait)),
+        (4, (OPENING, WINDOW, WINDOW_GOES), (7, State::Established)),
+        (8, (OPENING, PROBE, PROBE_GOES), (12, State::Established)),
+        (64, ("", SYN, SYN_GOES), (0, State::Established)),
+        (4, (OPENING, LAST_ACK, LAST_ACK_GOES), (7, State::Closed)),
+        (
+            8,
+            (OPENING, EMPTY_PROBE, EMPTY_PROBE_GOES),
+            (12, State::Established),
+        ),
+        (4, (OPENING, ENDLESS, ENDLESS_GOES), (5, State::TimeWait)),
+    ];
+    for (window, lines, wanted) in stalls {
+        let mut room = Room::new();
+        let mut pair = room.narrow_pair(rt.alloc(), window);
+        let came = comes_to(&mut pair, rt.alloc(), lines)?;
+        assert!(rt; came == wanted);
+    }
+    Ok(())
+}
+
 fn second() -> Interval {
     Interval::new(Some(Duration::from_secs(1)))
 }
