@@ -30,33 +30,45 @@ fn main(rt: HostRuntime) -> ExitCode {
     let (mut rx_b, mut tx_b) = ([0u8; 64], [0u8; 64]);
     let client = tcp::Socket::new(RingBuffer::new(&mut rx_a), RingBuffer::new(&mut tx_a));
     let server = tcp::Socket::new(RingBuffer::new(&mut rx_b), RingBuffer::new(&mut tx_b));
-    match (start(&rt, CLIENT, client), start(&rt, SERVER, server)) {
-        (Ok(mut client), Ok(mut server)) => run(&rt, &mut client, &mut server),
-        _ => ExitCode::FAILURE,
+    match start(&rt, client, server) {
+        Ok(code) => code,
+        Err(_) => ExitCode::FAILURE,
     }
 }
 
-// 2. A host: its address, its secret, which one on a network draws anew at each start, and its socket.
-fn start<'a>(
+fn start(
     rt: &HostRuntime,
-    address: IpAddress,
-    socket: tcp::Socket<'a>,
-) -> Result<Host<SocketSet<'a>>, AllocError> {
-    let cidr = IpCidr {
-        address,
-        prefix_len: 24,
-    };
-    let addresses = Vec::from_array(rt.alloc(), [cidr])?;
-    let mut sockets = SocketSet::new(rt.alloc(), 1)?;
-    let Ok(handle) = sockets.add(Socket::Tcp(socket)) else {
-        return Err(AllocError);
-    };
-    Ok(Host {
-        interface: Interface::new(addresses, Secret::new([7; 32])),
-        sockets,
-        handle,
-        link: Link::new(),
-    })
+    client: tcp::Socket<'_>,
+    server: tcp::Socket<'_>,
+) -> Result<ExitCode, AllocError> {
+    let mut client = Host::new(rt, CLIENT, client)?;
+    let mut server = Host::new(rt, SERVER, server)?;
+    Ok(run(rt, &mut client, &mut server))
+}
+
+// 2. A host: its address, its secret, which one on a network draws anew at each start, and its socket.
+impl<'a> Host<SocketSet<'a>> {
+    fn new(
+        rt: &HostRuntime,
+        address: IpAddress,
+        socket: tcp::Socket<'a>,
+    ) -> Result<Host<SocketSet<'a>>, AllocError> {
+        let cidr = IpCidr {
+            address,
+            prefix_len: 24,
+        };
+        let addresses = Vec::from_array(rt.alloc(), [cidr])?;
+        let mut sockets = SocketSet::new(rt.alloc(), 1)?;
+        let Ok(handle) = sockets.add(Socket::Tcp(socket)) else {
+            return Err(AllocError);
+        };
+        Ok(Host {
+            interface: Interface::new(addresses, Secret::new([7; 32])),
+            sockets,
+            handle,
+            link: Link::new(),
+        })
+    }
 }
 
 // 3. The server listens, the client connects, and time passes until both are closed.
@@ -72,10 +84,11 @@ fn run(rt: &HostRuntime, a: &mut Host<SocketSet<'_>>, b: &mut Host<SocketSet<'_>
     if let Some(socket) = b.sockets.tcp_mut(b.handle) {
         let _ = socket.listen(port(7));
     }
-    for millis in 0..60_000 {
+    for millis in 0..60_000u32 {
+        let now = Instant::from_micros(i64::from(millis) * 1000);
         let open = ask(rt, a) | answer(rt, b);
-        a.poll(Instant::from_millis(millis));
-        b.poll(Instant::from_millis(millis));
+        a.poll(now);
+        b.poll(now);
         a.link.pass(&mut b.link);
         if !open {
             return ExitCode::SUCCESS;

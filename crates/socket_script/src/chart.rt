@@ -189,24 +189,24 @@ fn put_text<W: Write>(place: Place<'_>, first: &[u8], second: &[u8], out: &mut D
     if first.is_empty() && second.is_empty() {
         return;
     }
-    let Place {
-        class,
-        anchor,
-        y,
-        room,
-    } = place;
-    out.put(
-        "<text class=\"%\" % y=\"%\"",
-        &[Part::Text(class), Part::At(anchor), Part::Place(y)],
-    );
-    if is_wide(first.len().saturating_add(second.len()), room) {
+    put_class(place.class, out);
+    put_place(place.anchor, place.y, out);
+    if is_wide(first.len().saturating_add(second.len()), place.room) {
         out.put(
             " textLength=\"%\" lengthAdjust=\"spacingAndGlyphs\"",
-            &[Part::Place(room)],
+            &[Part::Place(place.room)],
         );
     }
     out.put(">%", &[Part::Marked(first)]);
     out.put("%</text>\n", &[Part::Marked(second)]);
+}
+
+fn put_class<W: Write>(class: &str, out: &mut Drawing<'_, W>) {
+    out.put("<text class=\"%\"", &[Part::Text(class)]);
+}
+
+fn put_place<W: Write>(anchor: Anchor, y: usize, out: &mut Drawing<'_, W>) {
+    out.put(" % y=\"%\"", &[Part::At(anchor), Part::Place(y)]);
 }
 
 // Whether so many characters may be wider than this room, whatever the font: one is at most 37/60 of its size.
