@@ -21,7 +21,7 @@ use Rattle.sock_tcp.specs.Window.{next_ack}
 use Rattle.sock_tcp.specs.declared.emission.Kind.TheVariants as kind
 use Rattle.sock_tcp.specs.declared.timer.Timer.TheVariants as timer
 use Rattle.sock_tcp.specs.declared.tuple.Tuple.{Tuple}
-use Rattle.tcp_laws.proofs.Sleeping.{congestion_leaves, window_sends}
+use Rattle.tcp_laws.proofs.Sleeping.{congestion_leaves, never_waits, window_sends}
 use Rattle.progress_laws.specs.AfterClose.{IsCloser}
 use Rattle.progress_laws.specs.InStep.{ForAnswer, told}
 use Rattle.progress_laws.specs.Speech.{DispatchesOk, GoesOn}
@@ -117,7 +117,7 @@ module _ (d : Option Duration) (t : Tuple) (v : View) (f : Facts) (now : Instant
 
   due : is_due u t fa ≡ true
   unfolding is_due
-  due = rw (window_sends u t fa fr.ordered win_u ft.no_flight (inl (subst (λ n. 0 < n) (sym same) queue))) refl
+  due = rw (window_sends u t fa fr.ordered win_u ft.no_flight (never_waits u (fr.same.same_rules ∙ s.smoltcp)) (inl (subst (λ n. 0 < n) (sym same) queue))) refl
 
   abbrev after : View
   after = left u t now b not_closed kind.Plain

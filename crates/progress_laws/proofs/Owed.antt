@@ -17,7 +17,7 @@ use Rattle.sock_core.specs.declared.context.PollAt.TheVariants as poll
 use Rattle.sock_tcp.proofs.Lending.{lent_at_most}
 use Rattle.sock_tcp.specs.Begin.{after_timer, is_paused, readied}
 use Rattle.sock_tcp.specs.Content.{Sending, asked, carries_data, content, emission_kind, is_probing, offset_of, plain_segment, sent_as}
-use Rattle.sock_tcp.specs.Due.{ack_due, ack_poll, data_due, is_ack_after, is_closed, is_due, window_doubled, window_field}
+use Rattle.sock_tcp.specs.Due.{ack_due, ack_poll, data_due, held_poll, is_ack_after, is_closed, is_due, window_doubled, window_field}
 use Rattle.sock_tcp.specs.Rfc.OwnWindow.{space_field}
 use Rattle.sock_tcp.specs.Polls.{delay_poll, is_reached}
 use Rattle.sock_tcp.specs.Queue.{Queue}
@@ -29,6 +29,7 @@ use Rattle.sock_tcp.specs.declared.state.State.TheVariants as state
 use Rattle.sock_tcp.specs.declared.emission.Kind.TheVariants as kind
 use Rattle.sock_tcp.specs.declared.timer.Timer.TheVariants as timer
 use Rattle.sock_tcp.specs.declared.tuple.Tuple.{Tuple}
+use Rattle.tcp_laws.proofs.Sleeping.{smoltcp_held}
 use Rattle.progress_laws.specs.InStep.{takes_bytes, told}
 use Rattle.progress_laws.specs.Speech.{DispatchesOk, GoesOn, SendsOk}
 use Rattle.progress_laws.proofs.Begins.{smoltcp_begins, Alike, beginning, content_is, content_waiting, lent_for, readied_alike, segment_for, sends_so, stamp_for, stamp_is}
@@ -204,7 +205,7 @@ module _ (s : Tuple) (w : View) (room n : ℕ) (y : View) (f : Facts) (now : Ins
 
     due : is_due u s fa ≡ true
     unfolding is_due
-    due = by (data_due u s fa) (is_reached (ack_poll u) now) reached
+    due = by (data_due u s fa) (is_reached (held_poll u) now) (ap (λ p. is_reached p now) (smoltcp_held u (al.same.same_rules ∙ o.smoltcp)) ∙ reached)
       where
         reached : is_reached (ack_poll u) now ≡ true
         reached = ap (λ b. is_reached (if b then delay_poll u.ack_delay_timer else poll.Ingress) now) owed ∙ ap (λ a. is_reached (delay_poll a) now) al.delay ∙ late

@@ -14,7 +14,7 @@ use Rattle.sock_tcp.proofs.Arming.{armed_as, armed_by_none, armed_by_smoltcp}
 use Rattle.sock_tcp.specs.Rfc.Idle.{idle_by, restarted_by}
 use Rattle.sock_tcp.specs.Begin.{after_timer, readied, retransmission_begun, fast_retransmission_marked}
 use Rattle.sock_tcp.specs.Content.{Sending, carries_data, emission_kind, is_probing, plain_segment, sent_as, window_left}
-use Rattle.sock_tcp.specs.Due.{ack_poll, data_due, flight, is_closed, is_closing, is_due, window_doubled}
+use Rattle.sock_tcp.specs.Due.{held_poll, data_due, flight, is_closed, is_closing, is_due, window_doubled}
 use Rattle.sock_tcp.specs.Polls.{is_reached, timer_poll}
 use Rattle.sock_tcp.specs.Queue.{Queue}
 use Rattle.sock_tcp.specs.Rfc.RoundTrips.{sending_measured}
@@ -178,7 +178,7 @@ idle_no_probe at (Some d) = refl
 -- the timer of a keep-alive, or of a probe, is a reason to send
 pub keep_alive_due : (u : View) (t : Tuple) (f : Facts) → is_keep_alive_over u.timer (moment_of f) ≡ true → is_due u t f ≡ true
 unfolding is_due
-keep_alive_due u t f e = by (data_due u t f || is_reached (ack_poll u) (moment_of f) || window_doubled u || is_closed u.state) e
+keep_alive_due u t f e = by (data_due u t f || is_reached (held_poll u) (moment_of f) || window_doubled u || is_closed u.state) e
   where
     by : (a : Bool) → is_keep_alive_over u.timer (moment_of f) ≡ true → (a || is_keep_alive_over u.timer (moment_of f) || is_probe_over u.timer (moment_of f)) ≡ true
     by true e = refl
@@ -186,7 +186,7 @@ keep_alive_due u t f e = by (data_due u t f || is_reached (ack_poll u) (moment_o
 
 pub probe_due : (u : View) (t : Tuple) (f : Facts) → is_probe_over u.timer (moment_of f) ≡ true → is_due u t f ≡ true
 unfolding is_due
-probe_due u t f e = by (data_due u t f || is_reached (ack_poll u) (moment_of f) || window_doubled u || is_closed u.state || is_keep_alive_over u.timer (moment_of f)) e
+probe_due u t f e = by (data_due u t f || is_reached (held_poll u) (moment_of f) || window_doubled u || is_closed u.state || is_keep_alive_over u.timer (moment_of f)) e
   where
     by : (a : Bool) → is_probe_over u.timer (moment_of f) ≡ true → (a || is_probe_over u.timer (moment_of f)) ≡ true
     by true e = refl

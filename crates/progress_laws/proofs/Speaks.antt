@@ -30,7 +30,7 @@ use Rattle.sock_tcp.specs.declared.tuple.Tuple.{Tuple}
 use Rattle.tcp_laws.specs.Polling.{IsReached}
 use Rattle.tcp_laws.proofs.Ordered.{HasMoment, IsOrdered, no_distance}
 use Rattle.tcp_laws.proofs.OrderedCalls.{reached_ordered, readied_ordered, timers_ordered}
-use Rattle.tcp_laws.proofs.Sleeping.{congestion_leaves, window_sends}
+use Rattle.tcp_laws.proofs.Sleeping.{congestion_leaves, never_waits, window_sends}
 use Rattle.tcp_laws.proofs.Probing.{reached_probing}
 use Rattle.progress_laws.specs.InStep.{ForAnswer, ForKeepAlive, ForNothing, ForProbe, IsSender, Rests, told}
 use Rattle.progress_laws.specs.Speech.{DispatchesOk, GoesOn}
@@ -236,7 +236,7 @@ module _ (d : Option Duration) (t : Tuple) (v : View) (f : Facts) (now : Instant
       let asks : 0 < asked u t fa = omega (arith, asked_is, win_u, ft.no_flight, mss_some u t fa mtu.0 ft.mss, congestion_leaves u fr.ordered.congestion ft.no_flight) in
       let some : 0 < length bytes = lent_some u.tx_buffer (offset_of u) (asked u t fa) bytes refl asks (omega (arith, ft.start, queue_u)) in
       let plain : emission_kind u now b ≡ kind.Plain = with_bytes u t (stamp_for u) bytes sends ft.nothing_marked now ft.no_probing some in
-      let h = goes_out kind.Plain plain (data_is_due (window_sends u t fa fr.ordered win_u ft.no_flight (inl queue_u))) in
+      let h = goes_out kind.Plain plain (data_is_due (window_sends u t fa fr.ordered win_u ft.no_flight (never_waits u (fr.same.same_rules ∙ s.smoltcp)) (inl queue_u))) in
       let long : segment_len b ≡ length bytes = segment_length u t (stamp_for u) bytes sends ft.nothing_marked in
       let same : length u.tx_buffer.bytes ≡ length v.tx_buffer.bytes = ap (λ (q : Queue). length q.bytes) fr.same.tx in
       record {

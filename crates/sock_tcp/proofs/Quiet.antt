@@ -8,12 +8,15 @@ use Rattle.control_wire.specs.Seq.{seq_add, seq_eq}
 use Rattle.control_wire.specs.declared.seq_number.TcpSeqNumber.{TcpSeqNumber}
 use Rattle.sock_core.specs.Facts.{Facts}
 use Rattle.sock_core.specs.declared.context.PollAt.TheVariants as poll
-use Rattle.sock_tcp.specs.Due.{ack_due, ack_poll, data_due, edge_sent, effective_mss, field_left, flight, is_ack_after, is_closed, is_closing, is_doubled, is_held_back, is_opening, sendable, tells_window, window_doubled}
+use Rattle.sock_tcp.specs.Due.{ack_due, ack_poll, data_due, held_poll, edge_sent, effective_mss, field_left, flight, is_ack_after, is_closed, is_closing, is_doubled, is_held_back, is_opening, sendable, tells_window, window_doubled}
 use Rattle.sock_tcp.specs.Poll.{is_due_now}
-use Rattle.sock_tcp.specs.Polls.{delay_poll}
+use Rattle.sock_tcp.specs.Polls.{delay_poll, earlier}
 use Rattle.sock_tcp.specs.Rfc.OwnWindow.{may_grow, space_field}
+use Rattle.sock_tcp.specs.Rfc.SmallSegments.{held_by, small_poll}
 use Rattle.sock_tcp.specs.View.{View}
 use Rattle.sock_tcp.specs.Window.{next_ack}
+use Rattle.sock_tcp.specs.declared.rules.Rules.{Rules}
+use Rattle.sock_tcp.specs.declared.rules.Rules.TheVariants as rules
 use Rattle.sock_tcp.specs.declared.state.State.TheVariants as state
 use Rattle.sock_tcp.specs.declared.tuple.Tuple.{Tuple}
 use Rattle.sock_tcp.proofs.Windows.{is_not_before, left_is_told, same_seq, shifted_fits}
@@ -57,5 +60,22 @@ no_reason v last open_ known empty told t f = (λ i. is_none (known i) || is_clo
         (λ i. (v.pending_fast_retransmit && not (empty i)) || (not (sendable v == 0) && not (is_held_back v (effective_mss v t f))) || ((is_opening (open_ i) && (flight v == 0)) || (is_closing (open_ i) && seq_eq v.remote_last_seq (seq_add v.local_seq_no (length v.tx_buffer.bytes)))))
         ∙ nothing_to_send v.pending_fast_retransmit (not (is_held_back v (effective_mss v t f))) (sendable v) (omega (arith, eqb-true (length v.tx_buffer.bytes) 0 empty))
 
-pub waits_for_a_segment : (v : View) → ack_due v ≡ false → ack_poll v ≡ poll.Ingress
-waits_for_a_segment v e = ap (λ b. cond b (delay_poll v.ack_delay_timer) poll.Ingress) e
+pub waits_for_a_segment : (v : View) → ack_due v ≡ false → (length v.tx_buffer.bytes == 0) ≡ true → held_poll v ≡ poll.Ingress
+waits_for_a_segment v e empty = by v.rules
+  where
+    no_ack : ack_poll v ≡ poll.Ingress
+    no_ack = ap (λ b. cond b (delay_poll v.ack_delay_timer) poll.Ingress) e
+
+    nothing : sendable v ≡ 0
+    nothing = omega (arith, eqb-true (length v.tx_buffer.bytes) 0 empty)
+
+    none : (b : Bool) (n : ℕ) → n ≡ 0 → (b && not (n == 0)) ≡ false
+    none true n z = rw z refl
+    none false n z = refl
+
+    small : small_poll ((flight v == 0) && not (sendable v == 0)) v.idle_at ≡ poll.Ingress
+    small = ap (λ b. small_poll b v.idle_at) (none (flight v == 0) (sendable v) nothing)
+
+    by : (r : Rules) → held_by r (ack_poll v) (small_poll ((flight v == 0) && not (sendable v == 0)) v.idle_at) ≡ poll.Ingress
+    by rules.Smoltcp = no_ack
+    by rules.Rfc = (λ i. earlier (no_ack i) (small i))

@@ -14,7 +14,7 @@ use Rattle.sock_tcp.specs.Polls.{is_reached, delay_poll}
 use Rattle.sock_tcp.specs.Rfc.OwnWindow.{field_by, may_grow, space_field}
 use Rattle.sock_tcp.specs.Rfc.Pipe.{counts, pipe}
 use Rattle.sock_tcp.specs.Rfc.Scoreboard.{is_blank}
-use Rattle.sock_tcp.specs.Rfc.SmallSegments.{is_cut_by}
+use Rattle.sock_tcp.specs.Rfc.SmallSegments.{held_by, is_cut_by, small_poll, waits_alone}
 use Rattle.sock_tcp.specs.Timers.{is_keep_alive_over, is_probe_over}
 use Rattle.sock_tcp.specs.View.{View, moment_of}
 use Rattle.sock_tcp.specs.Window.{next_ack}
@@ -113,11 +113,14 @@ sendable v = min (min v.remote_win_len (length v.tx_buffer.bytes) - flight v) (c
 abbrev pub waits_by_nagle : View → ℕ → Bool
 waits_by_nagle v mss = v.nagle && not (flight v == 0) && nat_lt (sendable v) mss && not (is_closing v.state)
 
--- and by the RFCs' rules what the peer's window makes small
+-- and by the RFCs' rules what the peer's window makes small, for a while also with nothing in flight
+abbrev pub may_wait : View → Bool
+may_wait v = waits_alone v.rules v.recovery v.idle_at v.remote_win_len v.largest_window
+
 abbrev pub is_held_back : View → ℕ → Bool
 is_held_back v mss =
     waits_by_nagle v mss
-    || is_cut_by v.rules (flight v) v.remote_win_len (length v.tx_buffer.bytes) (congestion_left v) mss
+    || is_cut_by v.rules (may_wait v) (flight v) v.remote_win_len (length v.tx_buffer.bytes) (congestion_left v) mss
 
 -- a SYN or a FIN
 abbrev pub control_due : View → Bool
@@ -146,6 +149,10 @@ ack_due v = is_ack_after v.remote_last_ack (next_ack v)
 abbrev pub ack_poll : View → PollAt
 ack_poll v = if ack_due v then delay_poll v.ack_delay_timer else poll.Ingress
 
+-- and from when on, beside that, what waits though nothing is in flight
+abbrev pub held_poll : View → PollAt
+held_poll v = held_by v.rules (ack_poll v) (small_poll ((flight v == 0) && not (sendable v == 0)) v.idle_at)
+
 -- ---- a larger window
 
 -- the window field of every segment but a SYN
@@ -170,11 +177,12 @@ window_doubled v = tells_window v.state && (is_doubled v v.remote_last_ack && ma
 
 -- ---- the reasons in their order
 
--- data; an acknowledgement whose delay is over; a larger window; the RST of a closed socket; a keep-alive; a probe
+-- data; an acknowledgement whose delay is over, or bytes that have waited; a larger window; the RST of a closed socket; a
+-- keep-alive; a probe
 unfoldable pub is_due : View → Tuple → Facts → Bool
 is_due v t f =
     data_due v t f
-    || is_reached (ack_poll v) (moment_of f)
+    || is_reached (held_poll v) (moment_of f)
     || window_doubled v
     || is_closed v.state
     || is_keep_alive_over v.timer (moment_of f)

@@ -72,6 +72,7 @@ pub record View : Type 0 where
   pub snd_wl1 : TcpSeqNumber  -- SND.WL1, the number of the segment that told SND.WND, by the RFCs' rules
   pub snd_wl2 : TcpSeqNumber  -- SND.WL2, what it acknowledged
   pub idle_at : Option Instant  -- from when on nothing was sent for a retransmission timeout, by the RFCs' rules
+  pub largest_window : ℕ  -- the largest SND.WND that was told, by the RFCs' rules
 
 -- the moment that a context tells
 abbrev pub moment_of : Facts → Instant
@@ -154,4 +155,5 @@ fresh rx tx =
       snd_wl1 = seq_of 0;
       snd_wl2 = seq_of 0;
       idle_at = None;
+      largest_window = 0;
     }

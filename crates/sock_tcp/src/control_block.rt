@@ -101,6 +101,8 @@ pub struct ControlBlock<'a> {
     pub(crate) snd_wl2: TcpSeqNumber,
     // from when on nothing was sent for a retransmission timeout, by the RFCs' rules
     pub(crate) idle_at: Option<Instant>,
+    // the largest SND.WND that was told, by the RFCs' rules
+    pub(crate) largest_window: usize,
 }
 
 impl<'a> Model for ControlBlock<'a> {
@@ -150,6 +152,7 @@ impl<'a> Model for ControlBlock<'a> {
       snd_wl1 = s.snd_wl1;
       snd_wl2 = s.snd_wl2;
       idle_at = s.idle_at;
+      largest_window = s.largest_window;
     } };
 
     ghost invariant = { λ s. IsSound s.rx_buffer (queue_of s.tx_buffer) s.tuple

@@ -188,7 +188,7 @@ impl<'a> ControlBlock<'a> {
     {
         let now = cx.now();
         self.data_due(cx, tuple)
-            || is_reached(self.ack_poll(), now)
+            || is_reached(self.held_poll(), now)
             || self.window_doubled()
             || self.state.is_closed()
             || self.timer.is_keep_alive_over(now)

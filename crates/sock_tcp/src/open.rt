@@ -88,6 +88,7 @@ impl<'a> ControlBlock<'a> {
             snd_wl1: TcpSeqNumber(0),
             snd_wl2: TcpSeqNumber(0),
             idle_at: None,
+            largest_window: 0,
         }
     }
 
@@ -125,6 +126,7 @@ impl<'a> ControlBlock<'a> {
         self.snd_wl1 = TcpSeqNumber(0);
         self.snd_wl2 = TcpSeqNumber(0);
         self.idle_at = None;
+        self.largest_window = 0;
     }
 
     pub(crate) fn is_open(&self) -> bool

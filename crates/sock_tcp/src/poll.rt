@@ -5,7 +5,7 @@ ghost use Rattle.sock_tcp.specs.Timers.{IsLastTs};
 ghost use Rattle.sock_tcp.specs.Polls.{is_reached, earlier, timeout_poll, timer_poll};
 ghost use Rattle.sock_tcp.specs.Poll.{is_due_now, poll_moment, poll_moment_to};
 ghost use Rattle.sock_tcp.specs.Window.{next_ack};
-ghost use Rattle.sock_tcp.specs.Due.{ack_due, ack_poll, window_doubled};
+ghost use Rattle.sock_tcp.specs.Due.{ack_due, held_poll, window_doubled};
 ghost use Rattle.sock_core.specs.Facts.{Facts};
 ghost use Rattle.sock_tcp.specs.declared.tuple.Tuple.{Tuple};
 ghost use Rattle.sock_tcp.specs.Work.{has_work};
@@ -30,7 +30,7 @@ pub(crate) fn is_reached(poll: PollAt, now: Instant) -> bool
 }
 
 // The earlier of two poll moments.
-fn earlier(poll: PollAt, other: PollAt) -> PollAt
+pub(crate) fn earlier(poll: PollAt, other: PollAt) -> PollAt
     ensures { result ≡ earlier poll other }
 {
     match (poll, other) {
@@ -102,9 +102,9 @@ impl<'a> ControlBlock<'a> {
         if self.is_due_now(cx, tuple) {
             return PollAt::Now;
         }
-        match self.ack_poll() {
+        match self.held_poll() {
             PollAt::Ingress => self.timer_or(timeout),
-            ack => earlier(self.timer.poll_at(), earlier(timeout, ack)),
+            held => earlier(self.timer.poll_at(), earlier(timeout, held)),
         }
     }
 
@@ -113,7 +113,7 @@ impl<'a> ControlBlock<'a> {
     #[tactic(auto, using(crate::proofs::Quiet::no_reason, crate::proofs::Quiet::waits_for_a_segment))]
     fn is_quiet(&self) -> bool
         ensures due { IsTrue result → (t : Tuple) (f : Facts) → is_due_now self.now t f ≡ false }
-        ensures acknowledged { IsTrue result → ack_poll self.now ≡ PollAt.Ingress }
+        ensures held { IsTrue result → held_poll self.now ≡ PollAt.Ingress }
     {
         match (self.state, self.remote_last_ts) {
             (State::Established, Some(_)) => self.tx_buffer.is_empty() && self.has_told_all(),

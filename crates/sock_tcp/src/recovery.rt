@@ -469,11 +469,13 @@ impl<'a> ControlBlock<'a> {
         let controller = before.controller_after(self, now);
         let recovery = before.recovery_after(self);
         let sacked = before.sacked_after(self);
+        let largest = before.largest_after(self);
         self.timer = timer;
         self.rtte = rtte;
         self.local_rx_dup_acks = duplicates;
         self.congestion_controller = controller;
         self.recovery = recovery;
         self.sacked = sacked;
+        self.largest_window = largest;
     }
 }

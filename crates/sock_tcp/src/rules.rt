@@ -17,7 +17,8 @@ pub enum Rules {
     /// What takes no number has SND.MAX, also where SND.NXT went back (RFC 9293, section 3.4). A window counts where
     /// its segment is no older than the one that told the last, by SND.WL1 and SND.WL2, and LAST-ACK hears windows
     /// (section 3.10.7.4). What goes out again keeps to the peer's window, and a probe is the byte at SND.UNA (section
-    /// 3.8.6).
+    /// 3.8.6). A segment that the window makes small waits for what is in flight, or for half of the largest window or
+    /// the retransmission timeout (section 3.8.6.2.1).
     ///
     /// Of loss: a duplicate acknowledgement counts though its window grew (RFC 5681, section 3.2), the first two let
     /// out a segment each beyond the congestion window (RFC 3042), and one or two suffice where two or three segments

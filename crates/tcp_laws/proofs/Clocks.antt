@@ -1,6 +1,6 @@
 -- Over any list of calls whose clock does not go back a wake-up has a bound.
-use Rattle.std.proofs.Common.{◌≡◌, ◌≤◌, ◌⊎◌, inl, inr, Bool, true, false, refl, sym, ap, subst, ◌∙◌, Option, Some, None, is_none, arith}
-use Rattle.std.specs.Prelude.{◌||◌, if◌then◌else◌, nat_le, pos, ◌≤ℤ◌}
+use Rattle.std.proofs.Common.{◌≡◌, ◌≤◌, ◌⊎◌, inl, inr, Bool, true, false, not, ◌&&◌, refl, sym, ap, subst, ◌∙◌, Option, Some, None, is_none, arith}
+use Rattle.std.specs.Prelude.{◌==◌, ◌||◌, if◌then◌else◌, int_le, nat_le, pos, ◌≤ℤ◌}
 use Rattle.std.proofs.lemmas.Bool.{and_parts, le-leb, or_parts}
 use Rattle.std.proofs.lemmas.Int.{ints}
 use Rattle.std.proofs.lemmas.Option.{none-some}
@@ -9,11 +9,14 @@ use Rattle.net_base.specs.declared.time.Instant.{Instant}
 use Rattle.sock_core.specs.Facts.{Facts}
 use Rattle.sock_core.specs.declared.context.PollAt.{PollAt}
 use Rattle.sock_core.specs.declared.context.PollAt.TheVariants as poll
-use Rattle.sock_tcp.specs.Due.{ack_due, ack_poll, data_due, is_closed, window_doubled}
+use Rattle.sock_tcp.specs.Due.{ack_due, ack_poll, data_due, flight, held_poll, is_closed, sendable, window_doubled}
 use Rattle.sock_tcp.specs.Poll.{is_due_now, poll_moment, poll_moment_to}
 use Rattle.sock_tcp.specs.Polls.{delay_poll, earlier, timer_poll, timeout_poll}
+use Rattle.sock_tcp.specs.Rfc.SmallSegments.{held_by, small_poll}
 use Rattle.sock_tcp.specs.Timers.{after, is_over}
 use Rattle.sock_tcp.specs.View.{View, fresh}
+use Rattle.sock_tcp.specs.declared.rules.Rules.{Rules}
+use Rattle.sock_tcp.specs.declared.rules.Rules.TheVariants as rules
 use Rattle.sock_tcp.specs.declared.timer.AckDelayTimer.{AckDelayTimer}
 use Rattle.sock_tcp.specs.declared.timer.AckDelayTimer.TheVariants as ack_delay
 use Rattle.sock_tcp.specs.declared.timer.Timer.{Timer}
@@ -26,7 +29,7 @@ use Rattle.tcp_laws.specs.SocketRun.{Ends, Then}
 use Rattle.tcp_laws.proofs.Guards.{first_comes, second_comes}
 use Rattle.tcp_laws.proofs.OrderedCalls.{reached_ordered}
 use Rattle.tcp_laws.proofs.Sleeping.{no_moment}
-use Rattle.tcp_laws.proofs.Moments.{IsTimed, is_delay_by, is_timer_by}
+use Rattle.tcp_laws.proofs.Moments.{IsTimed, is_delay_by, is_moment_by, is_timer_by}
 use Rattle.tcp_laws.proofs.Kept.{step_kept}
 use Rattle.tcp_laws.proofs.Timed.{kept_timed}
 
@@ -47,7 +50,7 @@ module _ (most : Duration) (minute : 60000000 ≤ most.micros) where
 
 reached_timed : (v : View) (last : Instant) (most : Duration) → IsReachedBy v last most → IsTimed last most v
 unfolding fresh
-reached_timed v last most r = run_timed most r.minute _ v _ r.counts r.first last r.run r.from_zero (record { timer = refl; waits = refl; timeout = omega arith; keep_short = refl; delay_short = le-leb 10000 most.micros (let m = r.minute in omega (arith, m)) })
+reached_timed v last most r = run_timed most r.minute _ v _ r.counts r.first last r.run r.from_zero (record { timer = refl; waits = refl; timeout = omega arith; keep_short = refl; delay_short = le-leb 10000 most.micros (let m = r.minute in omega (arith, m)); idle = refl })
 
 reached_so : (v : View) (last : Instant) (most : Duration) → IsReachedBy v last most → IsReached v
 reached_so v last most r = record { rx = r.rx; tx = r.tx; counts = r.counts; rx_size = r.rx_size; tx_size = r.tx_size; run = untimed most r.minute _ v _ r.counts r.first last r.run }
@@ -65,10 +68,31 @@ timer_comes last most timer.FastRetransmit e = inr tt
 timer_comes last most (timer.ZeroWindowProbe at delay) e = inr (comes at (after last most) (and_parts (is_over at (after last most)) (nat_le delay.micros 60000000) e).0)
 timer_comes last most (timer.Close at) e = inr (comes at (after last most) e)
 
-delay_comes : (last : Instant) (most : Duration) (a : AckDelayTimer) → is_delay_by last most a ≡ true → ComesBy (delay_poll a) (after last most)
-delay_comes last most ack_delay.Idle e = tt
-delay_comes last most ack_delay.Immediate e = tt
-delay_comes last most (ack_delay.Waiting at) e = comes at (after last most) e
+-- a moment comes by that one, if there is any
+abbrev IfAny : PollAt → Instant → Type 0
+IfAny poll.Ingress at = Unit {0}
+IfAny p at = ComesBy p at
+
+any_comes : (p : PollAt) (at : Instant) → (p ≡ poll.Ingress → ⊥) → IfAny p at → ComesBy p at
+any_comes poll.Ingress at n h = absurd (n refl)
+any_comes poll.Now at n h = tt
+any_comes (poll.Time t) at n h = h
+
+earlier_if_any : (p q : PollAt) (at : Instant) → IfAny p at → IfAny q at → IfAny (earlier p q) at
+earlier_if_any poll.Now q at h k = tt
+earlier_if_any poll.Ingress q at h k = k
+earlier_if_any (poll.Time t) poll.Now at h k = tt
+earlier_if_any (poll.Time t) poll.Ingress at h k = h
+earlier_if_any (poll.Time t) (poll.Time u) at h k = go (int_le t.micros u.micros)
+  where
+    go : (b : Bool) → (if b then t else u).micros ≤ℤ at.micros
+    go true = h
+    go false = k
+
+small_if_any : (last : Instant) (most : Duration) (b : Bool) (o : Option Instant) → is_moment_by last most o ≡ true → IfAny (small_poll b o) (after last most)
+small_if_any last most true None e = tt
+small_if_any last most true (Some at) e = comes at (after last most) e
+small_if_any last most false o e = tt
 
 module _ (v : View) (last : Instant) (most : Duration) (t : Tuple) (f : Facts) (r : IsReachedBy v last most) where
   abbrev by : Instant
@@ -78,18 +102,31 @@ module _ (v : View) (last : Instant) (most : Duration) (t : Tuple) (f : Facts) (
   timed = reached_timed v last most r
 
   abbrev rest : PollAt
-  rest = earlier (timeout_poll v.timeout v.remote_last_ts) (ack_poll v)
+  rest = earlier (timeout_poll v.timeout v.remote_last_ts) (held_poll v)
 
   by_timer : ComesBy (timer_poll v.timer) by → ComesBy (earlier (timer_poll v.timer) rest) by
   by_timer h = first_comes (timer_poll v.timer) rest by h
 
-  by_ack : ack_due v ≡ true → ComesBy (earlier (timer_poll v.timer) rest) by
-  by_ack e = second_comes (timer_poll v.timer) rest by (second_comes (timeout_poll v.timeout v.remote_last_ts) (ack_poll v) by due)
+  by_held : (held_poll v ≡ poll.Ingress → ⊥) → ComesBy (earlier (timer_poll v.timer) rest) by
+  by_held n = second_comes (timer_poll v.timer) rest by (second_comes (timeout_poll v.timeout v.remote_last_ts) (held_poll v) by (any_comes (held_poll v) by n (held v.rules)))
     where
-      due : ComesBy (ack_poll v) by
-      due = subst (λ b. ComesBy (if b then delay_poll v.ack_delay_timer else poll.Ingress) by) (sym e) (delay_comes last most v.ack_delay_timer timed.waits)
+      small : PollAt
+      small = small_poll ((flight v == 0) && not (sendable v == 0)) v.idle_at
 
-  bounded : ((is_due_now v t f ≡ false) → v.timer ≡ timer.Idle None → ack_due v ≡ true) → ComesBy (poll_moment_to (Some t) v f) by
+      ack : (b : Bool) → IfAny (if b then delay_poll v.ack_delay_timer else poll.Ingress) by
+      ack true = delay_if_any v.ack_delay_timer timed.waits
+        where
+          delay_if_any : (a : AckDelayTimer) → is_delay_by last most a ≡ true → IfAny (delay_poll a) by
+          delay_if_any ack_delay.Idle e = tt
+          delay_if_any ack_delay.Immediate e = tt
+          delay_if_any (ack_delay.Waiting at) e = comes at by e
+      ack false = tt
+
+      held : (r : Rules) → IfAny (held_by r (ack_poll v) small) by
+      held rules.Smoltcp = ack (ack_due v)
+      held rules.Rfc = earlier_if_any (ack_poll v) small by (ack (ack_due v)) (small_if_any last most ((flight v == 0) && not (sendable v == 0)) v.idle_at timed.idle)
+
+  bounded : ((is_due_now v t f ≡ false) → v.timer ≡ timer.Idle None → held_poll v ≡ poll.Ingress → ⊥) → ComesBy (poll_moment_to (Some t) v f) by
   bounded awake = go (is_due_now v t f) refl
     where
       go : (b : Bool) → is_due_now v t f ≡ b → ComesBy (if b then poll.Now else earlier (timer_poll v.timer) rest) by
@@ -97,16 +134,16 @@ module _ (v : View) (last : Instant) (most : Duration) (t : Tuple) (f : Facts) (
       go false e = either (timer_comes last most v.timer timed.timer)
         where
           either : (v.timer ≡ timer.Idle None) ⊎ ComesBy (timer_poll v.timer) by → ComesBy (earlier (timer_poll v.timer) rest) by
-          either (inl i) = by_ack (awake e i)
+          either (inl i) = by_held (awake e i)
           either (inr h) = by_timer h
 
   -- with a keep-alive interval the timer has a moment
-  kept_awake : (d : Duration) → v.tuple ≡ Some t → v.keep_alive ≡ Some d → is_due_now v t f ≡ false → v.timer ≡ timer.Idle None → ack_due v ≡ true
-  kept_awake d p k e i =
+  kept_awake : (d : Duration) → v.tuple ≡ Some t → v.keep_alive ≡ Some d → is_due_now v t f ≡ false → v.timer ≡ timer.Idle None → held_poll v ≡ poll.Ingress → ⊥
+  kept_awake d p k e i q =
       let a = or_parts (is_none v.remote_last_ts || is_closed v.state || data_due v t f) (window_doubled v) e in
       let b = or_parts (is_none v.remote_last_ts || is_closed v.state) (data_due v t f) a.0 in
       let c = or_parts (is_none v.remote_last_ts) (is_closed v.state) b.0 in
-      absurd (none-some d (sym (no_moment v t f (reached_ordered v (reached_so v last most r)) (record { timer = i; no_data = b.1; not_closed = c.1 }) v.state refl p) ∙ k))
+      none-some d (sym (no_moment v t f (reached_ordered v (reached_so v last most r)) (record { timer = i; no_data = b.1; not_closed = c.1 }) v.state refl p) ∙ k)
 
 pub wake_up_is_bounded : WakeUpIsBounded
 unfolding poll_moment

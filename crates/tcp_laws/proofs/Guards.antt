@@ -7,7 +7,7 @@ use Rattle.net_base.specs.declared.time.Instant.{Instant}
 use Rattle.sock_core.specs.Facts.{Facts}
 use Rattle.sock_core.specs.declared.context.PollAt.{PollAt}
 use Rattle.sock_core.specs.declared.context.PollAt.TheVariants as poll
-use Rattle.sock_tcp.specs.Due.{ack_poll}
+use Rattle.sock_tcp.specs.Due.{held_poll}
 use Rattle.sock_tcp.specs.Poll.{is_due_now, poll_moment, poll_moment_to}
 use Rattle.sock_tcp.specs.Polls.{earlier, timer_poll, timeout_poll}
 use Rattle.sock_tcp.specs.Timers.{after}
@@ -48,9 +48,9 @@ module _ (v : View) (t : Tuple) (d : Duration) (f : Facts) where
       by_timeout : ComesBy (timeout_poll v.timeout v.remote_last_ts) (after last d)
       by_timeout = rw (e, i) (itself (after last d))
 
-      go : (b : Bool) → ComesBy (if b then poll.Now else earlier (timer_poll v.timer) (earlier (timeout_poll v.timeout v.remote_last_ts) (ack_poll v))) (after last d)
+      go : (b : Bool) → ComesBy (if b then poll.Now else earlier (timer_poll v.timer) (earlier (timeout_poll v.timeout v.remote_last_ts) (held_poll v))) (after last d)
       go true = tt
-      go false = second_comes (timer_poll v.timer) (earlier (timeout_poll v.timeout v.remote_last_ts) (ack_poll v)) (after last d) (first_comes (timeout_poll v.timeout v.remote_last_ts) (ack_poll v) (after last d) by_timeout)
+      go false = second_comes (timer_poll v.timer) (earlier (timeout_poll v.timeout v.remote_last_ts) (held_poll v)) (after last d) (first_comes (timeout_poll v.timeout v.remote_last_ts) (held_poll v) (after last d) by_timeout)
 
   by_last : (o : Option Instant) → v.remote_last_ts ≡ o → v.timeout ≡ Some d → WakesWithin o d (poll_moment_to (Some t) v f)
   by_last None e i = rw e refl

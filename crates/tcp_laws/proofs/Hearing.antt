@@ -1,11 +1,12 @@
 -- What a segment tells a socket that waits for its peer.
-use Rattle.std.proofs.Common.{◌≡◌, ℕ, ◌+◌, ◌-◌, ◌<◌, ◌≤◌, ◌^◌, ◌*◌, ◌⊎◌, inl, inr, Bool, true, false, refl, sym, ap, subst, ◌∙◌, List, length, Option, Some, arith}
+use Rattle.std.proofs.Common.{◌≡◌, ℕ, ◌+◌, ◌-◌, ◌<◌, ◌≤◌, ◌^◌, ◌*◌, ◌⊎◌, inl, inr, Bool, true, false, true≢false, refl, sym, ap, subst, ◌∙◌, List, length, Option, Some, arith}
 use Rattle.std.specs.Prelude.{if◌then◌else◌, ◌==◌}
 use Rattle.std.proofs.lemmas.Bool.{and_parts, eqb-true}
 use Rattle.std.proofs.Math.Nat.{mul-pos}
 use Rattle.std.proofs.lemmas.Nat.{pow_pos}
 use Rattle.net_base.specs.declared.time.Duration.{Duration}
 use Rattle.control_wire.specs.Seq.{seq_sub}
+use Rattle.sock_core.specs.Facts.{Facts}
 use Rattle.sock_core.specs.Seq.{is_before, is_not_after}
 use Rattle.ip_wire.specs.declared.repr.IpRepr.{IpRepr}
 use Rattle.net_base.specs.declared.time.Instant.{Instant}
@@ -16,7 +17,7 @@ use Rattle.control_wire.specs.declared.tcp.TcpControl.TheVariants as control
 use Rattle.sock_tcp.specs.Arrival.{arrival}
 use Rattle.sock_tcp.specs.Acked.{acked_at, acked_of, is_fin_acked}
 use Rattle.sock_tcp.specs.Advance.{advance_in, advanced, counted_control, moved_to, nothing_new_by, waiting}
-use Rattle.sock_tcp.specs.Due.{flight}
+use Rattle.sock_tcp.specs.Due.{data_due, flight, may_wait}
 use Rattle.sock_tcp.specs.Process.{Outcome, challenged, close_restarted, outside, bytes_taken, tuple_of, after_advance, after_table, processed_inside, has_window, tested_by, by_verdict, processed, processed_by}
 use Rattle.sock_tcp.specs.Replies.{ack_kept}
 use Rattle.sock_tcp.specs.Steps.{scale_of, window_of, window_taken, released, is_duplicate, is_last_ack, is_window_changed, duplicate_counted, ack_counted, una_advanced, acknowledged, timestamp_taken, timer_set, heard, joined, ack_delayed}
@@ -34,12 +35,13 @@ use Rattle.sock_tcp.specs.declared.verdict.Verdict.TheVariants as verdicts
 use Rattle.sock_tcp.specs.declared.window.Cut.{Cut}
 use Rattle.sock_tcp.specs.declared.window.Window.{Window}
 use Rattle.sock_tcp.proofs.Windows.{far, not_after}
-use Rattle.tcp_laws.specs.Waking.{AcksNothing, HeardNothing, LastAckHearsNothing, Resends, TellsWindow, ThirdDuplicateWakes, WindowWakes, hears_window}
+use Rattle.tcp_laws.specs.Waking.{AcksNothing, GoesOrWaits, HeardNothing, WaitsSmall, LastAckHearsNothing, Resends, TellsWindow, ThirdDuplicateWakes, WindowWakes, hears_window}
 use Rattle.tcp_laws.proofs.Ordered.{IsOrdered, Row}
 use Rattle.tcp_laws.proofs.Kept.{KeptByAnswers, bytes_kept, challenged_kept, heard_kept, outside_kept}
 use Rattle.tcp_laws.proofs.OrderedCalls.{reached_ordered}
 use Rattle.tcp_laws.proofs.OrderedSegments.{process_ordered}
-use Rattle.tcp_laws.proofs.Sleeping.{window_sends}
+use Rattle.tcp_laws.proofs.Ruled.{process_ruled}
+use Rattle.tcp_laws.proofs.Sleeping.{never_waits, window_wakes_or_waits}
 use Rattle.sock_tcp.specs.Rfc.Recovery.{before_of, echo_known, recovered, recovered_by}
 use Rattle.sock_tcp.specs.Rfc.Windows.{told_by, windowed}
 use Rattle.sock_tcp.specs.Timers.{idle_from}
@@ -235,12 +237,19 @@ passed_as r v now word ip s p = ap (λ x. by_verdict r x v (arrival now (tuple_o
 tells : (v : View) (now : Instant) (word : ℕ) (ip : IpRepr) (s : Segment) → TellsWindow v now s → (processed v now word ip s).view.remote_win_len ≡ window_of s.control (told_by v.rules v s) v.remote_win_scale
 tells v now word ip s h = ap (λ (o : Outcome). o.view.remote_win_len) (passed_as v.rules v now word ip s h.passes) ∙ tells_inside v.rules v now word ip (windowed v.rules v s) h.hears h.inside h.no_bit
 
+goes_or_waits : (r : Rules) (w : View) (t : Tuple) (f : Facts) → w.rules ≡ r → (data_due w t f ≡ true) ⊎ ((may_wait w ≡ true) × WaitsSmall w t f) → GoesOrWaits r w t f
+goes_or_waits rules.Smoltcp w t f e (inl d) = d
+goes_or_waits rules.Smoltcp w t f e (inr s) = absurd (true≢false (sym s.0 ∙ never_waits w e))
+goes_or_waits rules.Rfc w t f e (inl d) = inl d
+goes_or_waits rules.Rfc w t f e (inr s) = inr s.1
+
 pub window_wakes : WindowWakes
 window_wakes v now word ip s t f r small numbered h z send =
     let w : View = (processed v now word ip s).view in
     let e : w.remote_win_len ≡ window_of s.control (told_by v.rules v s) v.remote_win_scale = tells v now word ip s h in
     let o : IsOrdered w = process_ordered now word ip s small numbered.ack_number v.rules v (reached_ordered v r) (λ is. absurd (not_listening v.state h.hears is)) in
-    window_sends w t f o (subst (λ n. 0 < n) (sym e) (some_window s.control (told_by v.rules v s) v.remote_win_scale h.window)) z send
+    let ruled : w.rules ≡ v.rules = process_ruled v.rules v.rules v now word ip s refl in
+    goes_or_waits v.rules w t f ruled (window_wakes_or_waits w t f o (subst (λ n. 0 < n) (sym e) (some_window s.control (told_by v.rules v s) v.remote_win_scale h.window)) z send)
 
 -- ---- the third duplicate
 

@@ -11,6 +11,7 @@ use Rattle.sock_core.specs.declared.rtte.Timing.{Timing}
 use Rattle.sock_core.specs.declared.rtte.StampTiming.{StampTiming}
 use Rattle.control_wire.specs.Seq.{seq_of}
 use Rattle.sock_tcp.specs.Due.{is_opening}
+use Rattle.sock_tcp.specs.Rfc.Idle.{idle_by as idle_at_by}
 use Rattle.sock_tcp.specs.Rfc.RoundTrips.{echo_heard, sending_measured, stamp_timed}
 use Rattle.sock_tcp.specs.declared.emission.Emitted.{Emitted}
 use Rattle.sock_tcp.specs.declared.rules.Rules.{Rules}
@@ -52,15 +53,20 @@ module _ (last : Instant) (most : Duration) where
   is_short None = true
   is_short (Some d) = nat_le d.micros most.micros
 
-  pub record Timed (t : Timer) (a : AckDelayTimer) (e : Estimator) (keep delay : Option Duration) : Type 0 where
+  abbrev pub is_moment_by : Option Instant → Bool
+  is_moment_by None = true
+  is_moment_by (Some at) = is_by at
+
+  pub record Timed (t : Timer) (a : AckDelayTimer) (e : Estimator) (keep delay : Option Duration) (idle_at : Option Instant) : Type 0 where
     pub timer : is_timer_by t ≡ true
     pub waits : is_delay_by a ≡ true
     pub timeout : e.rto ≤ 60000
     pub keep_short : is_short keep ≡ true
     pub delay_short : is_short delay ≡ true
+    pub idle : is_moment_by idle_at ≡ true
 
   abbrev pub IsTimed : View → Type 0
-  IsTimed v = Timed v.timer v.ack_delay_timer v.rtte v.keep_alive v.ack_delay
+  IsTimed v = Timed v.timer v.ack_delay_timer v.rtte v.keep_alive v.ack_delay v.idle_at
 
 -- ---- moments
 
@@ -83,8 +89,12 @@ later_delay last now most ack_delay.Idle h e = refl
 later_delay last now most ack_delay.Immediate h e = refl
 later_delay last now most (ack_delay.Waiting at) h e = later_by last now most at h e
 
+later_moment : (last now : Instant) (most : Duration) (o : Option Instant) → last.micros ≤ℤ now.micros → is_moment_by last most o ≡ true → is_moment_by now most o ≡ true
+later_moment last now most None h e = refl
+later_moment last now most (Some at) h e = later_by last now most at h e
+
 pub later_timed : (last now : Instant) (most : Duration) (v : View) → last.micros ≤ℤ now.micros → IsTimed last most v → IsTimed now most v
-later_timed last now most v h i = record { timer = later_timer last now most v.timer h i.timer; waits = later_delay last now most v.ack_delay_timer h i.waits; timeout = i.timeout; keep_short = i.keep_short; delay_short = i.delay_short }
+later_timed last now most v h i = record { timer = later_timer last now most v.timer h i.timer; waits = later_delay last now most v.ack_delay_timer h i.waits; timeout = i.timeout; keep_short = i.keep_short; delay_short = i.delay_short; idle = later_moment last now most v.idle_at h i.idle }
 
 -- ---- the estimator
 
@@ -173,6 +183,11 @@ module _ (most : Duration) (minute : 60000000 ≤ most.micros) where
 
     pub rto_by : (e : Estimator) → e.rto ≤ 60000 → is_by now most (after now (rto_of e)) ≡ true
     rto_by e h = soon (rto_of e) (omega (arith, h, minute))
+
+    -- from when on nothing was sent for a timeout
+    pub sent_by : (r : Rules) (at : Option Instant) (e : Estimator) → e.rto ≤ 60000 → is_moment_by now most at ≡ true → is_moment_by now most (idle_at_by r at now e) ≡ true
+    sent_by rules.Smoltcp at e s h = h
+    sent_by rules.Rfc at e s h = rto_by e s
 
     pub tail_by : (e : Estimator) (alone : Bool) → e.rto ≤ 60000 → is_by now most (after now (tail_wait e alone)) ≡ true
     tail_by e alone h = soon (tail_wait e alone) (omega (arith, h, minute))

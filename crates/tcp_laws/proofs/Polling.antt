@@ -12,7 +12,7 @@ use Rattle.sock_core.specs.Congestion.{pre_transmitted, reno_pre_transmit}
 use Rattle.sock_core.specs.declared.congestion.AnyController.{AnyController}
 use Rattle.sock_core.specs.declared.congestion.AnyController.TheVariants as controller
 use Rattle.sock_tcp.specs.Begin.{last_ts_set, last_ts_set_at, told_ready, readied, after_timer, after_timers, is_paused, begun, begun_to, unless_paused, ended, before_emit, before_emit_to, peer_of}
-use Rattle.sock_tcp.specs.Due.{data_due, ack_poll, window_doubled, is_closed, is_due}
+use Rattle.sock_tcp.specs.Due.{data_due, held_poll, window_doubled, is_closed, is_due}
 use Rattle.sock_tcp.specs.Opening.{renewed}
 use Rattle.sock_tcp.specs.Poll.{is_due_now, poll_moment_to, poll_moment}
 use Rattle.tcp_laws.specs.Polling.{PollHidesNothing}
@@ -120,16 +120,16 @@ by_address : (b : Bool) (v : View) (f : Facts) → ((t : Tuple) → v.tuple ≡ 
 by_address true v f d = by_pause (is_paused v.state v.synack_paused) v.tuple v f d
 by_address false v f d = refl
 
-not_due : (v : View) (t : Tuple) (f : Facts) → data_due v t f ≡ false → IsLater (ack_poll v) (moment_of f) → window_doubled v ≡ false → is_closed v.state ≡ false → IsLater (timer_poll v.timer) (moment_of f) → is_due v t f ≡ false
+not_due : (v : View) (t : Tuple) (f : Facts) → data_due v t f ≡ false → IsLater (held_poll v) (moment_of f) → window_doubled v ≡ false → is_closed v.state ≡ false → IsLater (timer_poll v.timer) (moment_of f) → is_due v t f ≡ false
 unfolding is_due
-not_due v t f d a w c m = rw (d, not_reached (ack_poll v) (moment_of f) a, w, c, no_keep_alive v.timer (moment_of f) m, no_probe v.timer (moment_of f) m) refl
+not_due v t f d a w c m = rw (d, not_reached (held_poll v) (moment_of f) a, w, c, no_keep_alive v.timer (moment_of f) m, no_probe v.timer (moment_of f) m) refl
 
 nothing : (o : Option Tuple) (v : View) (f : Facts) → v.tuple ≡ o → IsLater (poll_moment_to o v f) (moment_of f) → peer_of (before_emit_to (peer_of (begun_to o v f)) (begun_to o v f).view f) ≡ None
 nothing None v f p h = refl
 nothing (Some t) v f p h =
-    let g = past_guard (is_due_now v t f) (earlier (timer_poll v.timer) (earlier (timeout_poll v.timeout v.remote_last_ts) (ack_poll v))) (moment_of f) h in
-    let e = both_later (timer_poll v.timer) (earlier (timeout_poll v.timeout v.remote_last_ts) (ack_poll v)) (moment_of f) g.1 in
-    let l = both_later (timeout_poll v.timeout v.remote_last_ts) (ack_poll v) (moment_of f) e.1 in
+    let g = past_guard (is_due_now v t f) (earlier (timer_poll v.timer) (earlier (timeout_poll v.timeout v.remote_last_ts) (held_poll v))) (moment_of f) h in
+    let e = both_later (timer_poll v.timer) (earlier (timeout_poll v.timeout v.remote_last_ts) (held_poll v)) (moment_of f) g.1 in
+    let l = both_later (timeout_poll v.timeout v.remote_last_ts) (held_poll v) (moment_of f) e.1 in
     let a = or_parts (is_none v.remote_last_ts || is_closed v.state || data_due v t f) (window_doubled v) g.0 in
     let b = or_parts (is_none v.remote_last_ts || is_closed v.state) (data_due v t f) a.0 in
     let c = or_parts (is_none v.remote_last_ts) (is_closed v.state) b.0 in

@@ -1,5 +1,5 @@
 -- When a dispatch that sent nothing but an acknowledgement wants another one at once.
-use Rattle.std.proofs.Common.{◌≡◌, ℕ, ◌+◌, ◌-◌, ◌*◌, ◌/◌, ◌%◌, ◌<◌, ◌≤◌, ◌^◌, ◌⊎◌, inl, inr, Bool, true, false, true≢false, not, ◌&&◌, ◌||◌, refl, sym, ap, subst, ◌∙◌, List, length, min, Option, Some, None, is_none, arith}
+use Rattle.std.proofs.Common.{◌≡◌, ℕ, zero, suc, ◌+◌, ◌-◌, ◌*◌, ◌/◌, ◌%◌, ◌<◌, ◌≤◌, ◌^◌, ◌⊎◌, inl, inr, Bool, true, false, true≢false, not, ◌&&◌, ◌||◌, refl, sym, ap, subst, ◌∙◌, List, length, min, Option, Some, None, is_none, arith}
 use Rattle.std.specs.Prelude.{if◌then◌else◌, ◌==◌, int_le, nat_le, option_map}
 use Rattle.std.proofs.Math.Nat.{div-mul-le_self, mul-le-mul_right}
 use Rattle.std.proofs.lemmas.Bool.{and_parts, eqb-false, eqb-true, leb-true}
@@ -22,8 +22,9 @@ use Rattle.sock_tcp.proofs.Arming.{armed_by_none}
 use Rattle.sock_tcp.proofs.Windows.{far, left_is_told}
 use Rattle.sock_tcp.specs.Begin.{Begun, readied, after_timers, peer_of}
 use Rattle.sock_tcp.specs.Content.{Sending, asked, carries_data, content, emission_kind, filled, is_probing, of_kind, offset_of, plain_segment, sent_as, window_left}
-use Rattle.sock_tcp.specs.Due.{ack_due, ack_poll, data_due, edge_sent, effective_mss, field_left, flight, is_ack_after, is_closed, is_closing, is_doubled, is_held_back, is_opening, congestion_left, sendable, tells_window, window_doubled, window_field}
+use Rattle.sock_tcp.specs.Due.{ack_due, ack_poll, data_due, held_poll, edge_sent, effective_mss, field_left, flight, is_ack_after, is_closed, is_closing, is_doubled, is_held_back, is_opening, congestion_left, sendable, tells_window, window_doubled, window_field}
 use Rattle.sock_tcp.specs.Rfc.OwnWindow.{may_grow, space_field}
+use Rattle.sock_tcp.specs.Rfc.SmallSegments.{held_by, small_poll}
 use Rattle.sock_tcp.specs.Poll.{is_due_now, poll_moment, poll_moment_to}
 use Rattle.sock_tcp.specs.Polls.{delay_poll, earlier, is_reached, timer_poll, timeout_poll}
 use Rattle.sock_tcp.specs.Queue.{IsLent, Queue}
@@ -35,6 +36,8 @@ use Rattle.sock_tcp.specs.declared.emission.Kind.{Kind}
 use Rattle.sock_tcp.specs.declared.emission.Kind.TheVariants as kind
 use Rattle.sock_tcp.specs.declared.recovery.Recovery.{Recovery}
 use Rattle.sock_tcp.specs.declared.recovery.Recovery.TheVariants as recovery
+use Rattle.sock_tcp.specs.declared.rules.Rules.{Rules}
+use Rattle.sock_tcp.specs.declared.rules.Rules.TheVariants as rules
 use Rattle.sock_tcp.specs.declared.state.State.{State}
 use Rattle.sock_tcp.specs.declared.state.State.TheVariants as state
 use Rattle.sock_tcp.specs.declared.timer.Timer.{Timer}
@@ -59,6 +62,7 @@ data Reason (w : View) (t : Tuple) (f : Facts) (now : Instant) : Type 0 where
   TimerOver : is_reached (timer_poll w.timer) now ≡ true → Reason w t f now
   TimedOut : is_reached (timeout_poll w.timeout w.remote_last_ts) now ≡ true → Reason w t f now
   Owed : ack_due w ≡ true → Reason w t f now
+  Small : (sendable w ≡ 0 → ⊥) → Reason w t f now
 
 pub or_true : (a b : Bool) → (a || b) ≡ true → (a ≡ true) ⊎ (b ≡ true)
 or_true true b e = inl refl
@@ -79,19 +83,33 @@ reason : (w : View) (t : Tuple) (f : Facts) (now : Instant) → is_reached (poll
 reason w t f now e = go (is_due_now w t f) refl e
   where
     late : PollAt
-    late = earlier (timer_poll w.timer) (earlier (timeout_poll w.timeout w.remote_last_ts) (ack_poll w))
+    late = earlier (timer_poll w.timer) (earlier (timeout_poll w.timeout w.remote_last_ts) (held_poll w))
 
     owed : (b : Bool) → ack_due w ≡ b → is_reached (if b then delay_poll w.ack_delay_timer else poll.Ingress) now ≡ true → Reason w t f now
     owed true i e = Owed i
     owed false i e = absurd cc
 
-    last : (is_reached (timeout_poll w.timeout w.remote_last_ts) now ≡ true) ⊎ (is_reached (ack_poll w) now ≡ true) → Reason w t f now
-    last (inl e) = TimedOut e
-    last (inr e) = owed (ack_due w) refl e
+    -- bytes that wait may go out
+    small : (b : Bool) (n : ℕ) (at : Option Instant) → is_reached (small_poll (b && not (n == 0)) at) now ≡ true → n ≡ 0 → ⊥
+    small true zero at e z = absurd cc
+    small true (suc n) at e z = omega (arith, z)
+    small false n at e z = absurd cc
 
-    waited : (is_reached (timer_poll w.timer) now ≡ true) ⊎ (is_reached (earlier (timeout_poll w.timeout w.remote_last_ts) (ack_poll w)) now ≡ true) → Reason w t f now
+    held : (r : Rules) → is_reached (held_by r (ack_poll w) (small_poll ((flight w == 0) && not (sendable w == 0)) w.idle_at)) now ≡ true → Reason w t f now
+    held rules.Smoltcp e = owed (ack_due w) refl e
+    held rules.Rfc e = by (one_reached (ack_poll w) (small_poll ((flight w == 0) && not (sendable w == 0)) w.idle_at) now e)
+      where
+        by : (is_reached (ack_poll w) now ≡ true) ⊎ (is_reached (small_poll ((flight w == 0) && not (sendable w == 0)) w.idle_at) now ≡ true) → Reason w t f now
+        by (inl e) = owed (ack_due w) refl e
+        by (inr e) = Small (small (flight w == 0) (sendable w) w.idle_at e)
+
+    last : (is_reached (timeout_poll w.timeout w.remote_last_ts) now ≡ true) ⊎ (is_reached (held_poll w) now ≡ true) → Reason w t f now
+    last (inl e) = TimedOut e
+    last (inr e) = held w.rules e
+
+    waited : (is_reached (timer_poll w.timer) now ≡ true) ⊎ (is_reached (earlier (timeout_poll w.timeout w.remote_last_ts) (held_poll w)) now ≡ true) → Reason w t f now
     waited (inl e) = TimerOver e
-    waited (inr e) = last (one_reached (timeout_poll w.timeout w.remote_last_ts) (ack_poll w) now e)
+    waited (inr e) = last (one_reached (timeout_poll w.timeout w.remote_last_ts) (held_poll w) now e)
 
     first : (is_none w.remote_last_ts ≡ true) ⊎ (is_closed w.state ≡ true) → Reason w t f now
     first (inl e) = Forgotten e
@@ -107,7 +125,7 @@ reason w t f now e = go (is_due_now w t f) refl e
 
     go : (b : Bool) → is_due_now w t f ≡ b → is_reached (if b then poll.Now else late) now ≡ true → Reason w t f now
     go true d e = third (or_true (is_none w.remote_last_ts || is_closed w.state || data_due w t f) (window_doubled w) d)
-    go false d e = waited (one_reached (timer_poll w.timer) (earlier (timeout_poll w.timeout w.remote_last_ts) (ack_poll w)) now e)
+    go false d e = waited (one_reached (timer_poll w.timer) (earlier (timeout_poll w.timeout w.remote_last_ts) (held_poll w)) now e)
 
 -- ---- the socket that is left
 
@@ -305,6 +323,7 @@ module _ (u : View) (f : Facts) (o : IsOrdered u) (q : IsProbing u) (settled : S
   again w t k b a l ack window (Data e) = absurd (no_data_due u w (moment_of f) l t f a.quiet e)
   again w t k b a l ack window (Doubled e) = window e
   again w t k b a l ack window (Owed e) = ack e
+  again w t k b a l ack window (Small e) = absurd (e (sendable_same u w (moment_of f) l ∙ a.quiet.sent))
   again w t k b a l ack window (TimerOver e) = by settled.alive
     where
       by : (u.state ≡ state.Closed) ⊎ ((is_reached (timeout_poll u.timeout u.remote_last_ts) (moment_of f) ≡ false) × IsSet u.timer (moment_of f)) → WantsAnother w k (moment_of f)

@@ -1,7 +1,7 @@
 -- Where data is due, what goes out takes a sequence number; and after a retransmission timeout data is due.
 use Rattle.std.proofs.Common.{◌≡◌, ℕ, zero, suc, ◌<◌, ◌⊎◌, inl, inr, Bool, true, false, true≢false, not, ◌&&◌, ◌||◌, refl, sym, ap, subst, ◌∙◌, List, length, Option, Some, None, arith}
-use Rattle.std.specs.Prelude.{◌==◌, option_map}
-use Rattle.std.proofs.lemmas.Bool.{and_parts, eqb-true}
+use Rattle.std.specs.Prelude.{◌/◌, ◌==◌, nat_lt, option_map}
+use Rattle.std.proofs.lemmas.Bool.{and_parts, and_right, eqb-true}
 use Rattle.std.proofs.lemmas.Option.{none-some, same_Some}
 use Rattle.net_base.specs.declared.time.Duration.{Duration}
 use Rattle.net_base.specs.declared.time.Instant.{Instant}
@@ -10,13 +10,17 @@ use Rattle.control_wire.specs.Segment.{Segment, segment_len}
 use Rattle.sock_core.specs.Facts.{Facts, IsLawful}
 use Rattle.sock_tcp.specs.Begin.{Begun, last_ts_set, last_ts_set_at, told_ready, readied, retransmission_begun, after_timers, is_paused, begun, begun_to, unless_paused, before_emit, before_emit_to, peer_of, going_on}
 use Rattle.sock_tcp.specs.Content.{Sending, asked, content, emission_kind, filled, of_kind, offset_of, plain_segment, sent_as}
-use Rattle.sock_tcp.specs.Due.{data_due, effective_mss, flight, is_closing, is_due, is_held_back, is_opening, sendable}
+use Rattle.sock_tcp.specs.Due.{data_due, effective_mss, flight, is_closing, is_due, is_held_back, is_opening, may_wait, sendable}
 use Rattle.sock_tcp.specs.Polls.{is_reached, timeout_poll}
 use Rattle.sock_tcp.specs.Queue.{IsLent, Queue}
+use Rattle.sock_tcp.specs.Rfc.Recovery.{timed_out_by}
+use Rattle.sock_tcp.specs.Rfc.SmallSegments.{waits_alone}
 use Rattle.sock_tcp.specs.Rfc.TailLoss.{probes_tail}
 use Rattle.sock_tcp.specs.View.{View, moment_of}
 use Rattle.sock_tcp.specs.declared.emission.Kind.{Kind}
 use Rattle.sock_tcp.specs.declared.emission.Kind.TheVariants as kind
+use Rattle.sock_tcp.specs.declared.rules.Rules.{Rules}
+use Rattle.sock_tcp.specs.declared.rules.Rules.TheVariants as rules
 use Rattle.sock_tcp.specs.declared.state.State.{State}
 use Rattle.sock_tcp.specs.declared.state.State.TheVariants as state
 use Rattle.sock_tcp.specs.declared.timer.Timer.{Timer}
@@ -182,8 +186,17 @@ module _ (v : View) (t : Tuple) (f : Facts) (r : IsReached v) (h : IsRetransmiss
   unfolding retransmission_begun
   wide = subst (λ q. 0 < q) (sym still.window) window
 
+  -- what was sent before does not wait
+  again : may_wait u ≡ false
+  unfolding retransmission_begun
+  again = by x.rules
+    where
+      by : (r : Rules) → waits_alone r (timed_out_by r x.recovery x.remote_last_seq) x.idle_at x.remote_win_len x.largest_window ≡ false
+      by rules.Smoltcp = refl
+      by rules.Rfc = and_right (nat_lt x.remote_win_len (x.largest_window / 2)) _ (and_right (is_some x.idle_at) false refl)
+
   due : data_due u t f ≡ true
-  due = window_sends u t f ordered wide nothing_in_flight waits
+  due = window_sends u t f ordered wide nothing_in_flight again waits
 
   is_due_so : is_due u t f ≡ true
   unfolding is_due

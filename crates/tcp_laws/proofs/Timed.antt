@@ -32,7 +32,7 @@ use Rattle.sock_tcp.proofs.Recovering.{known_as, begun_as, marked_as, timer_as}
 use Rattle.tcp_laws.proofs.Kept.{Kept, KeptByBeginnings, KeptByCalls, KeptByRows, KeptBySegments, KeptBySending, process_kept, sends_kept}
 use Rattle.tcp_laws.proofs.SocketSteps.{same_number}
 use Rattle.tcp_laws.proofs.OrderedCalls.{same_flag}
-use Rattle.tcp_laws.proofs.Moments.{IsTimed, acked_by, acked_short, again_short, and_true, bounded_short, close_by, delayed_by, doubled_by, fast_short, heard_short, idle_by, is_by, is_delay_by, is_short, is_timer_by, later_timed, measured_short, opened_short, probe_by, renewed_by, restarted_by, rto_by, set_by, sooner_by, tail_by, timed_by}
+use Rattle.tcp_laws.proofs.Moments.{IsTimed, acked_by, acked_short, again_short, and_true, bounded_short, close_by, delayed_by, doubled_by, fast_short, heard_short, idle_by, is_by, is_delay_by, is_moment_by, is_short, is_timer_by, later_timed, measured_short, opened_short, probe_by, renewed_by, restarted_by, rto_by, sent_by, set_by, sooner_by, tail_by, timed_by}
 
 module _ (most : Duration) (minute : 60000000 ≤ most.micros) where
   -- ---- a segment
@@ -40,12 +40,12 @@ module _ (most : Duration) (minute : 60000000 ≤ most.micros) where
   module _ (s : Segment) (now : Instant) where
     delayed_timed : (w : View) (o : ℕ) (bs : List ℕ) → IsTimed now most w → IsTimed now most (ack_delayed (joined w o bs) now)
     unfolding joined ack_delayed
-    delayed_timed w o bs h = record { timer = h.timer; waits = delayed_by most minute now w.ack_delay (joined w o bs) h.delay_short h.waits; timeout = h.timeout; keep_short = h.keep_short; delay_short = h.delay_short }
+    delayed_timed w o bs h = record { timer = h.timer; waits = delayed_by most minute now w.ack_delay (joined w o bs) h.delay_short h.waits; timeout = h.timeout; keep_short = h.keep_short; delay_short = h.delay_short; idle = h.idle }
 
     -- a timer that is set at the end
     set_timed : (y : View) (a : Acked) → IsTimed now most y → IsTimed now most (timer_set (timestamp_taken y s) now a)
     unfolding timer_set timestamp_taken
-    set_timed y a h = record { timer = set_by most minute now (timer_acked y.timer (timestamp_taken y s) now a) (timestamp_taken y s) a h.keep_short h.timeout (acked_by most minute now y.timer (timestamp_taken y s) a h.keep_short h.timeout h.timer); waits = h.waits; timeout = h.timeout; keep_short = h.keep_short; delay_short = h.delay_short }
+    set_timed y a h = record { timer = set_by most minute now (timer_acked y.timer (timestamp_taken y s) now a) (timestamp_taken y s) a h.keep_short h.timeout (acked_by most minute now y.timer (timestamp_taken y s) a h.keep_short h.timeout h.timer); waits = h.waits; timeout = h.timeout; keep_short = h.keep_short; delay_short = h.delay_short; idle = h.idle }
 
     counted_timed : (x : View) (o : Option TcpSeqNumber) (n payload : ℕ) (changed : Bool) → IsTimed now most x → IsTimed now most (acknowledged x o now n payload changed)
     unfolding acknowledged duplicate_counted ack_counted una_advanced
@@ -57,8 +57,8 @@ module _ (most : Duration) (minute : 60000000 ≤ most.micros) where
         third false = h.timer
 
         go : (b : Bool) → IsTimed now most (ack_heard b x now k n)
-        go true = record { timer = third (x.local_rx_dup_acks == 2); waits = h.waits; timeout = h.timeout; keep_short = h.keep_short; delay_short = h.delay_short }
-        go false = record { timer = h.timer; waits = h.waits; timeout = acked_short x.rtte now k h.timeout; keep_short = h.keep_short; delay_short = h.delay_short }
+        go true = record { timer = third (x.local_rx_dup_acks == 2); waits = h.waits; timeout = h.timeout; keep_short = h.keep_short; delay_short = h.delay_short; idle = h.idle }
+        go false = record { timer = h.timer; waits = h.waits; timeout = acked_short x.rtte now k h.timeout; keep_short = h.keep_short; delay_short = h.delay_short; idle = h.idle }
 
     window_timed : (u : View) (n : ℕ) → IsTimed now most u → IsTimed now most (released (window_taken u now s.control s.window_len) n)
     unfolding window_taken released
@@ -73,18 +73,18 @@ module _ (most : Duration) (minute : 60000000 ≤ most.micros) where
     rows_timed word = record {
       falls = λ v h. h;
       drops = λ v h. h;
-      opens = λ v t h. record { timer = idle_by most minute now v.keep_alive h.keep_short; waits = h.waits; timeout = h.timeout; keep_short = h.keep_short; delay_short = h.delay_short };
+      opens = λ v t h. record { timer = idle_by most minute now v.keep_alive h.keep_short; waits = h.waits; timeout = h.timeout; keep_short = h.keep_short; delay_short = h.delay_short; idle = h.idle };
       answers = λ v h. h;
       moves = λ v st h. h;
       counts = λ v st h. h;
-      waits = λ v h. record { timer = close_by most minute now; waits = h.waits; timeout = h.timeout; keep_short = h.keep_short; delay_short = h.delay_short };
+      waits = λ v h. record { timer = close_by most minute now; waits = h.waits; timeout = h.timeout; keep_short = h.keep_short; delay_short = h.delay_short; idle = h.idle };
     }
 
     segments_timed : (word : ℕ) → KeptBySegments (IsTimed now most) now word s
     unfolding ack_kept close_restarted recovered before_of
     segments_timed word = record {
       answers = record { challenges = λ w at h. h; acks = λ w h. h };
-      restarts = λ w h. record { timer = restarted_by most minute now w.state w.timer h.timer; waits = h.waits; timeout = h.timeout; keep_short = h.keep_short; delay_short = h.delay_short };
+      restarts = λ w h. record { timer = restarted_by most minute now w.state w.timer h.timer; waits = h.waits; timeout = h.timeout; keep_short = h.keep_short; delay_short = h.delay_short; idle = h.idle };
       numbers = λ v n h. h;
       rows = rows_timed word;
       joins = λ w o bs h. delayed_timed w o bs h;
@@ -93,14 +93,14 @@ module _ (most : Duration) (minute : 60000000 ≤ most.micros) where
           let u : View = echo_known (before_of v s) w now in
           let short : u.rtte.rto ≤ 60000 = heard_short (is_news (before_of v s) w) (before_of v s).echo w.rtte now i.timeout in
           let known : is_timer_by now most u.timer ≡ true = known_as (λ t. is_timer_by now most t ≡ true) (before_of v s) w now (λ at e. rto_by most minute now u.rtte short) i.timer in
-          record { timer = timer_as (λ t. is_timer_by now most t ≡ true) (before_of v s) u now known refl (λ at e. sym (ap (is_timer_by now most) e) ∙ h.timer) (rto_by most minute now u.rtte short) (tail_by most minute now u.rtte (is_alone u) short) (λ at delay e. idle_by most minute now w.keep_alive i.keep_short); waits = i.waits; timeout = opened_short (is_opened (before_of v s) u) u.rtte short; keep_short = i.keep_short; delay_short = i.delay_short };
+          record { timer = timer_as (λ t. is_timer_by now most t ≡ true) (before_of v s) u now known refl (λ at e. sym (ap (is_timer_by now most) e) ∙ h.timer) (rto_by most minute now u.rtte short) (tail_by most minute now u.rtte (is_alone u) short) (λ at delay e. idle_by most minute now w.keep_alive i.keep_short); waits = i.waits; timeout = opened_short (is_opened (before_of v s) u) u.rtte short; keep_short = i.keep_short; delay_short = i.delay_short; idle = i.idle };
     }
 
   -- ---- a reset
 
   renewed_timed : (last : Instant) (v : View) → IsTimed last most v → IsTimed last most (renewed v)
   unfolding renewed fresh
-  renewed_timed last v h = record { timer = refl; waits = refl; timeout = omega arith; keep_short = h.keep_short; delay_short = h.delay_short }
+  renewed_timed last v h = record { timer = refl; waits = refl; timeout = omega arith; keep_short = h.keep_short; delay_short = h.delay_short; idle = refl }
 
   -- ---- a dispatch
 
@@ -112,20 +112,20 @@ module _ (most : Duration) (minute : 60000000 ≤ most.micros) where
       tells = λ v h. h;
       times_out = λ v h. h;
       forgets = λ v h. h;
-      begins_again = λ v at e h. record { timer = begun_as (λ t. is_timer_by now most t ≡ true) v.rules v.remote_win_len (length v.tx_buffer.bytes) now v.keep_alive (retransmitted (backed_off v.rtte)) (idle_by most minute now v.keep_alive h.keep_short) (λ z some. probe_by most minute now (retransmitted (backed_off v.rtte)) (again_short v.rtte h.timeout)); waits = h.waits; timeout = again_short v.rtte h.timeout; keep_short = h.keep_short; delay_short = h.delay_short };
-      marks = λ v e h. record { timer = marked_as (λ t. is_timer_by now most t ≡ true) v.rules now v.keep_alive (retransmitted v.rtte) (idle_by most minute now v.keep_alive h.keep_short) (rto_by most minute now (retransmitted v.rtte) (fast_short v.rtte h.timeout)); waits = h.waits; timeout = fast_short v.rtte h.timeout; keep_short = h.keep_short; delay_short = h.delay_short };
-      goes_back = λ v at delay e h. record { timer = h.timer; waits = h.waits; timeout = fast_short v.rtte h.timeout; keep_short = h.keep_short; delay_short = h.delay_short };
-      probes_tail = λ v at e h. record { timer = rto_by most minute now (retransmitted v.rtte) (fast_short v.rtte h.timeout); waits = h.waits; timeout = fast_short v.rtte h.timeout; keep_short = h.keep_short; delay_short = h.delay_short };
+      begins_again = λ v at e h. record { timer = begun_as (λ t. is_timer_by now most t ≡ true) v.rules v.remote_win_len (length v.tx_buffer.bytes) now v.keep_alive (retransmitted (backed_off v.rtte)) (idle_by most minute now v.keep_alive h.keep_short) (λ z some. probe_by most minute now (retransmitted (backed_off v.rtte)) (again_short v.rtte h.timeout)); waits = h.waits; timeout = again_short v.rtte h.timeout; keep_short = h.keep_short; delay_short = h.delay_short; idle = h.idle };
+      marks = λ v e h. record { timer = marked_as (λ t. is_timer_by now most t ≡ true) v.rules now v.keep_alive (retransmitted v.rtte) (idle_by most minute now v.keep_alive h.keep_short) (rto_by most minute now (retransmitted v.rtte) (fast_short v.rtte h.timeout)); waits = h.waits; timeout = fast_short v.rtte h.timeout; keep_short = h.keep_short; delay_short = h.delay_short; idle = h.idle };
+      goes_back = λ v at delay e h. record { timer = h.timer; waits = h.waits; timeout = fast_short v.rtte h.timeout; keep_short = h.keep_short; delay_short = h.delay_short; idle = h.idle };
+      probes_tail = λ v at e h. record { timer = rto_by most minute now (retransmitted v.rtte) (fast_short v.rtte h.timeout); waits = h.waits; timeout = fast_short v.rtte h.timeout; keep_short = h.keep_short; delay_short = h.delay_short; idle = h.idle };
     }
 
     sends_timed : KeptBySending (IsTimed now most) now
     unfolding after_any snd_nxt_moved after_probe
     sends_timed = record {
-      renews = λ u h. record { timer = renewed_by most minute now u.timer u.keep_alive h.keep_short h.timer; waits = refl; timeout = h.timeout; keep_short = h.keep_short; delay_short = h.delay_short };
+      renews = λ u h. record { timer = renewed_by most minute now u.timer u.keep_alive h.keep_short h.timer; waits = refl; timeout = h.timeout; keep_short = h.keep_short; delay_short = h.delay_short; idle = h.idle };
       moves = λ u e h. h;
-      times = λ u e h. record { timer = timed_by most minute now u.timer u.rtte h.timeout h.timer; waits = h.waits; timeout = measured_short u now e h.timeout; keep_short = h.keep_short; delay_short = h.delay_short };
-      probes = λ u h. record { timer = doubled_by most minute now u.timer h.timer; waits = h.waits; timeout = h.timeout; keep_short = h.keep_short; delay_short = h.delay_short };
-      arms = λ u at e h. record { timer = sooner_by most minute now at (after now (tail_wait u.rtte (is_alone u))) (subst (λ t. is_timer_by now most t ≡ true) e h.timer) (tail_by most minute now u.rtte (is_alone u) h.timeout); waits = h.waits; timeout = h.timeout; keep_short = h.keep_short; delay_short = h.delay_short };
+      times = λ u e h. record { timer = timed_by most minute now u.timer u.rtte h.timeout h.timer; waits = h.waits; timeout = measured_short u now e h.timeout; keep_short = h.keep_short; delay_short = h.delay_short; idle = sent_by most minute now u.rules u.idle_at u.rtte h.timeout h.idle };
+      probes = λ u h. record { timer = doubled_by most minute now u.timer h.timer; waits = h.waits; timeout = h.timeout; keep_short = h.keep_short; delay_short = h.delay_short; idle = h.idle };
+      arms = λ u at e h. record { timer = sooner_by most minute now at (after now (tail_wait u.rtte (is_alone u))) (subst (λ t. is_timer_by now most t ≡ true) e h.timer) (tail_by most minute now u.rtte (is_alone u) h.timeout); waits = h.waits; timeout = h.timeout; keep_short = h.keep_short; delay_short = h.delay_short; idle = h.idle };
     }
 
   -- ---- the other calls
@@ -139,7 +139,7 @@ module _ (most : Duration) (minute : 60000000 ≤ most.micros) where
 
     queued_timed : (v : View) (n : ℕ) (bs : List ℕ) → Now v → Now (queued v n bs)
     unfolding queued
-    queued_timed v n bs h = record { timer = go (not (n == 0) && (v.remote_win_len == 0) && is_idle v.timer); waits = h.waits; timeout = h.timeout; keep_short = h.keep_short; delay_short = h.delay_short }
+    queued_timed v n bs h = record { timer = go (not (n == 0) && (v.remote_win_len == 0) && is_idle v.timer); waits = h.waits; timeout = h.timeout; keep_short = h.keep_short; delay_short = h.delay_short; idle = h.idle }
       where
         go : (b : Bool) → is_timer_by last most (if b then first_probe v.rtte else v.timer) ≡ true
         go true = and_true (is_by last most (record { micros = pos (v.rtte.rto * 1000) })) (nat_le (v.rtte.rto * 1000) 60000000) (since_zero (v.rtte.rto * 1000) (omega (arith, h.timeout, minute))) (le-leb (v.rtte.rto * 1000) 60000000 (omega (arith, h.timeout)))
@@ -167,6 +167,7 @@ module _ (most : Duration) (minute : 60000000 ≤ most.micros) where
         timeout = let e = same_number w.rtte.rto v.rtte.rto (λ d. n (λ e. d (ap (λ (x : View). x.rtte.rto) e))) in omega (arith, e, h.timeout);
         keep_short = flag (λ x. is_short last most x.keep_alive) ∙ h.keep_short;
         delay_short = flag (λ x. is_short last most x.ack_delay) ∙ h.delay_short;
+        idle = flag (λ x. is_moment_by last most x.idle_at) ∙ h.idle;
       }
         where
           flag : (f : View → Bool) → f w ≡ f v
@@ -175,14 +176,14 @@ module _ (most : Duration) (minute : 60000000 ≤ most.micros) where
       setting_timed : (x : Sets v w) → IsAtMost (interval_set x) most → Now w
       setting_timed (SetCongestionControl x e) m = subst Now (sym e) h
       setting_timed (SetTimeout x e) m = subst Now (sym e) h
-      setting_timed (SetAckDelay x e) m = subst Now (sym e) (record { timer = h.timer; waits = h.waits; timeout = h.timeout; keep_short = h.keep_short; delay_short = short_is x m })
+      setting_timed (SetAckDelay x e) m = subst Now (sym e) (record { timer = h.timer; waits = h.waits; timeout = h.timeout; keep_short = h.keep_short; delay_short = short_is x m; idle = h.idle })
       setting_timed (SetNagle x e) m = subst Now (sym e) h
-      setting_timed (SetKeepAlive x e) m = subst Now (sym e) (record { timer = kept_by x v.timer h.timer; waits = h.waits; timeout = h.timeout; keep_short = short_is x m; delay_short = h.delay_short })
+      setting_timed (SetKeepAlive x e) m = subst Now (sym e) (record { timer = kept_by x v.timer h.timer; waits = h.waits; timeout = h.timeout; keep_short = short_is x m; delay_short = h.delay_short; idle = h.idle })
       setting_timed (SetHopLimit x e) m = subst Now (sym e) h
       setting_timed (PauseSynAck x e) m = subst Now (sym e) h
       setting_timed (SetTsvalGenerator x e) m = subst Now (sym e) h
       setting_timed (SetRules x e) m = subst Now (sym e) h
-      setting_timed (SetMinRto x e) m = subst Now (sym e) (record { timer = h.timer; waits = h.waits; timeout = bounded_short v.rtte x h.timeout; keep_short = h.keep_short; delay_short = h.delay_short })
+      setting_timed (SetMinRto x e) m = subst Now (sym e) (record { timer = h.timer; waits = h.waits; timeout = bounded_short v.rtte x h.timeout; keep_short = h.keep_short; delay_short = h.delay_short; idle = h.idle })
 
     calls_timed : KeptByCalls Now (λ d. IsAtMost d most)
     unfolding read_off connected listened

@@ -12,7 +12,7 @@ use Rattle.sock_tcp.specs.Rfc.Idle.{idle_by, restarted_by}
 use Rattle.sock_tcp.specs.Begin.{last_ts_set, last_ts_set_at, readied, after_timers, is_paused, begun, begun_to, unless_paused, ended, before_emit, before_emit_to, peer_of}
 use Rattle.sock_tcp.specs.Content.{Sending, content}
 use Rattle.sock_tcp.specs.Dispatch.{Dispatches, EmitTcp, EmitsTo}
-use Rattle.sock_tcp.specs.Due.{ack_poll, data_due, is_closed, is_due, window_doubled}
+use Rattle.sock_tcp.specs.Due.{held_poll, data_due, is_closed, is_due, window_doubled}
 use Rattle.sock_tcp.specs.Opening.{renewed}
 use Rattle.sock_tcp.specs.Polls.{is_reached, timeout_poll}
 use Rattle.sock_tcp.specs.Rfc.RoundTrips.{sending_measured}
@@ -77,7 +77,7 @@ unfolding is_due
 closed_due u t f is = go (is_due_by) refl
   where
     front : Bool
-    front = data_due u t f || is_reached (ack_poll u) (moment_of f) || window_doubled u
+    front = data_due u t f || is_reached (held_poll u) (moment_of f) || window_doubled u
 
     is_due_by : Bool
     is_due_by = front || is_closed u.state || is_keep_alive_over u.timer (moment_of f) || is_probe_over u.timer (moment_of f)

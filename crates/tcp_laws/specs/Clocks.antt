@@ -7,7 +7,7 @@ use Rattle.net_base.specs.declared.time.Instant.{Instant}
 use Rattle.sock_core.specs.Facts.{Facts}
 use Rattle.sock_core.specs.Received.{receiving}
 use Rattle.sock_core.specs.declared.context.PollAt.TheVariants as poll
-use Rattle.sock_tcp.specs.Due.{ack_due}
+use Rattle.sock_tcp.specs.Due.{held_poll}
 use Rattle.sock_tcp.specs.Poll.{poll_moment}
 use Rattle.sock_tcp.specs.Polls.{timer_poll}
 use Rattle.sock_tcp.specs.Queue.{queue_of}
@@ -73,9 +73,9 @@ pub record IsReachedBy (v : View) (last : Instant) (most : Duration) : Type 0 wh
 
 -- ---- the law
 
--- where its timer has no moment, an acknowledgement is due
+-- where its timer has no moment, something that is held back has one: an acknowledgement, or by the RFCs' rules bytes
 abbrev pub IsAwake : View → Type 0
-IsAwake v = timer_poll v.timer ≡ poll.Ingress → ack_due v ≡ true
+IsAwake v = timer_poll v.timer ≡ poll.Ingress → held_poll v ≡ poll.Ingress → ⊥
 
 -- a socket with a peer that is awake is to be called at the latest so long after the latest moment told
 abbrev pub WakeUpIsBounded : Type 0

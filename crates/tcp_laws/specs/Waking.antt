@@ -1,5 +1,5 @@
 -- What a segment, and what the user timeout, does for a socket that waits for its peer.
-use Rattle.std.specs.Prelude.{ℕ, ◌≡◌, ◌<◌, ◌^◌, ◌⊎◌, length, Some, is_some, Bool, true, false}
+use Rattle.std.specs.Prelude.{ℕ, ◌≡◌, ◌<◌, ◌/◌, ◌^◌, ◌⊎◌, length, Some, is_some, Bool, true, false}
 use Rattle.ip_wire.specs.declared.repr.IpRepr.{IpRepr}
 use Rattle.net_base.specs.declared.time.Instant.{Instant}
 use Rattle.control_wire.specs.Segment.{Segment}
@@ -8,11 +8,12 @@ use Rattle.control_wire.specs.declared.tcp.TcpControl.TheVariants as control
 use Rattle.sock_core.specs.Facts.{Facts}
 use Rattle.sock_tcp.specs.Acked.{acked_of}
 use Rattle.sock_tcp.specs.Advance.{counted_control}
-use Rattle.sock_tcp.specs.Due.{data_due, flight, is_closing}
+use Rattle.sock_tcp.specs.Due.{data_due, effective_mss, flight, is_closing}
 use Rattle.sock_tcp.specs.Polls.{is_reached, timeout_poll}
 use Rattle.sock_tcp.specs.Process.{processed}
 use Rattle.sock_tcp.specs.Steps.{is_duplicate, is_window_changed}
 use Rattle.sock_tcp.specs.Rfc.Checks.{verdict_by}
+use Rattle.sock_tcp.specs.Rfc.SmallSegments.{sends_again}
 use Rattle.sock_tcp.specs.Rfc.Windows.{told_by}
 use Rattle.sock_tcp.specs.View.{View}
 use Rattle.sock_tcp.specs.Window.{accepted_window, is_inside}
@@ -84,6 +85,20 @@ pub record TellsWindow (v : View) (now : Instant) (s : Segment) : Type 0 where
 abbrev pub HasToSend : View → Type 0
 HasToSend v = (0 < length v.tx_buffer.bytes) ⊎ (is_closing v.state ≡ true)
 
+-- the window is less than half of the largest one that was told, than a segment and than what waits; none of it may have
+-- been sent before; and there is a moment at which it goes out, which `poll_at` tells
+pub record WaitsSmall (v : View) (t : Tuple) (f : Facts) : Type 0 where
+  pub half : v.remote_win_len < v.largest_window / 2
+  pub short : v.remote_win_len < effective_mss v t f
+  pub more : v.remote_win_len < length v.tx_buffer.bytes
+  pub has_moment : is_some v.idle_at ≡ true
+  pub first : sends_again v.recovery ≡ false
+
+-- by the RFCs' rules it may be small (RFC 9293, section 3.8.6.2.1)
+abbrev pub GoesOrWaits : Rules → View → Tuple → Facts → Type 0
+GoesOrWaits rules.Smoltcp v t f = data_due v t f ≡ true
+GoesOrWaits rules.Rfc v t f = (data_due v t f ≡ true) ⊎ WaitsSmall v t f
+
 -- where nothing is in flight, what waits is due after a segment that tells a window
 abbrev pub WindowWakes : Type 0
 WindowWakes = (v : View) (now : Instant) (word : ℕ) (ip : IpRepr) (s : Segment) (t : Tuple) (f : Facts)
@@ -93,7 +108,7 @@ WindowWakes = (v : View) (now : Instant) (word : ℕ) (ip : IpRepr) (s : Segment
     → TellsWindow v now s
     → flight (processed v now word ip s).view ≡ 0
     → HasToSend (processed v now word ip s).view
-    → data_due (processed v now word ip s).view t f ≡ true
+    → GoesOrWaits v.rules (processed v now word ip s).view t f
 
 -- the third duplicate in turn: it acknowledges nothing new while something is in flight, without bytes and with the
 -- window as it was

@@ -119,8 +119,10 @@ pub fn blind_segments_change_nothing()
 {}
 
 /// In ESTABLISHED, FIN-WAIT-1, CLOSE-WAIT and CLOSING a segment that passes and tells a window, as the answer to a
-/// keep-alive does, leaves a socket with data due, where nothing is in flight and bytes or a FIN wait; after any list
-/// of calls on a new socket over any two buffers of at most 2^30 bytes.
+/// keep-alive does, leaves a socket with data due, where nothing is in flight and bytes or a FIN wait; by the RFCs'
+/// rules, that or a window that is less than half of the largest one, than a segment and than what waits, and then
+/// there is a moment at which what fits goes out; after any list of calls on a new socket over any two buffers of at
+/// most 2^30 bytes.
 pub fn window_wakes()
     ensures { WindowWakes }
 {}
@@ -140,9 +142,9 @@ pub fn acks_repeat_only_so()
 {}
 
 /// A wake-up has a bound, over any list of calls on such a socket with a clock that begins at 0 or later and does not
-/// go back: where a socket with a peer has a moment in its timer, or an acknowledgement due, `poll_at` is at the latest
-/// the latest moment told, plus the longest of a minute and of the keep-alive intervals and acknowledgement delays that
-/// were set.
+/// go back: where a socket with a peer has a moment in its timer, or an acknowledgement due, or by the RFCs' rules bytes
+/// that wait with nothing in flight, `poll_at` is at the latest the latest moment told, plus the longest of a minute and
+/// of the keep-alive intervals and acknowledgement delays that were set.
 pub fn wake_up_is_bounded()
     ensures { WakeUpIsBounded }
 {}

@@ -23,11 +23,12 @@ use Rattle.sock_tcp.specs.Inside.{Outcome}
 use Rattle.sock_tcp.specs.Rfc.Scoreboard.{all_told, any_news, highest_told, is_blank, moved, nothing_told}
 use Rattle.sock_tcp.specs.Rfc.Pipe.{has_room, told_before}
 use Rattle.sock_tcp.specs.Rfc.RoundTrips.{echo_of, echo_taken}
+use Rattle.sock_tcp.specs.Rfc.SmallSegments.{larger}
 use Rattle.sock_tcp.specs.Rfc.TailLoss.{is_alone, may_probe, tail_waits}
 use Rattle.sock_tcp.specs.Steps.{is_duplicate}
 use Rattle.sock_tcp.specs.Timers.{idle_from, probe_from, retransmit_from}
 use Rattle.sock_tcp.specs.View.{View}
-use Rattle.sock_tcp.specs.Window.{honored_window, is_inside}
+use Rattle.sock_tcp.specs.Window.{has_window, honored_window, is_inside}
 use Rattle.sock_tcp.specs.declared.recovery.Before.{Before}
 use Rattle.sock_tcp.specs.declared.recovery.Recovery.{Recovery}
 use Rattle.sock_tcp.specs.declared.recovery.Recovery.TheVariants as recovery
@@ -349,6 +350,7 @@ recovered_from b w now =
       congestion_controller = controller_after b w now;
       recovery = recovery_after b w;
       sacked = sacked_after b w;
+      largest_window = larger (has_window b.state) w.largest_window w.remote_win_len;
     }
 
 unfoldable pub recovered : Before → View → Instant → View

@@ -1,11 +1,53 @@
--- Which small segments wait by the RFCs' rules (RFC 9293, section 3.8.6.2.1).
-use Rattle.std.specs.Prelude.{ℕ, ◌-◌, nat_le, nat_lt, Bool, false, not, ◌==◌, ◌&&◌}
+-- Which small segments wait by the RFCs' rules, and how long (RFC 9293, section 3.8.6.2.1).
+use Rattle.std.specs.Prelude.{ℕ, ◌-◌, ◌/◌, max, nat_le, nat_lt, Option, Some, None, is_some, Bool, true, false, not}
+use Rattle.std.specs.Prelude.{◌==◌, ◌&&◌, ◌||◌, if◌then◌else◌}
+use Rattle.net_base.specs.declared.time.Instant.{Instant}
+use Rattle.sock_core.specs.declared.context.PollAt.{PollAt}
+use Rattle.sock_core.specs.declared.context.PollAt.TheVariants as poll
+use Rattle.sock_tcp.specs.Polls.{earlier}
+use Rattle.sock_tcp.specs.declared.recovery.Recovery.{Recovery}
+use Rattle.sock_tcp.specs.declared.recovery.Recovery.TheVariants as recovery
 use Rattle.sock_tcp.specs.declared.rules.Rules.{Rules}
 use Rattle.sock_tcp.specs.declared.rules.Rules.TheVariants as rules
 
--- While something is in flight, what the peer's window leaves is less than a segment and less than what waits, and the
--- congestion window does not leave less: flight bytes of the queued ones were sent
-abbrev pub is_cut_by : Rules → ℕ → ℕ → ℕ → ℕ → ℕ → Bool
-is_cut_by rules.Smoltcp flight window queued congestion mss = false
-is_cut_by rules.Rfc flight window queued congestion mss =
-    not (flight == 0) && (nat_lt window queued && (nat_lt (window - flight) mss && nat_le (window - flight) congestion))
+-- ---- which ones
+
+-- after a fast retransmission or a timeout, what goes out at SND.UNA may have been sent before
+abbrev pub sends_again : Recovery → Bool
+sends_again (recovery.Fast point high_rxt resent_at) = true
+sends_again (recovery.Timeout point) = true
+sends_again _ = false
+
+-- whether one may wait with nothing in flight: nothing is sent again, the window is less than half of the largest one
+-- that the peer told, and there is a moment at which it goes out
+abbrev pub waits_alone : Rules → Recovery → Option Instant → ℕ → ℕ → Bool
+waits_alone rules.Smoltcp r at window largest = false
+waits_alone rules.Rfc r at window largest = nat_lt window (largest / 2) && (is_some at && not (sends_again r))
+
+-- While something is in flight, or it may wait alone, what the peer's window leaves is less than a segment and less than
+-- what waits, and the congestion window does not leave less: flight bytes of the queued ones were sent
+abbrev pub is_cut_by : Rules → Bool → ℕ → ℕ → ℕ → ℕ → ℕ → Bool
+is_cut_by rules.Smoltcp alone flight window queued congestion mss = false
+is_cut_by rules.Rfc alone flight window queued congestion mss =
+    nat_lt window queued && ((not (flight == 0) || alone)
+    && (nat_lt (window - flight) mss && nat_le (window - flight) congestion))
+
+-- ---- how long
+
+abbrev pub moment_at : Option Instant → PollAt
+moment_at None = poll.Ingress
+moment_at (Some at) = poll.Time at
+
+-- what may go out with nothing in flight does so a retransmission timeout after the last segment that took numbers
+abbrev pub small_poll : Bool → Option Instant → PollAt
+small_poll may at = if may then moment_at at else poll.Ingress
+
+-- beside an acknowledgement that is due
+abbrev pub held_by : Rules → PollAt → PollAt → PollAt
+held_by rules.Smoltcp ack small = ack
+held_by rules.Rfc ack small = earlier ack small
+
+-- ---- the largest window that the peer told, from the segment on that opens
+
+abbrev pub larger : Bool → ℕ → ℕ → ℕ
+larger opened largest window = if opened then max largest window else window
