@@ -70,8 +70,7 @@ waits_for_a_segment v e empty = by v.rules
     nothing = omega (arith, eqb-true (length v.tx_buffer.bytes) 0 empty)
 
     none : (b : Bool) (n : ℕ) → n ≡ 0 → (b && not (n == 0)) ≡ false
-    none true n z = rw z refl
-    none false n z = refl
+    none b n z = and_right b (not (n == 0)) (ap (λ k. not (k == 0)) z)
 
     small : small_poll ((flight v == 0) && not (sendable v == 0)) v.idle_at ≡ poll.Ingress
     small = ap (λ b. small_poll b v.idle_at) (none (flight v == 0) (sendable v) nothing)
