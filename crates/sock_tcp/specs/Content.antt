@@ -51,7 +51,7 @@ is_probing v now =
 -- 8985, section 7.3)
 abbrev pub next_hole : Recovery → Scoreboard → TcpSeqNumber → Option Hole
 next_hole (recovery.Fast point high_rxt resent_at) k una = hole_behind k (again_from high_rxt una)
-next_hole (recovery.Probe start end) k una = Some (record { start = seq_sub start una; end = seq_sub end una })
+next_hole (recovery.Probe start end again) k una = Some (record { start = seq_sub start una; end = seq_sub end una })
 next_hole r k una = None
 
 -- where it begins within the peer's window (RFC 9293, section 3.8.6)

@@ -81,10 +81,10 @@ abbrev pub flight : View → ℕ
 flight v = seq_sub v.remote_last_seq v.local_seq_no
 
 -- what the first two duplicates let out beyond the congestion window, a segment each (RFC 3042), or a tail-loss probe
--- (RFC 8985, section 7.3)
+-- of new bytes (RFC 8985, section 7.3)
 abbrev pub limited_by : Rules → Recovery → ℕ → ℕ → ℕ
 limited_by rules.Rfc recovery.Open duplicates mss = min duplicates 2 * mss
-limited_by rules.Rfc (recovery.Probe start end) duplicates mss = mss
+limited_by rules.Rfc (recovery.Probe start end again) duplicates mss = if again then min duplicates 2 * mss else mss
 limited_by _ r duplicates mss = 0
 
 abbrev pub limited : View → ℕ

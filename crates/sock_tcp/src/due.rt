@@ -54,15 +54,16 @@ impl<'a> ControlBlock<'a> {
         self.remote_last_seq.since(self.local_seq_no)
     }
 
-    // What the first two duplicates let out beyond the congestion window: a segment each (RFC 3042).
+    // What the first two duplicates let out beyond the congestion window, a segment each (RFC 3042), or a tail-loss
+    // probe of new bytes.
     fn limited(&self) -> usize
         ensures { result ≡ limited self.now }
     {
         match (self.rules, self.recovery) {
-            (Rules::Rfc, Recovery::Open) => {
+            (Rules::Rfc, Recovery::Probe { again: false, .. }) => self.remote_mss,
+            (Rules::Rfc, Recovery::Open) | (Rules::Rfc, Recovery::Probe { .. }) => {
                 (self.local_rx_dup_acks.min(2) as usize) * self.remote_mss
             }
-            (Rules::Rfc, Recovery::Probe { .. }) => self.remote_mss,
             _ => 0,
         }
     }

@@ -35,6 +35,7 @@ mod own_window;
 mod peer_window;
 mod pipe;
 pub mod poll;
+mod probe_acks;
 mod process;
 mod queues;
 pub mod recovery;

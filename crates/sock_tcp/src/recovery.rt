@@ -40,12 +40,14 @@ pub enum Recovery {
         /// The number behind all that was sent when SND.UNA moved last, or holes began to go out again.
         resent_at: TcpSeqNumber,
     },
-    /// A tail-loss probe went out, and nothing was acknowledged since (RFC 8985, section 7).
+    /// A tail-loss probe went out, and nothing behind what was sent before it is acknowledged (RFC 8985, section 7).
     Probe {
         /// The number of the segment that was the last one.
         start: TcpSeqNumber,
         /// The number behind it.
         end: TcpSeqNumber,
+        /// Whether that segment went out again; else new bytes did.
+        again: bool,
     },
     /// The retransmission timer was over, and not all that was sent before that is acknowledged.
     Timeout {
@@ -67,7 +69,7 @@ pub struct Before {
     pub window: usize,
     /// How many duplicate acknowledgements had come.
     pub duplicates: u8,
-    /// What went on of a loss.
+    /// What went on of a loss, with a probe left out of which the segment says that it came twice.
     pub recovery: Recovery,
     /// The congestion controller.
     pub controller: AnyController,
@@ -82,7 +84,7 @@ pub struct Before {
 }
 
 // Neither a SYN, an RST nor a FIN.
-fn is_bare(control: TcpControl) -> bool
+pub(crate) fn is_bare(control: TcpControl) -> bool
     ensures { result ≡ is_bare_control control }
 {
     matches!(control, TcpControl::None | TcpControl::Psh)
@@ -278,7 +280,7 @@ impl Before {
     }
 
     // The controller as it was, with the window that came.
-    fn controller_before(&self, after: &ControlBlock<'_>) -> AnyController
+    pub(crate) fn controller_before(&self, after: &ControlBlock<'_>) -> AnyController
         ensures { result ≡ before_it self.now after.now }
     {
         let mut controller = self.controller;
@@ -296,7 +298,7 @@ impl Before {
             return controller;
         }
         if self.is_news(after) && self.state.carries_data() {
-            let mut controller = self.controller_before(after);
+            let mut controller = self.told_repaired(after, now);
             let count = after.local_seq_no.since(self.una);
             controller.on_bytes_acked(now, count, self.recovery.is_timed_out());
             return controller;
@@ -447,7 +449,7 @@ impl<'a> ControlBlock<'a> {
             una: self.local_seq_no,
             window: self.remote_win_len,
             duplicates: self.local_rx_dup_acks,
-            recovery: self.recovery,
+            recovery: self.recovery_heard(repr),
             controller: self.congestion_controller,
             repeats: self.repeats(repr),
             telling,

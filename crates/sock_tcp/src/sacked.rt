@@ -3,7 +3,7 @@ ghost use Rattle.std.specs.Prelude.{◌≡◌, ◌≤◌, ◌<◌, ◌^◌, ◌&
 ghost use Rattle.control_wire.specs.Segment.{segment_of};
 ghost use Rattle.sock_tcp.specs.Content.{again_from, next_hole};
 ghost use Rattle.sock_tcp.specs.Rfc.Recovery.{is_partial, is_sent_again, is_telling, lets_out, sacked_after, sacked_by};
-ghost use Rattle.sock_tcp.specs.Rfc.Recovery.{again, again_by, is_lost_again, is_lost_in, only_tells, sent_of};
+ghost use Rattle.sock_tcp.specs.Rfc.Recovery.{again, again_by, has_hole, is_lost_again, is_lost_in, only_tells, sent_of};
 ghost use Rattle.sock_tcp.specs.Rfc.Recovery.{shows_hole};
 ghost use Rattle.sock_tcp.specs.Sent.{resent_by};
 
@@ -33,11 +33,23 @@ impl Recovery {
     {
         match self {
             Recovery::Fast { high_rxt, .. } => { sacked.hole_behind(offset_from(high_rxt, una)) }
-            Recovery::Probe { start, end } => Some(Hole {
+            Recovery::Probe { start, end, .. } => Some(Hole {
                 start: start.since(una) as u32,
                 end: end.since(una) as u32,
             }),
             _ => None,
+        }
+    }
+
+    // Whether there is a hole that was not sent again in this recovery.
+    fn has_hole(self, sacked: &Scoreboard, una: TcpSeqNumber) -> bool
+        ensures { result ≡ has_hole self sacked.now una }
+    {
+        match self {
+            Recovery::Fast { high_rxt, .. } => {
+                sacked.hole_behind(offset_from(high_rxt, una)).is_some()
+            }
+            _ => false,
         }
     }
 
@@ -55,7 +67,7 @@ impl Recovery {
     fn shows_hole(self, sacked: &Scoreboard, una: TcpSeqNumber) -> bool
         ensures { result ≡ shows_hole self sacked.now una }
     {
-        self.next_hole(sacked, una).is_some() || sacked.is_blank() || !self.is_sent_again(una)
+        self.has_hole(sacked, una) || sacked.is_blank() || !self.is_sent_again(una)
     }
 
     // Whether the segment at SND.UNA was sent again, and lost again.
@@ -99,7 +111,7 @@ impl Recovery {
                 high_rxt: una,
                 resent_at,
             },
-            (true, _, Recovery::Probe { .. }) => Recovery::Open,
+            (true, _, Recovery::Probe { end, .. }) if before(end, una) => Recovery::Open,
             _ => self,
         }
     }
@@ -173,8 +185,7 @@ impl Before {
             return false;
         }
         let sacked = self.sacked_after(after);
-        let hole = self.again(after).next_hole(&sacked, after.local_seq_no);
-        hole.is_some() && self.has_room(after)
+        self.again(after).has_hole(&sacked, after.local_seq_no) && self.has_room(after)
     }
 
     // A partial acknowledgement shows a hole that was not sent again.

@@ -15,6 +15,7 @@ use crate::timer::{Timer, after, is_over};
 use control_wire::TcpSeqNumber;
 use net_base::time::{Duration, Instant};
 use sock_core::rtte::RttEstimator;
+use sock_core::seq::before;
 
 // How long the peer may wait with an acknowledgement, in milliseconds.
 const DELAYED_ACK: u64 = 200;
@@ -89,19 +90,21 @@ impl Timer {
 }
 
 impl Recovery {
-    // No loss was told, and no probe went out since the last news.
+    // No loss was told, and no probe is out of which nothing was heard.
     fn is_calm(self) -> bool
         ensures { result ≡ is_calm self }
     {
         matches!(self, Recovery::Open)
     }
 
-    // What was sent up to the end of the probe, or before it, was told.
+    // What was sent before the probe was told up to its end, and is not acknowledged.
     fn is_told_to_end(self, sacked: &Scoreboard, una: TcpSeqNumber) -> bool
         ensures { result ≡ is_told_to_end self sacked.now una }
     {
         match self {
-            Recovery::Probe { end, .. } => end.since(una) <= sacked.highest_told() as usize,
+            Recovery::Probe { end, .. } => {
+                before(una, end) && end.since(una) <= sacked.highest_told() as usize
+            }
             _ => false,
         }
     }
@@ -154,14 +157,15 @@ impl<'a> ControlBlock<'a> {
         }
     }
 
-    // What goes out as a probe, where it is the last segment again.
-    fn probe(&self) -> Recovery
-        ensures { result ≡ probe_of self.now }
+    // What goes out as a probe, where it is the last segment again, and whether it is.
+    fn probe(&self, again: bool) -> Recovery
+        ensures { result ≡ probe_of self.now again }
     {
         let last = self.flight().min(self.remote_mss);
         Recovery::Probe {
             start: self.local_seq_no.plus(self.flight() - last),
             end: self.remote_last_seq,
+            again,
         }
     }
 
@@ -189,9 +193,11 @@ impl<'a> ControlBlock<'a> {
         ensures table { self.new ≡ tail_probed self.old now }
         ensures stamps { self.new.stamps ≡ self.old.stamps }
     {
-        self.recovery = self.probe();
-        let again = self.sendable() < self.remote_mss.max(1);
-        self.pending_fast_retransmit = self.pending_fast_retransmit || again;
+        self.recovery = self.probe(false);
+        let none = self.sendable() < self.remote_mss.max(1);
+        let again = self.pending_fast_retransmit || none;
+        self.recovery = self.probe(again);
+        self.pending_fast_retransmit = again;
         self.rtte.on_retransmit();
         self.timer = Timer::retransmit(now, &self.rtte);
     }

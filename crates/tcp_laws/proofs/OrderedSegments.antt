@@ -35,11 +35,11 @@ use Rattle.sock_tcp.specs.declared.verdict.Verdict.{Verdict}
 use Rattle.sock_tcp.specs.declared.verdict.Verdict.TheVariants as verdicts
 use Rattle.sock_tcp.proofs.Acking.{acked_fits, none_acked, between, fin_place_le, one_place, passes, two_guards}
 use Rattle.tcp_laws.proofs.Kept.{KeptByAnswers, bytes_kept, challenged_kept, outside_kept}
-use Rattle.tcp_laws.proofs.Ordered.{HasMoment, IsOpen, IsOrdered, IsPeeredIn, Row, is_close, acked_open, bytes_acked_open, close_stays, dup_acked_open, idle_has_moment, later_small, opened_open, partially_acked_open, left_in_flight, less_in_flight, set_has_moment, taken_open, window_open}
-use Rattle.sock_core.specs.Congestion.{bytes_acked, dup_acked, opened, partially_acked}
+use Rattle.tcp_laws.proofs.Ordered.{HasMoment, IsOpen, IsOrdered, IsPeeredIn, Row, is_close, acked_open, bytes_acked_open, close_stays, dup_acked_open, idle_has_moment, later_small, lost_open, opened_open, partially_acked_open, left_in_flight, less_in_flight, set_has_moment, taken_open, window_open}
+use Rattle.sock_core.specs.Congestion.{bytes_acked, dup_acked, lost, opened, partially_acked}
 use Rattle.sock_tcp.specs.Due.{flight as flight_of}
 use Rattle.sock_tcp.specs.Content.{carries_data}
-use Rattle.sock_tcp.specs.Rfc.Recovery.{before_it, before_of, controller_after, echo_known, has_timer, is_news, is_partial, is_timed_out, is_uncounted, lets_out, opens_well, recovered, told_of_bytes, waited_for}
+use Rattle.sock_tcp.specs.Rfc.Recovery.{before_it, before_of, controller_after, echo_known, flight_before, has_timer, is_news, is_partial, is_repaired, is_timed_out, is_uncounted, lets_out, opens_well, recovered, told_of_bytes, told_repaired, waited_for}
 use Rattle.sock_tcp.specs.Rfc.Refused.{is_plain_control, refused}
 use Rattle.sock_tcp.specs.declared.recovery.Before.{Before}
 use Rattle.sock_tcp.specs.declared.rules.Rules.{Rules}
@@ -454,9 +454,13 @@ module _ (now : Instant) (word : ℕ) (ip : IpRepr) (s : Segment) (small : word 
       before : IsOpen (before_it b w)
       before = window_open b.controller w.remote_win_len h
 
-      told : (o n : Bool) → IsOpen (if o then opened w.congestion_controller w.remote_mss else (if n then bytes_acked (before_it b w) now (seq_sub w.local_seq_no b.una) (is_timed_out b.recovery) else w.congestion_controller))
+      repaired : (r : Bool) → IsOpen (if r then lost (before_it b w) now (flight_before b w) else before_it b w)
+      repaired true = lost_open _ now _ before
+      repaired false = before
+
+      told : (o n : Bool) → IsOpen (if o then opened w.congestion_controller w.remote_mss else (if n then bytes_acked (told_repaired b w now) now (seq_sub w.local_seq_no b.una) (is_timed_out b.recovery) else w.congestion_controller))
       told true n = opened_open w.congestion_controller w.remote_mss i
-      told false true = bytes_acked_open _ now _ (is_timed_out b.recovery) before
+      told false true = bytes_acked_open _ now _ (is_timed_out b.recovery) (repaired (is_repaired b w))
       told false false = i
 
       by : (p o g : Bool) → IsOpen (if p then partially_acked (before_it b w) now (seq_sub w.local_seq_no b.una) else (if o then before_it b w else (if g then dup_acked w.congestion_controller now w.remote_mss (flight_of w) else told_of_bytes b w now)))

@@ -1,7 +1,7 @@
 -- Any call keeps it: the number up to which a recovery lasts has 32 bits. So what was sent behind SND.UNA is less than
 -- 2^32 - 2^29 bytes.
 use Rattle.std.proofs.Common.{◌≡◌, ℕ, ◌+◌, ◌-◌, ◌<◌, ◌≤◌, ◌^◌, arith, List, [], length, Bool, true, false, refl, ap, ◌∙◌, Some}
-use Rattle.std.specs.Prelude.{nat_lt, if◌then◌else◌}
+use Rattle.std.specs.Prelude.{nat_lt, ◌&&◌, if◌then◌else◌}
 use Rattle.std.proofs.lemmas.Bool.{ltb-true}
 use Rattle.std.proofs.lemmas.Bool.Decides.{nat_tests}
 use Rattle.ip_wire.specs.declared.repr.IpRepr.{IpRepr}
@@ -23,7 +23,7 @@ use Rattle.sock_tcp.specs.Process.{after_advance, by_verdict, challenged, close_
 use Rattle.sock_tcp.specs.Queues.{queued, read_off}
 use Rattle.sock_tcp.specs.Replies.{ack_kept}
 use Rattle.sock_tcp.specs.Rfc.Checks.{verdict_by}
-use Rattle.sock_tcp.specs.Rfc.Recovery.{again, again_by, before_of, begins, echo_known, gone_on, highest_of, reached_by, recovered, recovery_after, sent_of, timed_out_by}
+use Rattle.sock_tcp.specs.Rfc.Recovery.{again, again_by, before_of, begins, came_twice, echo_known, gone_on, highest_of, reached_by, recovered, recovery_after, sent_of, timed_out_by, unless_beyond, unless_twice}
 use Rattle.sock_tcp.specs.Rfc.TailLoss.{tail_probed}
 use Rattle.sock_tcp.specs.Rfc.Windows.{windowed}
 use Rattle.sock_tcp.specs.Sent.{after_any, after_probe, resent_by, snd_nxt_moved}
@@ -63,7 +63,7 @@ IsNumbered _ = Unit {0}
 
 pub numbered_of : (r : Recovery) → fits r ≡ true → IsNumbered r
 numbered_of recovery.Open f = tt
-numbered_of (recovery.Probe start end) f = tt
+numbered_of (recovery.Probe start end again) f = tt
 numbered_of (recovery.Fast point high_rxt resent_at) f = ltb-true point.0 (2 ^ 32) f
 numbered_of (recovery.Timeout point) f = ltb-true point.0 (2 ^ 32) f
 
@@ -74,7 +74,7 @@ is_small n h = grind (arith, nat_tests, h)
 
 highest_small : (r : Recovery) (nxt : TcpSeqNumber) → fits r ≡ true → nxt.0 < 2 ^ 32 → (highest_of r nxt).0 < 2 ^ 32
 highest_small recovery.Open nxt f h = h
-highest_small (recovery.Probe start end) nxt f h = h
+highest_small (recovery.Probe start end again) nxt f h = h
 highest_small (recovery.Fast point high_rxt resent_at) nxt f h = later_small nxt point h (ltb-true point.0 (2 ^ 32) f)
 highest_small (recovery.Timeout point) nxt f h = later_small nxt point h (ltb-true point.0 (2 ^ 32) f)
 
@@ -91,7 +91,7 @@ sent_near v h near = by v.recovery h.1
   where
     by : (r : Recovery) → fits r ≡ true → seq_sub (highest_of r v.remote_last_seq) v.local_seq_no < 2 ^ 32 - 2 ^ 29
     by recovery.Open f = omega (arith, near)
-    by (recovery.Probe start end) f = omega (arith, near)
+    by (recovery.Probe start end again) f = omega (arith, near)
     by (recovery.Fast point high_rxt resent_at) f = later_near v.remote_last_seq point v.local_seq_no h.0.nxt_small (ltb-true point.0 (2 ^ 32) f) h.0.una_small near
     by (recovery.Timeout point) f = later_near v.remote_last_seq point v.local_seq_no h.0.nxt_small (ltb-true point.0 (2 ^ 32) f) h.0.una_small near
 
@@ -146,13 +146,20 @@ module _ (v : View) (now : Instant) (word : ℕ) (ip : IpRepr) (s : Segment) whe
 
 -- ---- and by the RFCs'
 
+beyond_fits : (r : Recovery) (end una : TcpSeqNumber) → fits r ≡ true → fits (unless_beyond r end una) ≡ true
+beyond_fits r end una f = go (is_before end una)
+  where
+    go : (b : Bool) → fits (if b then recovery.Open else r) ≡ true
+    go true = refl
+    go false = f
+
 again_fits : (news lost : Bool) (r : Recovery) (una nxt : TcpSeqNumber) → fits r ≡ true → fits (again_by news lost r una nxt) ≡ true
 again_fits true lost (recovery.Fast point high_rxt resent_at) una nxt f = f
 again_fits false true (recovery.Fast point high_rxt resent_at) una nxt f = f
 again_fits false false (recovery.Fast point high_rxt resent_at) una nxt f = f
-again_fits true lost (recovery.Probe start end) una nxt f = refl
-again_fits false true (recovery.Probe start end) una nxt f = f
-again_fits false false (recovery.Probe start end) una nxt f = f
+again_fits true lost (recovery.Probe start end again) una nxt f = beyond_fits (recovery.Probe start end again) end una refl
+again_fits false true (recovery.Probe start end again) una nxt f = f
+again_fits false false (recovery.Probe start end again) una nxt f = f
 again_fits true true recovery.Open una nxt f = f
 again_fits true true (recovery.Timeout point) una nxt f = f
 again_fits true false recovery.Open una nxt f = f
@@ -171,9 +178,19 @@ reached_fits una r point f = go (is_before una point)
 
 gone_fits : (r : Recovery) (una : TcpSeqNumber) → fits r ≡ true → fits (gone_on r una) ≡ true
 gone_fits recovery.Open una f = refl
-gone_fits (recovery.Probe start end) una f = refl
+gone_fits (recovery.Probe start end again) una f = refl
 gone_fits (recovery.Fast point high_rxt resent_at) una f = reached_fits una (recovery.Fast point high_rxt resent_at) point f
 gone_fits (recovery.Timeout point) una f = reached_fits una (recovery.Timeout point) point f
+
+twice_fits : (r : Recovery) (v : View) (s : Segment) → fits r ≡ true → fits (unless_twice r v s) ≡ true
+twice_fits recovery.Open v s f = refl
+twice_fits (recovery.Fast point high_rxt resent_at) v s f = f
+twice_fits (recovery.Timeout point) v s f = f
+twice_fits (recovery.Probe start end again) v s f = go (again && came_twice s.ack_number v s start end)
+  where
+    go : (b : Bool) → fits (if b then recovery.Open else recovery.Probe start end again) ≡ true
+    go true = refl
+    go false = refl
 
 after_fits : (b : Before) (w : View) → fits b.recovery ≡ true → w.remote_last_seq.0 < 2 ^ 32 → fits (recovery_after b w) ≡ true
 after_fits b w f small = carries (carries_data w.state)
@@ -196,7 +213,7 @@ module _ (v : View) (now : Instant) (s : Segment) (f : fits v.recovery ≡ true)
 
   recovered_fits : (w : View) → (recovered (before_of v s) w now).remote_last_seq.0 < 2 ^ 32 → fits (recovered (before_of v s) w now).recovery ≡ true
   unfolding recovered before_of
-  recovered_fits w small = after_fits (before_of v s) (echo_known (before_of v s) w now) f small
+  recovered_fits w small = after_fits (before_of v s) (echo_known (before_of v s) w now) (twice_fits v.recovery v s f) small
 
   verdict_fits : (r : Rules) (word : ℕ) (ip : IpRepr) (x : Verdict) → (by_verdict r x v (arrival now (tuple_of ip s) word s)).view.remote_last_seq.0 < 2 ^ 32 → fits (by_verdict r x v (arrival now (tuple_of ip s) word s)).view.recovery ≡ true
   verdict_fits r word ip verdicts.Drop small = f
@@ -217,7 +234,7 @@ timed_fits rules.Rfc x nxt f h = is_small (highest_of x nxt) (highest_small x nx
 
 resent_fits : (r : Recovery) (nxt : TcpSeqNumber) (e : Emitted) → fits r ≡ true → fits (resent_by r nxt e) ≡ true
 resent_fits recovery.Open nxt e f = f
-resent_fits (recovery.Probe start end) nxt e f = f
+resent_fits (recovery.Probe start end again) nxt e f = f
 resent_fits (recovery.Fast point high_rxt resent_at) nxt e f = f
 resent_fits (recovery.Timeout point) nxt e f = f
 

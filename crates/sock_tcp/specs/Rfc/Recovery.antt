@@ -2,30 +2,30 @@
 -- partial acknowledgements (RFC 6582), duplicates (RFC 5681, section 3.2; RFC 5827), and the retransmission timer (RFC
 -- 6298, section 5).
 use Rattle.std.specs.Prelude.{ℕ, nat_lt, nat_le, ◌+◌, ◌*◌, ◌^◌, length, max, min, Option, Some, None, is_some, Bool}
-use Rattle.std.specs.Prelude.{true, false, not}
+use Rattle.std.specs.Prelude.{true, false, not, List, slice_index_or}
 use Rattle.std.specs.Prelude.{◌==◌, ◌&&◌, ◌||◌, if◌then◌else◌}
 use Rattle.std.specs.Int.{div_ceil}
 use Rattle.net_base.specs.declared.time.Duration.{Duration}
 use Rattle.net_base.specs.declared.time.Instant.{Instant}
 use Rattle.control_wire.specs.Segment.{Segment}
-use Rattle.control_wire.specs.Seq.{seq_eq, seq_sub}
+use Rattle.control_wire.specs.Seq.{seq_eq, seq_of, seq_sub}
 use Rattle.control_wire.specs.declared.seq_number.TcpSeqNumber.{TcpSeqNumber}
 use Rattle.control_wire.specs.declared.tcp.TcpControl.{TcpControl}
 use Rattle.control_wire.specs.declared.tcp.TcpControl.TheVariants as control
-use Rattle.sock_core.specs.Congestion.{bytes_acked, dup_acked, opened, partially_acked, recovery_window}
-use Rattle.sock_core.specs.Congestion.{with_remote_window}
+use Rattle.sock_core.specs.Congestion.{bytes_acked, congestion_window, dup_acked, lost, opened, partially_acked}
+use Rattle.sock_core.specs.Congestion.{recovery_window, with_remote_window}
 use Rattle.sock_core.specs.Estimator.{Estimator, begun_anew, is_backed_off}
 use Rattle.sock_core.specs.Seq.{is_before, later_of}
 use Rattle.sock_core.specs.declared.congestion.AnyController.{AnyController}
-use Rattle.sock_tcp.specs.Content.{again_from, carries_data, next_hole}
+use Rattle.sock_tcp.specs.Content.{again_from, carries_data}
 use Rattle.sock_tcp.specs.Due.{flight, is_opening}
 use Rattle.sock_tcp.specs.Inside.{Outcome}
-use Rattle.sock_tcp.specs.Rfc.Scoreboard.{all_told, any_news, highest_told, is_blank, moved, nothing_told}
+use Rattle.sock_tcp.specs.Rfc.Scoreboard.{all_told, any_news, highest_told, hole_behind, is_blank, moved, nothing_told}
 use Rattle.sock_tcp.specs.Rfc.Pipe.{has_room, told_before}
 use Rattle.sock_tcp.specs.Rfc.RoundTrips.{echo_of, echo_taken}
 use Rattle.sock_tcp.specs.Rfc.SmallSegments.{larger}
 use Rattle.sock_tcp.specs.Rfc.TailLoss.{is_alone, may_probe, tail_waits}
-use Rattle.sock_tcp.specs.Steps.{is_duplicate}
+use Rattle.sock_tcp.specs.Steps.{is_duplicate, is_window_changed}
 use Rattle.sock_tcp.specs.Timers.{idle_from, probe_from, retransmit_from}
 use Rattle.sock_tcp.specs.View.{View}
 use Rattle.sock_tcp.specs.Window.{has_window, honored_window, is_inside}
@@ -56,7 +56,7 @@ repeats_by (Some ack) v c n = is_bare_control c && is_duplicate v ack n false
 -- the highest number that was sent, and not before SND.NXT
 abbrev pub highest_of : Recovery → TcpSeqNumber → TcpSeqNumber
 highest_of recovery.Open nxt = nxt
-highest_of (recovery.Probe start end) nxt = nxt
+highest_of (recovery.Probe start end again) nxt = nxt
 highest_of (recovery.Fast point high_rxt resent_at) nxt = later_of nxt point
 highest_of (recovery.Timeout point) nxt = later_of nxt point
 
@@ -76,6 +76,43 @@ abbrev pub sacked_by : Bool → View → Segment → Scoreboard
 sacked_by false v s = v.sacked
 sacked_by true v s = all_told v.sacked (sent_of v) v.local_seq_no s.sack_ranges
 
+-- ---- what the acknowledgement of a tail-loss probe says (RFC 8985, section 7.4.2)
+
+-- a block that ends in the segment which went out again from start to end: where that is acknowledged, it came twice
+-- (RFC 2883, section 4)
+abbrev pub is_duplicate_of : TcpSeqNumber → TcpSeqNumber → ℕ × ℕ → Bool
+is_duplicate_of start end r =
+    is_before (seq_of r.0) (seq_of r.1) && (is_before start (seq_of r.1) && not (is_before end (seq_of r.1)))
+
+-- the same acknowledgement with the same window, and nothing else
+abbrev pub is_bare_repeat : View → Segment → TcpSeqNumber → Bool
+is_bare_repeat v s ack =
+    seq_eq ack v.local_seq_no
+    && (is_bare_control s.control
+    && ((length s.payload == 0) && not (is_window_changed v s.control s.window_len)))
+
+-- by its first block, where it has one
+abbrev pub tells_twice : Option (ℕ × ℕ) → View → Segment → TcpSeqNumber → TcpSeqNumber → TcpSeqNumber → Bool
+tells_twice None v s ack start end = is_bare_repeat v s ack
+tells_twice (Some r) v s ack start end = is_duplicate_of start end r
+
+abbrev pub first_block : List (Option (ℕ × ℕ)) → Option (ℕ × ℕ)
+first_block rs = slice_index_or rs 0 None
+
+-- the end is acknowledged, by a segment in the window in which it is taken
+abbrev pub came_twice : Option TcpSeqNumber → View → Segment → TcpSeqNumber → TcpSeqNumber → Bool
+came_twice None v s start end = false
+came_twice (Some ack) v s start end =
+    not (is_before ack end)
+    && (is_inside (honored_window v) s.seq_number (length s.payload)
+    && tells_twice (first_block s.sack_ranges) v s ack start end)
+
+-- what goes on of a loss, as the segment says: a segment that went out again as a probe, and came twice, was not lost
+abbrev pub unless_twice : Recovery → View → Segment → Recovery
+unless_twice (recovery.Probe start end again) v s =
+    if again && came_twice s.ack_number v s start end then recovery.Open else recovery.Probe start end again
+unless_twice r v s = r
+
 unfoldable pub before_of : View → Segment → Before
 before_of v s =
     record {
@@ -84,7 +121,7 @@ before_of v s =
       una = v.local_seq_no;
       window = v.remote_win_len;
       duplicates = v.local_rx_dup_acks;
-      recovery = v.recovery;
+      recovery = unless_twice v.recovery v s;
       controller = v.congestion_controller;
       repeats = repeats_by s.ack_number v s.control (length s.payload);
       telling = is_telling v s;
@@ -140,9 +177,10 @@ sacked_after b w =
 abbrev pub only_tells : Before → View → Bool
 only_tells b w = b.telling && not (is_news b w)
 
--- all up to the end of what went out as a probe, or before it (RFC 8985, section 7.3)
+-- all up to the end of what was sent before the probe, while that is not acknowledged (RFC 8985, section 7.3)
 abbrev pub is_told_to_end : Recovery → Scoreboard → TcpSeqNumber → Bool
-is_told_to_end (recovery.Probe start end) k una = nat_le (seq_sub end una) (highest_told k)
+is_told_to_end (recovery.Probe start end again) k una =
+    is_before una end && nat_le (seq_sub end una) (highest_told k)
 is_told_to_end _ k una = false
 
 -- a tail-loss probe shows a hole
@@ -174,7 +212,7 @@ is_partial b w = is_partial_in b.recovery (is_news b w) w.local_seq_no
 
 abbrev pub is_over : Recovery → Bool
 is_over recovery.Open = true
-is_over (recovery.Probe start end) = true
+is_over (recovery.Probe start end again) = true
 is_over _ = false
 
 -- there are bytes to send again
@@ -187,7 +225,8 @@ begins b w = may_resend w && (tells_loss b w && is_over b.recovery)
 
 -- there is a hole that was not sent again in this recovery
 abbrev pub has_hole : Recovery → Scoreboard → TcpSeqNumber → Bool
-has_hole r k una = is_some (next_hole r k una)
+has_hole (recovery.Fast point high_rxt resent_at) k una = is_some (hole_behind k (again_from high_rxt una))
+has_hole _ k una = false
 
 -- the segment at SND.UNA was sent again in this recovery
 abbrev pub is_sent_again : Recovery → TcpSeqNumber → Bool
@@ -208,14 +247,21 @@ is_lost_in _ k una = false
 abbrev pub is_lost_again : Before → View → Bool
 is_lost_again b w = only_tells b w && is_lost_in b.recovery (sacked_after b w) w.local_seq_no
 
--- where SND.UNA has moved, no probe is out any longer, and what is told next is measured from now on; where a segment
--- was lost again, holes go out again from SND.UNA on
+-- a probe is out until something behind what was sent before it is acknowledged: new bytes that it was, or, where it
+-- was the last segment again, what followed it (RFC 8985, section 7.4.2). That is the first acknowledgement beyond its
+-- end, so this never lies far behind SND.UNA
+abbrev pub unless_beyond : Recovery → TcpSeqNumber → TcpSeqNumber → Recovery
+unless_beyond r end una = if is_before end una then recovery.Open else r
+
+-- where SND.UNA has moved, what is told next is measured from now on; where a segment was lost again, holes go out again
+-- from SND.UNA on
 abbrev pub again_by : Bool → Bool → Recovery → TcpSeqNumber → TcpSeqNumber → Recovery
 again_by true lost (recovery.Fast point high_rxt resent_at) una nxt =
     recovery.Fast point high_rxt (highest_of (recovery.Fast point high_rxt resent_at) nxt)
 again_by false true (recovery.Fast point high_rxt resent_at) una nxt =
     recovery.Fast point una (highest_of (recovery.Fast point high_rxt resent_at) nxt)
-again_by true lost (recovery.Probe start end) una nxt = recovery.Open
+again_by true lost (recovery.Probe start end again) una nxt =
+    unless_beyond (recovery.Probe start end again) end una
 again_by _ _ r una nxt = r
 
 abbrev pub again : Before → View → Recovery
@@ -246,7 +292,7 @@ reached_by una r point = if is_before una point then r else recovery.Open
 
 abbrev pub gone_on : Recovery → TcpSeqNumber → Recovery
 gone_on recovery.Open una = recovery.Open
-gone_on (recovery.Probe start end) una = recovery.Probe start end
+gone_on (recovery.Probe start end again) una = recovery.Probe start end again
 gone_on (recovery.Fast point high_rxt resent_at) una =
     reached_by una (recovery.Fast point high_rxt resent_at) point
 gone_on (recovery.Timeout point) una = reached_by una (recovery.Timeout point) point
@@ -277,13 +323,30 @@ is_timed_out _ = false
 abbrev pub before_it : Before → View → AnyController
 before_it b w = with_remote_window b.controller w.remote_win_len
 
+-- a segment that went out again as a probe repaired a loss: something behind it is acknowledged, and nothing said that
+-- it came twice (RFC 8985, section 7.4.2)
+abbrev pub is_repaired_in : Recovery → TcpSeqNumber → Bool
+is_repaired_in (recovery.Probe start end again) una = again && is_before end una
+is_repaired_in _ una = false
+
+abbrev pub is_repaired : Before → View → Bool
+is_repaired b w = is_repaired_in b.recovery w.local_seq_no
+
+-- what was in flight then, without what went beyond the congestion window
+abbrev pub flight_before : Before → View → ℕ
+flight_before b w = min (seq_sub w.remote_last_seq b.una) (congestion_window (before_it b w))
+
+-- that loss is told, so that the bytes that are acknowledged end its recovery at once
+abbrev pub told_repaired : Before → View → Instant → AnyController
+told_repaired b w now = if is_repaired b w then lost (before_it b w) now (flight_before b w) else before_it b w
+
 -- of new bytes it hears how many they are (RFC 5681, section 3.1; RFC 3465), and at the opening, unless a SYN was lost,
 -- that it may send more (RFC 6928). A SYN moves SND.UNA too, and is no byte
 abbrev pub told_of_bytes : Before → View → Instant → AnyController
 told_of_bytes b w now =
     if opens_well b w then opened w.congestion_controller w.remote_mss
     else (if is_news b w && carries_data b.state
-    then bytes_acked (before_it b w) now (seq_sub w.local_seq_no b.una) (is_timed_out b.recovery)
+    then bytes_acked (told_repaired b w now) now (seq_sub w.local_seq_no b.una) (is_timed_out b.recovery)
     else w.congestion_controller)
 
 -- of a partial acknowledgement it hears that, and not that all was acknowledged; of a duplicate that lets out a hole

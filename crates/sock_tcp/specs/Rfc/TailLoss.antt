@@ -36,7 +36,7 @@ is_alone v = nat_le (flight v) v.remote_mss
 
 -- ---- whether one goes out (sections 7.1 and 7.3)
 
--- no loss was told, and no probe went out since the last news
+-- no loss was told, and no probe is out of which nothing was heard
 abbrev pub is_calm : Recovery → Bool
 is_calm recovery.Open = true
 is_calm _ = false
@@ -64,20 +64,23 @@ probes_tail v now = may_probe_by v.rules (may_probe v.recovery v) && is_retransm
 abbrev pub last_len : View → ℕ
 last_len v = min (flight v) v.remote_mss
 
-abbrev pub probe_of : View → Recovery
-probe_of v = recovery.Probe (seq_add v.local_seq_no (flight v - last_len v)) v.remote_last_seq
+-- whether that goes out again, or new bytes do
+abbrev pub probe_of : View → Bool → Recovery
+probe_of v again = recovery.Probe (seq_add v.local_seq_no (flight v - last_len v)) v.remote_last_seq again
 
 abbrev pub tail_marked : View → View
-tail_marked v = record v { recovery = probe_of v }
+tail_marked v = record v { recovery = probe_of v false }
 
--- a segment of new bytes, one beyond the congestion window, or where none is to be had the last one again; then the
--- retransmission timer runs
+-- no full segment of new bytes is to be had, one beyond the congestion window
+abbrev pub repeats_tail : View → Bool
+repeats_tail v = v.pending_fast_retransmit || nat_lt (sendable (tail_marked v)) (max v.remote_mss 1)
+
+-- a segment of new bytes, or where none is to be had the last one again; then the retransmission timer runs
 unfoldable pub tail_probed : View → Instant → View
 tail_probed v now =
     record v {
-      recovery = probe_of v;
-      pending_fast_retransmit =
-          v.pending_fast_retransmit || nat_lt (sendable (tail_marked v)) (max v.remote_mss 1);
+      recovery = probe_of v (repeats_tail v);
+      pending_fast_retransmit = repeats_tail v;
       rtte = retransmitted v.rtte;
       timer = retransmit_from now (retransmitted v.rtte);
     }
