@@ -11,21 +11,22 @@ pub type TcpSocket<'a> = tcp::Socket<'a, Clock<'a>>;
 /// The sockets of the host.
 pub type Sockets<'a> = SocketSet<'a, Clock<'a>>;
 
-/// A clock of milliseconds, which all sockets of a host read. It stands while the host works at one moment.
+/// A clock of milliseconds, which all sockets of a host read. It stands while the host works at one moment, and does
+/// not go back: a peer takes what has an earlier timestamp for an old segment (RFC 7323, section 5).
 #[derive(Clone, Copy)]
 pub struct Clock<'c> {
-    millis: &'c Cell<u32>,
+    millis: &'c Cell<usize>,
 }
 
 impl<'c> Clock<'c> {
     /// The clock whose time stands here.
-    pub fn new(millis: &'c Cell<u32>) -> Clock<'c> {
+    pub fn new(millis: &'c Cell<usize>) -> Clock<'c> {
         Clock { millis }
     }
 
-    /// It is so many microseconds past the start now.
-    pub fn set(self, micros: usize) {
-        self.millis.set((micros / 1000 % (1 << 32)) as u32);
+    /// It is so many microseconds past the start now, at the least.
+    pub fn advance(self, micros: usize) {
+        self.millis.set(self.millis.get().max(micros / 1000));
     }
 }
 
@@ -34,6 +35,6 @@ impl TsvalSource for Clock<'_> {
     ghost tells = { λ _ _. Unit {0} };
 
     fn tsval(&self) -> u32 {
-        self.millis.get()
+        (self.millis.get() % (1 << 32)) as u32
     }
 }

@@ -116,7 +116,7 @@ impl<'a> Host<Sockets<'a>, Clock<'a>> {
     pub fn receive(&mut self, micros: usize, packet: &[u8]) -> Result<(), AllocError> {
         let now = moment(micros);
         let clock = self.clock;
-        clock.set(micros);
+        clock.advance(micros);
         self.outbox.begin(micros);
         self.listen();
         if !packet.is_empty() {
