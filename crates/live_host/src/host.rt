@@ -1,12 +1,12 @@
 //! The host: its services, on the sockets of an interface.
 ghost use Rattle.std.specs.Prelude.{◌<◌, IfSome, length};
 
-use crate::clock::Clock;
+use crate::clock::{Clock, Sockets};
 use crate::outbox::Outbox;
 use crate::pattern::Patterns;
 use crate::service::{SERVICES, Service};
 use crate::slot::Slot;
-use net_host::{Interface, Secret, SocketHandle, SocketSet};
+use net_host::{Interface, Secret, SocketHandle};
 use smoltcp_socket::tcp::State;
 use smoltcp_socket::time::Instant;
 use smoltcp_socket::{Context, Socket};
@@ -33,11 +33,12 @@ pub struct Counts {
 }
 
 /// A host with one interface. The set is a type parameter, as the check does not yet state a struct that has one in a
-/// field.
+/// field, and so is the clock, which lives as long.
 #[derive(Drop)]
-pub struct Host<S> {
+pub struct Host<S, C> {
     alloc: Global,
     interface: Interface<Secret>,
+    clock: C,
     sockets: S,
     // the TCP sockets, each at the place of the set that its socket has
     slots: Vec<Slot>,
@@ -55,14 +56,16 @@ pub struct Host<S> {
 }
 
 /// A host with these sockets.
-pub type LiveHost<'a> = Host<SocketSet<'a, Clock>>;
+pub type LiveHost<'a> = Host<Sockets<'a>, Clock<'a>>;
 
-impl<'a> Host<SocketSet<'a, Clock>> {
-    /// A host whose TCP sockets stand at the first places of the set, and the UDP socket behind them.
+impl<'a> Host<Sockets<'a>, Clock<'a>> {
+    /// A host whose TCP sockets stand at the first places of the set, and the UDP socket behind them. The clock is the
+    /// one that they read.
     pub fn new(
         alloc: Global,
         interface: Interface<Secret>,
-        sockets: SocketSet<'a, Clock>,
+        clock: Clock<'a>,
+        sockets: Sockets<'a>,
         slots: Vec<Slot>,
         udp: SocketHandle,
         kept_from: usize,
@@ -71,6 +74,7 @@ impl<'a> Host<SocketSet<'a, Clock>> {
         Host {
             alloc,
             interface,
+            clock,
             sockets,
             slots,
             udp,
@@ -111,6 +115,8 @@ impl<'a> Host<SocketSet<'a, Clock>> {
     /// answer, and what is due, waits to be written afterwards, in place of what waited before.
     pub fn receive(&mut self, micros: usize, packet: &[u8]) -> Result<(), AllocError> {
         let now = moment(micros);
+        let clock = self.clock;
+        clock.advance(micros);
         self.outbox.begin(micros);
         self.listen();
         if !packet.is_empty() {
@@ -171,7 +177,7 @@ impl<'a> Host<SocketSet<'a, Clock>> {
 }
 
 // Who listens.
-impl Host<SocketSet<'_, Clock>> {
+impl LiveHost<'_> {
     // Keeps a socket waiting for each service, where one can.
     fn listen(&mut self) {
         for (i, service) in SERVICES.iter().enumerate() {
@@ -202,8 +208,9 @@ impl Host<SocketSet<'_, Clock>> {
         let Some(slot) = self.slots.get_mut(place) else {
             return;
         };
+        let clock = self.clock;
         if let Some(socket) = self.sockets.tcp_mut(slot.handle) {
-            slot.listen(socket, service);
+            slot.listen(socket, service, clock);
             if let Some(listener) = self.listeners.get_mut(i) {
                 *listener = Some(place);
             }
@@ -243,7 +250,7 @@ impl Host<SocketSet<'_, Clock>> {
 }
 
 // Datagrams.
-impl Host<SocketSet<'_, Clock>> {
+impl LiveHost<'_> {
     fn has_datagram(&self) -> bool {
         match self.sockets.get(self.udp) {
             Some(Socket::Udp(udp)) => udp.can_recv(),

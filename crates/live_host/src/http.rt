@@ -1,6 +1,6 @@
 //! One request and its answer (RFC 9110, RFC 9112).
 
-use crate::clock::Clock;
+use crate::clock::TcpSocket;
 use crate::page::{Traffic, answer};
 use crate::pattern::{PIECE, Patterns};
 use crate::request::{LONGEST_HEAD, Request};
@@ -44,7 +44,7 @@ impl Http {
         &mut self,
         alloc: Global,
         patterns: &Patterns,
-        socket: &mut tcp::Socket<'_, Clock>,
+        socket: &mut TcpSocket<'_>,
         traffic: &mut Traffic,
     ) -> Result<(), AllocError> {
         if self.answer.is_none() {
@@ -65,7 +65,7 @@ impl Http {
     fn read(
         &mut self,
         alloc: Global,
-        socket: &mut tcp::Socket<'_, Clock>,
+        socket: &mut TcpSocket<'_>,
         traffic: &mut Traffic,
     ) -> Result<(), AllocError> {
         let filled = self.filled.min(LONGEST_HEAD);
@@ -95,12 +95,7 @@ impl Http {
 
 impl Answer {
     // Sends what fits, and closes behind the last byte. What the client still sends is taken and forgotten.
-    fn send(
-        &mut self,
-        patterns: &Patterns,
-        socket: &mut tcp::Socket<'_, Clock>,
-        traffic: &mut Traffic,
-    ) {
+    fn send(&mut self, patterns: &Patterns, socket: &mut TcpSocket<'_>, traffic: &mut Traffic) {
         let _ = socket.recv(|bytes: &[u8]| (bytes.len(), ()));
         for _ in 0..PIECES {
             let count = self.send_piece(patterns, socket);
@@ -114,7 +109,7 @@ impl Answer {
         }
     }
 
-    fn send_piece(&mut self, patterns: &Patterns, socket: &mut tcp::Socket<'_, Clock>) -> usize {
+    fn send_piece(&mut self, patterns: &Patterns, socket: &mut TcpSocket<'_>) -> usize {
         if self.sent < self.text.len() {
             let count = socket
                 .send_slice(&self.text.as_bytes()[self.sent..])
@@ -128,7 +123,7 @@ impl Answer {
         }
     }
 
-    fn send_bytes(&mut self, patterns: &Patterns, socket: &mut tcp::Socket<'_, Clock>) -> usize {
+    fn send_bytes(&mut self, patterns: &Patterns, socket: &mut TcpSocket<'_>) -> usize {
         let left = self.bytes.saturating_sub(self.bytes_sent);
         let count = if left < PIECE as u64 {
             left as usize

@@ -1,8 +1,7 @@
 //! What the host answers to a request.
 
-use crate::clock::Clock;
+use crate::clock::TcpSocket;
 use crate::request::Request;
-use smoltcp_socket::tcp;
 use smoltcp_socket::wire::IpEndpoint;
 use std::alloc::{AllocError, Global};
 use std::fmt::{Display, Write};
@@ -20,7 +19,7 @@ pub struct Traffic {
 pub fn answer(
     alloc: Global,
     request: Request,
-    socket: &tcp::Socket<'_, Clock>,
+    socket: &TcpSocket<'_>,
     traffic: Traffic,
 ) -> Result<String, AllocError> {
     match request {
@@ -79,11 +78,7 @@ fn put_text(out: &mut String, status: &str, content: &str) -> Result<(), AllocEr
 }
 
 // What the socket knows of the connection that the page goes out on.
-fn page(
-    alloc: Global,
-    socket: &tcp::Socket<'_, Clock>,
-    traffic: Traffic,
-) -> Result<String, AllocError> {
+fn page(alloc: Global, socket: &TcpSocket<'_>, traffic: Traffic) -> Result<String, AllocError> {
     let mut out = String::new(alloc);
     match put_page(&mut out, socket, traffic) {
         Ok(()) => Ok(out),
@@ -91,11 +86,7 @@ fn page(
     }
 }
 
-fn put_page(
-    out: &mut String,
-    socket: &tcp::Socket<'_, Clock>,
-    traffic: Traffic,
-) -> Result<(), AllocError> {
+fn put_page(out: &mut String, socket: &TcpSocket<'_>, traffic: Traffic) -> Result<(), AllocError> {
     out.push_str("The proved TCP sockets of smoltcp, on a stream of packets.\n\n")?;
     if let (Some(local), Some(remote)) = (socket.local_endpoint(), socket.remote_endpoint()) {
         put_ends(out, local, remote)?;
@@ -114,7 +105,7 @@ fn put_ends(out: &mut String, local: IpEndpoint, remote: IpEndpoint) -> Result<(
 // A name, a number, and its unit.
 type Row = (&'static str, u64, &'static str);
 
-fn rows(socket: &tcp::Socket<'_, Clock>, traffic: Traffic) -> [Row; 6] {
+fn rows(socket: &TcpSocket<'_>, traffic: Traffic) -> [Row; 6] {
     let timeout = socket.retransmission_timeout().total_millis();
     [
         (

@@ -1,7 +1,7 @@
 //! Reads the packets of one stream and writes those of the host to another.
 ghost use Rattle.std.specs.Prelude.{◌<◌, ◌≤◌};
 
-use crate::clock::Clock;
+use crate::clock::{Clock, Sockets};
 use crate::fault::Fault;
 use crate::host::{Counts, Host, LiveHost};
 use crate::outbox::Outbox;
@@ -14,6 +14,7 @@ use smoltcp_socket::time::Duration;
 use smoltcp_socket::wire::{IpAddress, IpListenEndpoint, Ipv4Address, Ipv6Address};
 use smoltcp_socket::{Socket, tcp, udp};
 use std::alloc::{AllocError, Global};
+use std::cell::Cell;
 use std::io::{ErrorKind, Read, Write};
 
 /// At most so many TCP sockets.
@@ -84,7 +85,9 @@ pub fn run<R: Read, W: Write>(
         PacketBuffer::new(&mut tx_places, &mut tx),
     );
     let _ = udp.bind(ECHO);
-    match host(alloc, setup, bytes.as_mut_slice(), size, udp) {
+    let millis = Cell::new(0);
+    let clock = Clock::new(&millis);
+    match host(alloc, setup, clock, bytes.as_mut_slice(), size, udp) {
         Ok(host) => {
             let mut host = host;
             match exchange(&mut host, input, output) {
@@ -110,6 +113,7 @@ fn buffer_size(sockets: usize, rules: Rules) -> usize
 fn host<'a>(
     alloc: Global,
     setup: Setup,
+    clock: Clock<'a>,
     bytes: &'a mut [u8],
     size: usize,
     udp: udp::Socket<'a>,
@@ -124,7 +128,9 @@ fn host<'a>(
         Ok(udp) => {
             let interface = interface(addresses, setup);
             let kept_from = kept_from(setup.sockets, setup.rules);
-            Ok(Host::new(alloc, interface, sockets, slots, udp, kept_from, outbox))
+            Ok(Host::new(
+                alloc, interface, clock, sockets, slots, udp, kept_from, outbox,
+            ))
         }
         Err(error) => Err(error),
     }
@@ -146,7 +152,7 @@ fn interface(addresses: Vec<IpCidr>, setup: Setup) -> Interface<Secret> {
 // Makes the TCP sockets, each over two pieces of the bytes, and the UDP socket behind them, whose handle it answers.
 fn add_sockets<'a>(
     alloc: Global,
-    sockets: &mut SocketSet<'a, Clock>,
+    sockets: &mut Sockets<'a>,
     slots: &mut Vec<Slot>,
     setup: Setup,
     bytes: &'a mut [u8],
@@ -170,7 +176,7 @@ fn add_sockets<'a>(
 }
 
 fn add_tcp<'a>(
-    sockets: &mut SocketSet<'a, Clock>,
+    sockets: &mut Sockets<'a>,
     rx: &'a mut [u8],
     tx: &'a mut [u8],
     rules: Rules,

@@ -1,12 +1,12 @@
 //! What runs on a TCP socket of the host.
 
-use crate::clock::Clock;
+use crate::clock::{Clock, TcpSocket};
 use crate::http::Http;
 use crate::page::Traffic;
 use crate::pattern::{PIECE, Patterns};
 use crate::service::Service;
 use net_host::SocketHandle;
-use smoltcp_socket::tcp::{self, State};
+use smoltcp_socket::tcp::{Rules, State};
 use smoltcp_socket::time::Duration;
 use std::alloc::{AllocError, Global};
 
@@ -43,12 +43,16 @@ impl Slot {
         }
     }
 
-    /// The socket waits for a connection to the service; one that is still there is given up.
-    pub fn listen(&mut self, socket: &mut tcp::Socket<'_, Clock>, service: Service) {
+    /// The socket waits for a connection to the service; one that is still there is given up. By the RFCs' rules it
+    /// offers timestamps, each time anew, as a client without them takes the clock away.
+    pub fn listen<'a>(&mut self, socket: &mut TcpSocket<'a>, service: Service, clock: Clock<'a>) {
         socket.abort();
         self.service = service;
         self.rested = true;
         socket.set_keep_alive(Some(KEEP_ALIVE));
+        if socket.rules() == Rules::Rfc {
+            socket.set_tsval_source(Some(clock));
+        }
         let _ = socket.listen(service.endpoint());
     }
 
@@ -67,7 +71,7 @@ impl Slot {
     pub fn serve(
         &mut self,
         alloc: Global,
-        socket: &mut tcp::Socket<'_, Clock>,
+        socket: &mut TcpSocket<'_>,
         patterns: &Patterns,
     ) -> Result<(), AllocError> {
         match socket.state() {
@@ -98,7 +102,7 @@ impl Slot {
         Ok(())
     }
 
-    fn generate(&mut self, socket: &mut tcp::Socket<'_, Clock>, patterns: &Patterns) {
+    fn generate(&mut self, socket: &mut TcpSocket<'_>, patterns: &Patterns) {
         for _ in 0..PIECES {
             let Ok(count) = socket.send_slice(patterns.lines(self.traffic.sent)) else {
                 break;
@@ -111,7 +115,7 @@ impl Slot {
     }
 }
 
-fn echo(socket: &mut tcp::Socket<'_, Clock>) {
+fn echo(socket: &mut TcpSocket<'_>) {
     let mut bytes = [0u8; PIECE];
     for _ in 0..PIECES {
         let room = socket
@@ -131,7 +135,7 @@ fn echo(socket: &mut tcp::Socket<'_, Clock>) {
     }
 }
 
-fn discard(socket: &mut tcp::Socket<'_, Clock>) {
+fn discard(socket: &mut TcpSocket<'_>) {
     for _ in 0..PIECES {
         if !matches!(socket.recv(|bytes: &[u8]| (bytes.len(), bytes.len())), Ok(count) if count > 0)
         {
