@@ -46,12 +46,12 @@ impl<'a> ControlBlock<'a> {
     }
 
     #[tactic(auto, unfolding(crate::specs::Sent::snd_nxt_moved))]
-    fn move_snd_nxt(&mut self, emitted: Emitted)
-        ensures view { self.new ≡ snd_nxt_moved self.old emitted }
+    fn move_snd_nxt(&mut self, emitted: &Emitted)
+        ensures view { self.new ≡ snd_nxt_moved self.old emitted.now }
         ensures stamps { self.new.stamps ≡ self.old.stamps }
     {
         if let Recovery::Fast { .. } = self.recovery {
-            self.recovery = self.recovery.resent(self.remote_last_seq, &emitted);
+            self.recovery = self.recovery.resent(self.remote_last_seq, emitted);
         }
         self.remote_last_seq = later(self.remote_last_seq, emitted.end);
         self.remote_last_ack = emitted.ack_number;
@@ -63,9 +63,9 @@ impl<'a> ControlBlock<'a> {
 
     // What takes sequence numbers is timed, and waited for.
     #[tactic(auto, unfolding(crate::specs::Sent::sending_timed))]
-    fn time_sending(&mut self, now: Instant, emitted: Emitted)
+    fn time_sending(&mut self, now: Instant, emitted: &Emitted)
         requires { IsMoment now.micros }
-        ensures view { self.new ≡ sending_timed self.old now emitted }
+        ensures view { self.new ≡ sending_timed self.old now emitted.now }
         ensures stamps { self.new.stamps ≡ self.old.stamps }
     {
         if emitted.len == 0 {
@@ -80,9 +80,9 @@ impl<'a> ControlBlock<'a> {
     }
 
     #[tactic(auto, unfolding(crate::specs::Sent::after_sending))]
-    fn after_sending(&mut self, now: Instant, emitted: Emitted)
+    fn after_sending(&mut self, now: Instant, emitted: &Emitted)
         requires { IsMoment now.micros }
-        ensures view { self.new ≡ after_sending self.old now emitted }
+        ensures view { self.new ≡ after_sending self.old now emitted.now }
         ensures stamps { self.new.stamps ≡ self.old.stamps }
     {
         self.after_any(now);
@@ -99,9 +99,9 @@ impl<'a> ControlBlock<'a> {
 
     // What an emit leaves: where it failed, the socket is as it was.
     #[inline(always)]
-    fn after_emit(&mut self, ok: bool, now: Instant, emitted: Emitted)
+    fn after_emit(&mut self, ok: bool, now: Instant, emitted: &Emitted)
         requires { IsMoment now.micros }
-        ensures view { self.new ≡ after_emit ok self.old now emitted }
+        ensures view { self.new ≡ after_emit ok self.old now emitted.now }
         ensures stamps { self.new.stamps ≡ self.old.stamps }
     {
         if ok {
@@ -136,7 +136,7 @@ impl<'a> ControlBlock<'a> {
         let emitted = Emitted::of(kind, &packet.1);
         self.number_packet(&mut packet);
         let result = emit(cx, packet);
-        self.after_emit(result.is_ok(), now, emitted);
+        self.after_emit(result.is_ok(), now, &emitted);
         result
     }
 }

@@ -53,10 +53,10 @@ impl Timer {
 impl<'a> ControlBlock<'a> {
     // Something goes out that takes numbers: it is timed, and by the RFCs' rules the socket was idle no longer.
     #[inline(always)]
-    pub(crate) fn measure_sending(&mut self, now: Instant, emitted: Emitted)
+    pub(crate) fn measure_sending(&mut self, now: Instant, emitted: &Emitted)
         requires { IsMoment now.micros }
         ensures view { self.new ≡ record self.old {
-          rtte = sending_measured self.old now emitted;
+          rtte = sending_measured self.old now emitted.now;
           congestion_controller = restarted_by self.old.rules self.old.idle_at now self.old.congestion_controller;
           idle_at = idle_by self.old.rules self.old.idle_at now self.old.rtte;
         } }
@@ -70,9 +70,9 @@ impl<'a> ControlBlock<'a> {
         }
     }
 
-    fn measure_by_rfc(&mut self, now: Instant, emitted: Emitted)
+    fn measure_by_rfc(&mut self, now: Instant, emitted: &Emitted)
         requires { self.old.rules ≡ Rfc }
-        ensures view { self.new ≡ record self.old { rtte = sending_measured self.old now emitted } }
+        ensures view { self.new ≡ record self.old { rtte = sending_measured self.old now emitted.now } }
     {
         self.rtte.on_send(now, emitted.end);
         if let Some(stamp) = emitted.stamp {
