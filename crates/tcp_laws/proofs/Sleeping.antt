@@ -174,13 +174,14 @@ data_goes v t f e z = go (sendable v == 0) refl
         let k = and_parts (nat_lt v.remote_win_len (v.largest_window / 2)) _ x in
         let m = and_parts (is_some v.idle_at) _ k.1 in
         let s : v.remote_win_len - flight v < effective_mss v t f = ltb-true (v.remote_win_len - flight v) (effective_mss v t f) (and_parts (nat_lt (v.remote_win_len - flight v) (effective_mss v t f)) _ b.1).0 in
-        (x, record {
+        let small : WaitsSmall v t f = record {
           half = ltb-true v.remote_win_len (v.largest_window / 2) k.0;
           short = whole v.remote_win_len (flight v) (effective_mss v t f) z s;
           more = ltb-true v.remote_win_len n a.0;
           has_moment = m.0;
           first = sym (not_not (sends_again v.recovery)) ∙ ap not m.1;
-        })
+        } in
+        (x, small)
 
     cut : is_held_back v (effective_mss v t f) ≡ true → is_cut_by v.rules (may_wait v) (flight v) v.remote_win_len n (congestion_left v) (effective_mss v t f) ≡ true
     cut h = sym (ap (λ b. b || is_cut_by v.rules (may_wait v) (flight v) v.remote_win_len n (congestion_left v) (effective_mss v t f)) (by_nagle v.nagle)) ∙ h
