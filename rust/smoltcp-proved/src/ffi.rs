@@ -125,7 +125,7 @@ pub const ERROR_EMPTY: i64 = -11;
 pub const NOT_ACCEPTED: i64 = -8;
 
 // The sizes of sockets, and of places of their queues, in bytes.
-pub const TCP_SIZE: usize = 616;
+pub const TCP_SIZE: usize = 624;
 pub const UDP_SIZE: usize = 160;
 pub const UDP_PLACE_SIZE: usize = 48;
 pub const RAW_SIZE: usize = 136;
