@@ -177,8 +177,8 @@ window_doubled v = tells_window v.state && (is_doubled v v.remote_last_ack && ma
 
 -- ---- the reasons in their order
 
--- data; an acknowledgement whose delay is over, or bytes that have waited; a larger window; the RST of a closed socket; a
--- keep-alive; a probe
+-- data; an acknowledgement whose delay is over, or bytes that have waited; a larger window; the RST of a closed socket;
+-- a keep-alive; a probe
 unfoldable pub is_due : View → Tuple → Facts → Bool
 is_due v t f =
     data_due v t f

@@ -1,7 +1,7 @@
 -- How a socket with work to do waits for a segment, and what keeps it from it.
 use Rattle.std.proofs.Common.{◌-◌, ◌≡◌, ℕ, zero, suc, ◌<◌, ◌^◌, ◌/◌, ◌⊎◌, inl, inr, Bool, true, false, true≢false, not, ◌&&◌, ◌||◌, refl, sym, ap, subst, ◌∙◌, length, Option, Some, None, is_none, is_some, arith}
-use Rattle.std.specs.Prelude.{if◌then◌else◌, ◌==◌, nat_le, nat_lt}
-use Rattle.std.proofs.lemmas.Bool.{and_left, and_parts, and_right, eq-eqb, eqb-true, ltb-true, or_parts}
+use Rattle.std.specs.Prelude.{if◌then◌else◌, ◌==◌, nat_lt}
+use Rattle.std.proofs.lemmas.Bool.{and_parts, and_right, eq-eqb, eqb-true, ltb-true, or_parts}
 use Rattle.std.proofs.lemmas.Option.{none-some}
 use Rattle.net_base.specs.declared.time.Duration.{Duration}
 use Rattle.net_base.specs.declared.time.Instant.{Instant}
@@ -173,16 +173,15 @@ data_goes v t f e z = go (sendable v == 0) refl
         let x : w ≡ true = sym (ap (λ y. y || w) flies) ∙ b.0 in
         let k = and_parts (nat_lt v.remote_win_len (v.largest_window / 2)) _ x in
         let m = and_parts (is_some v.idle_at) _ k.1 in
-        let s : v.remote_win_len - flight v < effective_mss v t f = ltb-true (v.remote_win_len - flight v) (effective_mss v t f) (and_parts (nat_lt (v.remote_win_len - flight v) (effective_mss v t f)) _ b.1).0 in (
-          x,
-          record {
-            half = ltb-true v.remote_win_len (v.largest_window / 2) k.0;
-            short = whole v.remote_win_len (flight v) (effective_mss v t f) z s;
-            more = ltb-true v.remote_win_len n a.0;
-            has_moment = m.0;
-            first = sym (not_not (sends_again v.recovery)) ∙ ap not m.1;
-          },
-        )
+        let s : v.remote_win_len - flight v < effective_mss v t f = ltb-true (v.remote_win_len - flight v) (effective_mss v t f) (and_parts (nat_lt (v.remote_win_len - flight v) (effective_mss v t f)) _ b.1).0 in
+        let small : WaitsSmall v t f = record {
+          half = ltb-true v.remote_win_len (v.largest_window / 2) k.0;
+          short = whole v.remote_win_len (flight v) (effective_mss v t f) z s;
+          more = ltb-true v.remote_win_len n a.0;
+          has_moment = m.0;
+          first = sym (not_not (sends_again v.recovery)) ∙ ap not m.1;
+        } in
+        (x, small)
 
     cut : is_held_back v (effective_mss v t f) ≡ true → is_cut_by v.rules (may_wait v) (flight v) v.remote_win_len n (congestion_left v) (effective_mss v t f) ≡ true
     cut h = sym (ap (λ b. b || is_cut_by v.rules (may_wait v) (flight v) v.remote_win_len n (congestion_left v) (effective_mss v t f)) (by_nagle v.nagle)) ∙ h

@@ -1,5 +1,5 @@
 -- How late a wake-up may come: over any list of calls whose clock does not go back.
-use Rattle.std.specs.Prelude.{ℕ, ◌≡◌, ◌+◌, ◌≤◌, ◌^◌, ◌≤ℤ◌, pos, length, Option, Some, None, true}
+use Rattle.std.specs.Prelude.{ℕ, ◌≡◌, ◌+◌, ◌≤◌, ◌^◌, ◌≤ℤ◌, pos, length, Option, Some, None}
 use Rattle.std.specs.Option.{ForSome}
 use Rattle.net_base.specs.Ring.{Ring}
 use Rattle.net_base.specs.declared.time.Duration.{Duration}

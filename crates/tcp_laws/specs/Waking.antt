@@ -85,8 +85,8 @@ pub record TellsWindow (v : View) (now : Instant) (s : Segment) : Type 0 where
 abbrev pub HasToSend : View → Type 0
 HasToSend v = (0 < length v.tx_buffer.bytes) ⊎ (is_closing v.state ≡ true)
 
--- the window is less than half of the largest one that was told, than a segment and than what waits; none of it may have
--- been sent before; and there is a moment at which it goes out, which `poll_at` tells
+-- the window is less than half of the largest one that was told, than a segment and than what waits; none of it may
+-- have been sent before; and there is a moment at which it goes out, which `poll_at` tells
 pub record WaitsSmall (v : View) (t : Tuple) (f : Facts) : Type 0 where
   pub half : v.remote_win_len < v.largest_window / 2
   pub short : v.remote_win_len < effective_mss v t f

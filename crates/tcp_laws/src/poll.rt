@@ -142,9 +142,9 @@ pub fn acks_repeat_only_so()
 {}
 
 /// A wake-up has a bound, over any list of calls on such a socket with a clock that begins at 0 or later and does not
-/// go back: where a socket with a peer has a moment in its timer, or an acknowledgement due, or by the RFCs' rules bytes
-/// that wait with nothing in flight, `poll_at` is at the latest the latest moment told, plus the longest of a minute and
-/// of the keep-alive intervals and acknowledgement delays that were set.
+/// go back: where a socket with a peer has a moment in its timer, or an acknowledgement due, or by the RFCs' rules
+/// bytes that wait with nothing in flight, `poll_at` is at the latest the latest moment told, plus the longest of a
+/// minute and of the keep-alive intervals and acknowledgement delays that were set.
 pub fn wake_up_is_bounded()
     ensures { WakeUpIsBounded }
 {}

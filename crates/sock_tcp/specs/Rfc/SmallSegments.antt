@@ -24,8 +24,8 @@ abbrev pub waits_alone : Rules → Recovery → Option Instant → ℕ → ℕ �
 waits_alone rules.Smoltcp r at window largest = false
 waits_alone rules.Rfc r at window largest = nat_lt window (largest / 2) && (is_some at && not (sends_again r))
 
--- While something is in flight, or it may wait alone, what the peer's window leaves is less than a segment and less than
--- what waits, and the congestion window does not leave less: flight bytes of the queued ones were sent
+-- while something is in flight, or it may wait alone: what the peer's window leaves is less than a segment, and less
+-- than what waits, and the congestion window does not leave less; flight bytes of the queued ones were sent
 abbrev pub is_cut_by : Rules → Bool → ℕ → ℕ → ℕ → ℕ → ℕ → Bool
 is_cut_by rules.Smoltcp alone flight window queued congestion mss = false
 is_cut_by rules.Rfc alone flight window queued congestion mss =
