@@ -2,7 +2,7 @@
 ghost use Rattle.std.specs.Prelude.{◌≡◌, ◌≤◌, ◌<◌, ◌^◌};
 ghost use Rattle.sock_core.specs.Bounds.{IsMoment};
 ghost use Rattle.sock_tcp.specs.View.{moment_of};
-ghost use Rattle.sock_tcp.specs.Due.{control_due, own_mss, effective_mss};
+ghost use Rattle.sock_tcp.specs.Due.{control_due, own_mss, effective_mss, timestamp_room};
 ghost use Rattle.sock_tcp.specs.Due.{flight, limited, congestion_left, sendable, waits_by_nagle, is_held_back};
 ghost use Rattle.sock_tcp.specs.Due.{data_due, ack_due};
 ghost use Rattle.sock_tcp.specs.Due.{ack_poll};
@@ -38,11 +38,19 @@ pub(crate) fn own_mss<C: Context>(cx: &C, tuple: &Tuple) -> usize
 }
 
 impl<'a> ControlBlock<'a> {
+    // How much of each segment a timestamp option takes.
+    #[inline(always)]
+    pub(crate) fn timestamp_room(&self) -> usize
+        ensures { result ≡ timestamp_room self.now.stamps }
+    {
+        if self.stamps { TIMESTAMP_ROOM } else { 0 }
+    }
+
     pub(crate) fn effective_mss<C: Context>(&self, cx: &C, tuple: &Tuple) -> usize
         ensures value { result ≡ effective_mss self.now tuple.now (C.facts cx.now) }
         ensures small { result ≤ 65535 }
     {
-        let room = if self.stamps { TIMESTAMP_ROOM } else { 0 };
+        let room = self.timestamp_room();
         own_mss(cx, tuple).min(self.remote_mss).saturating_sub(room)
     }
 

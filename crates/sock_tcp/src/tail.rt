@@ -161,7 +161,8 @@ impl<'a> ControlBlock<'a> {
     fn probe(&self, again: bool) -> Recovery
         ensures { result ≡ probe_of self.now again }
     {
-        let last = self.flight().min(self.remote_mss);
+        let full = self.remote_mss.saturating_sub(self.timestamp_room());
+        let last = self.flight().min(full);
         Recovery::Probe {
             start: self.local_seq_no.plus(self.flight() - last),
             end: self.remote_last_seq,

@@ -7,7 +7,7 @@ use Rattle.net_base.specs.declared.time.Duration.{Duration}
 use Rattle.net_base.specs.declared.time.Instant.{Instant}
 use Rattle.sock_core.specs.Estimator.{Estimator, retransmitted, srtt_of}
 use Rattle.sock_tcp.specs.Content.{carries_data}
-use Rattle.sock_tcp.specs.Due.{flight, sendable}
+use Rattle.sock_tcp.specs.Due.{flight, sendable, timestamp_room}
 use Rattle.sock_tcp.specs.Timers.{after, is_over, retransmit_from}
 use Rattle.sock_tcp.specs.View.{View}
 use Rattle.sock_tcp.specs.declared.recovery.Recovery.{Recovery}
@@ -62,7 +62,7 @@ probes_tail v now = may_probe_by v.rules (may_probe v.recovery v) && is_retransm
 
 -- how long the last segment was, if all were full
 abbrev pub last_len : View → ℕ
-last_len v = min (flight v) v.remote_mss
+last_len v = min (flight v) (v.remote_mss - timestamp_room v.stamps)
 
 -- whether that goes out again, or new bytes do
 abbrev pub probe_of : View → Bool → Recovery
