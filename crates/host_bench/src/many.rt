@@ -14,8 +14,15 @@ const MOST: usize = 20_000;
 // How many questions are asked in the whole job.
 const QUESTIONS: u32 = 200_000;
 
-// Every so many questions a connection is ended and opened anew.
-const ANEW: u32 = 200;
+// How many clients ask at a time.
+const AT_A_TIME: u32 = 4;
+
+// Milliseconds from one round of questions to the next. An acknowledgement is delayed by less, so that a round trip takes
+// the same packets however many connections there are.
+const PAUSE: u32 = 20;
+
+// Every so many rounds a connection is ended and opened anew.
+const ANEW: u32 = 50;
 
 // The port of the first client.
 const FIRST_PORT: u16 = 10_000;
@@ -52,15 +59,17 @@ fn run(
         open(&mut client, &mut server, i, now);
         now = now.wrapping_add(1);
     }
-    for question in 0..questions {
-        let i = draw.below(count.max(1));
-        if question % ANEW == ANEW - 1 {
-            client.abort(i as usize);
+    for round in 0..questions / AT_A_TIME {
+        let first = draw.below(count.max(1));
+        if round % ANEW == ANEW - 1 {
+            client.abort(first as usize);
             exchange(&mut client, &mut server, now);
-            open(&mut client, &mut server, i, now);
+            open(&mut client, &mut server, first, now);
         }
-        ask(&mut client, &mut server, i as usize, now, draw, &mut digest);
-        now = now.wrapping_add(1);
+        let asking = Asking { first, count };
+        ask(&mut client, &mut server, asking, now, draw, &mut digest);
+        now = now.wrapping_add(PAUSE);
+        exchange(&mut client, &mut server, now);
     }
     digest.took(now);
     digest
@@ -73,23 +82,42 @@ fn open(client: &mut Side<'_>, server: &mut Side<'_>, i: u32, now: u32) {
     exchange(client, server, now);
 }
 
-// A question of 20 to 500 bytes, and an answer of the same length.
+// The clients that ask: some that follow each other.
+#[derive(Clone, Copy)]
+struct Asking {
+    first: u32,
+    count: u32,
+}
+
+impl Asking {
+    fn client(self, k: u32) -> usize {
+        (self.first.wrapping_add(k) % self.count.max(1)) as usize
+    }
+}
+
+// A question of 20 to 500 bytes of each, and an answer of the same length.
 fn ask(
     client: &mut Side<'_>,
     server: &mut Side<'_>,
-    i: usize,
+    asking: Asking,
     now: u32,
     draw: &mut Draw,
     digest: &mut Digest,
 ) {
     let text = [b'q'; 500];
-    let len = 20 + draw.below(481) as usize;
-    client.send(i, &text[..len.min(500)]);
+    for k in 0..AT_A_TIME {
+        let len = 20 + draw.below(481) as usize;
+        client.send(asking.client(k), &text[..len.min(500)]);
+    }
     exchange(client, server, now);
-    let came = server.read(i, digest).min(500);
-    server.send(i, &text[..came]);
+    for k in 0..AT_A_TIME {
+        let came = server.read(asking.client(k), digest).min(500);
+        server.send(asking.client(k), &text[..came]);
+    }
     exchange(client, server, now);
-    client.read(i, digest);
+    for k in 0..AT_A_TIME {
+        client.read(asking.client(k), digest);
+    }
 }
 
 // What is due on both sides arrives, until nothing is.
