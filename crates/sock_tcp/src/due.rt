@@ -76,19 +76,30 @@ impl<'a> ControlBlock<'a> {
         }
     }
 
-    // What the congestion window leaves.
+    // What the congestion window leaves. A call of its own is spared by smoltcp's rules, which each poll asks.
+    #[inline(always)]
     pub(crate) fn congestion_left(&self) -> usize
         ensures { result ≡ congestion_left self.now }
     {
-        let window = self.congestion_controller.window();
         match self.rules {
-            Rules::Smoltcp => window.saturating_sub(self.flight()),
-            Rules::Rfc if self.is_counted() => {
-                let most = self.congestion_controller.recovery_window();
-                most.saturating_sub(self.in_network())
+            Rules::Smoltcp => {
+                let window = self.congestion_controller.window();
+                window.saturating_sub(self.flight())
             }
-            Rules::Rfc => window.saturating_sub(self.flight().saturating_sub(self.limited())),
+            Rules::Rfc => self.congestion_left_by_rfc(),
         }
+    }
+
+    #[inline(never)]
+    fn congestion_left_by_rfc(&self) -> usize
+        ensures { result ≡ congestion_left self.now }
+    {
+        if self.is_counted() {
+            let most = self.congestion_controller.recovery_window();
+            return most.saturating_sub(self.in_network());
+        }
+        let window = self.congestion_controller.window();
+        window.saturating_sub(self.flight().saturating_sub(self.limited()))
     }
 
     // What of the transmit queue both windows let go out.

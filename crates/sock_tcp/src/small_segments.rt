@@ -1,7 +1,8 @@
 //! Which small segments wait by the RFCs' rules, and how long (RFC 9293, section 3.8.6.2.1).
 ghost use Rattle.std.specs.Prelude.{◌≡◌, ◌&&◌, ◌==◌, length, not};
 ghost use Rattle.sock_tcp.specs.Due.{ack_poll, congestion_left, flight, held_poll, may_wait, sendable};
-ghost use Rattle.sock_tcp.specs.Rfc.SmallSegments.{is_cut_by, larger, moment_at, sends_again, small_poll, waits_alone};
+ghost use Rattle.sock_tcp.specs.Rfc.SmallSegments.{held_by, is_cut_by, larger, moment_at, sends_again, small_poll};
+ghost use Rattle.sock_tcp.specs.Rfc.SmallSegments.{waits_alone};
 ghost use Rattle.sock_tcp.specs.Window.{has_window};
 ghost use Rattle.sock_tcp.specs.declared.rules.Rules.TheVariants.{Rfc};
 
@@ -79,14 +80,24 @@ impl<'a> ControlBlock<'a> {
         }
     }
 
-    // From when on an acknowledgement goes out, or bytes that wait.
+    // From when on an acknowledgement goes out, or bytes that wait. A call of its own is spared by smoltcp's rules, which
+    // each poll asks.
+    #[inline(always)]
     pub(crate) fn held_poll(&self) -> PollAt
         ensures { result ≡ held_poll self.now }
     {
         match self.rules {
             Rules::Smoltcp => self.ack_poll(),
-            Rules::Rfc => earlier(self.ack_poll(), self.small_poll()),
+            Rules::Rfc => self.held_by_rfc(),
         }
+    }
+
+    #[inline(never)]
+    fn held_by_rfc(&self) -> PollAt
+        ensures { result ≡ held_by Rfc (ack_poll self.now)
+            (small_poll ((flight self.now == 0) && not (sendable self.now == 0)) self.now.idle_at) }
+    {
+        earlier(self.ack_poll(), self.small_poll())
     }
 }
 
