@@ -17,8 +17,8 @@ const QUESTIONS: u32 = 200_000;
 // How many clients ask at a time.
 const AT_A_TIME: u32 = 4;
 
-// Milliseconds from one round of questions to the next. An acknowledgement is delayed by less, so that a round trip takes
-// the same packets however many connections there are.
+// Milliseconds from one round of questions to the next. An acknowledgement is delayed by less, so that a round trip
+// takes the same packets however many connections there are.
 const PAUSE: u32 = 20;
 
 // Every so many rounds a connection is ended and opened anew.
@@ -66,8 +66,8 @@ fn run(
             exchange(&mut client, &mut server, now);
             open(&mut client, &mut server, first, now);
         }
-        let asking = Asking { first, count };
-        ask(&mut client, &mut server, asking, now, draw, &mut digest);
+        let clients = Clients { first, count };
+        ask(&mut client, &mut server, clients, now, draw, &mut digest);
         now = now.wrapping_add(PAUSE);
         exchange(&mut client, &mut server, now);
     }
@@ -84,13 +84,13 @@ fn open(client: &mut Side<'_>, server: &mut Side<'_>, i: u32, now: u32) {
 
 // The clients that ask: some that follow each other.
 #[derive(Clone, Copy)]
-struct Asking {
+struct Clients {
     first: u32,
     count: u32,
 }
 
-impl Asking {
-    fn client(self, k: u32) -> usize {
+impl Clients {
+    fn number(self, k: u32) -> usize {
         (self.first.wrapping_add(k) % self.count.max(1)) as usize
     }
 }
@@ -99,7 +99,7 @@ impl Asking {
 fn ask(
     client: &mut Side<'_>,
     server: &mut Side<'_>,
-    asking: Asking,
+    clients: Clients,
     now: u32,
     draw: &mut Draw,
     digest: &mut Digest,
@@ -107,16 +107,16 @@ fn ask(
     let text = [b'q'; 500];
     for k in 0..AT_A_TIME {
         let len = 20 + draw.below(481) as usize;
-        client.send(asking.client(k), &text[..len.min(500)]);
+        client.send(clients.number(k), &text[..len.min(500)]);
     }
     exchange(client, server, now);
     for k in 0..AT_A_TIME {
-        let came = server.read(asking.client(k), digest).min(500);
-        server.send(asking.client(k), &text[..came]);
+        let came = server.read(clients.number(k), digest).min(500);
+        server.send(clients.number(k), &text[..came]);
     }
     exchange(client, server, now);
     for k in 0..AT_A_TIME {
-        client.read(asking.client(k), digest);
+        client.read(clients.number(k), digest);
     }
 }
 

@@ -76,7 +76,7 @@ impl<'a> ControlBlock<'a> {
         }
     }
 
-    // What the congestion window leaves. A call of its own is spared by smoltcp's rules, which each poll asks.
+    // What the congestion window leaves. By smoltcp's rules, which each dispatch asks, this spares a call of its own.
     #[inline(always)]
     pub(crate) fn congestion_left(&self) -> usize
         ensures { result ≡ congestion_left self.now }

@@ -80,8 +80,8 @@ impl<'a> ControlBlock<'a> {
         }
     }
 
-    // From when on an acknowledgement goes out, or bytes that wait. A call of its own is spared by smoltcp's rules, which
-    // each poll asks.
+    // From when on an acknowledgement goes out, or bytes that wait. By smoltcp's rules, which each poll asks, this
+    // spares a call of its own.
     #[inline(always)]
     pub(crate) fn held_poll(&self) -> PollAt
         ensures { result ≡ held_poll self.now }

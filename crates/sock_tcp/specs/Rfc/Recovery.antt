@@ -253,8 +253,8 @@ is_lost_again b w = only_tells b w && is_lost_in b.recovery (sacked_after b w) w
 abbrev pub unless_beyond : Recovery → TcpSeqNumber → TcpSeqNumber → Recovery
 unless_beyond r end una = if is_before end una then recovery.Open else r
 
--- where SND.UNA has moved, what is told next is measured from now on; where a segment was lost again, holes go out again
--- from SND.UNA on
+-- where SND.UNA has moved, what is told next is measured from now on; where a segment was lost again, holes go out
+-- again from SND.UNA on
 abbrev pub again_by : Bool → Bool → Recovery → TcpSeqNumber → TcpSeqNumber → Recovery
 again_by true lost (recovery.Fast point high_rxt resent_at) una nxt =
     recovery.Fast point high_rxt (highest_of (recovery.Fast point high_rxt resent_at) nxt)
