@@ -1,22 +1,21 @@
 -- What a socket in ESTABLISHED, CLOSE-WAIT or FIN-WAIT-2 sends from SND.UNA on, at the moment of a keep-alive, and what is left of it then.
 use Rattle.std.proofs.Common.{◌∙◌, ◌||◌, ◌≡◌, ℕ, ◌+◌, ◌<◌, Bool, true, false, not, ◌&&◌, refl, ap, List, length, Option, Some, None, is_some, arith, subst, sym}
-use Rattle.std.specs.Prelude.{if◌then◌else◌, ◌==◌}
+use Rattle.std.specs.Prelude.{if◌then◌else◌, max, nat_le, ◌==◌}
 use Rattle.net_base.specs.declared.time.Instant.{Instant}
 use Rattle.control_wire.specs.Segment.{Segment, control_len, is_empty_segment, is_plain, segment_len}
 use Rattle.control_wire.specs.Seq.{seq_add}
 use Rattle.control_wire.specs.declared.tcp.TcpControl.{TcpControl}
 use Rattle.control_wire.specs.declared.tcp.TcpControl.TheVariants as control
-use Rattle.sock_core.specs.Congestion.{post_transmitted, recovery_window}
+use Rattle.sock_core.specs.Congestion.{post_transmitted}
 use Rattle.sock_core.specs.Seq.{later_of}
 use Rattle.sock_tcp.proofs.Arming.{armed_as, armed_by_smoltcp}
 use Rattle.sock_tcp.specs.Rfc.Idle.{idle_by, restarted_by}
 use Rattle.sock_tcp.specs.Content.{carries_data, data_control, emission_kind, is_probing, offset_of, plain_segment, sent_as, next_hole, hole_of}
-use Rattle.sock_tcp.specs.Due.{is_closed, is_closing, window_field, flight}
+use Rattle.sock_tcp.specs.Due.{is_closed, is_closing, recovery_left, window_field}
 use Rattle.sock_tcp.specs.Rfc.OwnWindow.{field_by, space_field}
 use Rattle.sock_tcp.specs.Rfc.RoundTrips.{sending_measured}
 use Rattle.sock_tcp.specs.Sent.{after_any, after_probe, after_sending, emitted_as, left_by, sending_timed, snd_nxt_moved, goes_on}
-use Rattle.sock_tcp.specs.Rfc.Pipe.{counts, has_room}
-use Rattle.sock_tcp.specs.Rfc.Scoreboard.{is_blank}
+use Rattle.sock_tcp.specs.Rfc.Pipe.{counts}
 use Rattle.sock_tcp.specs.declared.rules.Rules.TheVariants as rules
 use Rattle.sock_tcp.specs.Timers.{is_keep_alive_over, keep_alive_renewed, probe_doubled, retransmit_unless_set}
 use Rattle.sock_tcp.specs.View.{View}
@@ -96,7 +95,7 @@ module _ (u : View) (p : Tuple) (now : Instant) (s : Segment) (not_closed : is_c
   plain_sent smoltcp = subst (SentOf u) (sym (armed_by_smoltcp (sending_timed x now e) now e.len (timed_rules u now s ∙ smoltcp))) (go (segment_len s == 0))
     where
       unmarked : goes_on x ≡ false
-      unmarked = ap (λ r. counts r x.recovery (is_blank x.sacked) && (is_some (hole_of x) && has_room x.recovery x.sacked x.local_seq_no (flight x) (recovery_window x.congestion_controller) x.remote_mss)) smoltcp
+      unmarked = ap (λ r. counts r x.recovery x.remote_has_sack && (is_some (hole_of x) && nat_le (max x.remote_mss 1) (recovery_left x))) smoltcp
 
       pending : (x.pending_fast_retransmit || goes_on x) ≡ x.pending_fast_retransmit
       pending = ap (λ b. x.pending_fast_retransmit || b) unmarked ∙ or_none x.pending_fast_retransmit

@@ -12,8 +12,7 @@ use Rattle.sock_core.specs.declared.context.PollAt.{PollAt}
 use Rattle.sock_core.specs.declared.context.PollAt.TheVariants as poll
 use Rattle.sock_tcp.specs.Polls.{is_reached, delay_poll}
 use Rattle.sock_tcp.specs.Rfc.OwnWindow.{field_by, may_grow, space_field}
-use Rattle.sock_tcp.specs.Rfc.Pipe.{counts, pipe}
-use Rattle.sock_tcp.specs.Rfc.Scoreboard.{is_blank}
+use Rattle.sock_tcp.specs.Rfc.Pipe.{counts, room}
 use Rattle.sock_tcp.specs.Rfc.SmallSegments.{held_by, is_cut_by, small_poll, waits_alone}
 use Rattle.sock_tcp.specs.Timers.{is_keep_alive_over, is_probe_over}
 use Rattle.sock_tcp.specs.View.{View, moment_of}
@@ -90,17 +89,18 @@ limited_by _ r duplicates mss = 0
 abbrev pub limited : View → ℕ
 limited v = limited_by v.rules v.recovery v.local_rx_dup_acks v.remote_mss
 
--- what is in the network, and how much there may be
+-- a recovery that counts what is in the network
 abbrev pub is_counted : View → Bool
-is_counted v = counts v.rules v.recovery (is_blank v.sacked)
+is_counted v = counts v.rules v.recovery v.remote_has_sack
 
-abbrev pub in_network : View → ℕ
-in_network v = pipe v.recovery v.sacked v.local_seq_no (flight v)
+abbrev pub recovery_left : View → ℕ
+recovery_left v =
+    room v.recovery v.sacked v.local_seq_no (flight v) (recovery_window v.congestion_controller) v.remote_mss
 
 -- what the congestion window leaves; in a recovery that counts what is in the network, beside that
 abbrev pub congestion_left : View → ℕ
 congestion_left v =
-    if is_counted v then recovery_window v.congestion_controller - in_network v
+    if is_counted v then recovery_left v
     else congestion_window v.congestion_controller - (flight v - limited v)
 
 -- what of the transmit queue both windows let go out behind SND.NXT

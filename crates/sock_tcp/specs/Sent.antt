@@ -1,15 +1,14 @@
 -- What an emit that answered Ok changes.
-use Rattle.std.specs.Prelude.{Option, Some, None, is_some, Bool, true, false, not, ◌==◌, ◌&&◌, ◌||◌, if◌then◌else◌}
+use Rattle.std.specs.Prelude.{Option, Some, None, is_some, max, nat_le, Bool, true, false, not, ◌==◌, ◌&&◌, ◌||◌, if◌then◌else◌}
 use Rattle.net_base.specs.declared.time.Instant.{Instant}
 use Rattle.control_wire.specs.Seq.{seq_add}
 use Rattle.control_wire.specs.Segment.{Segment, segment_len}
 use Rattle.control_wire.specs.declared.seq_number.TcpSeqNumber.{TcpSeqNumber}
-use Rattle.sock_core.specs.Congestion.{post_transmitted, recovery_window}
+use Rattle.sock_core.specs.Congestion.{post_transmitted}
 use Rattle.sock_core.specs.Seq.{is_before, later_of}
 use Rattle.sock_tcp.specs.Content.{carries_data, Sending, hole_of}
-use Rattle.sock_tcp.specs.Due.{is_closed, flight, is_counted}
+use Rattle.sock_tcp.specs.Due.{is_closed, is_counted, recovery_left}
 use Rattle.sock_tcp.specs.Rfc.Idle.{idle_by, restarted_by}
-use Rattle.sock_tcp.specs.Rfc.Pipe.{has_room}
 use Rattle.sock_tcp.specs.Rfc.RoundTrips.{sending_measured, stamp_of}
 use Rattle.sock_tcp.specs.Rfc.TailLoss.{tail_armed}
 use Rattle.sock_tcp.specs.Timers.{keep_alive_renewed, probe_doubled, retransmit_unless_set}
@@ -69,9 +68,7 @@ snd_nxt_moved v s =
 -- in a recovery that counts what is in the network, the next hole that the peer's window takes goes out at once while
 -- there is room (RFC 6675, section 5)
 abbrev pub goes_on : View → Bool
-goes_on v =
-    is_counted v && (is_some (hole_of v)
-    && has_room v.recovery v.sacked v.local_seq_no (flight v) (recovery_window v.congestion_controller) v.remote_mss)
+goes_on v = is_counted v && (is_some (hole_of v) && nat_le (max v.remote_mss 1) (recovery_left v))
 
 -- what takes sequence numbers is timed, and waited for
 unfoldable pub sending_timed : View → Instant → Emitted → View

@@ -95,8 +95,7 @@ impl<'a> ControlBlock<'a> {
         ensures { result ≡ congestion_left self.now }
     {
         if self.is_counted() {
-            let most = self.congestion_controller.recovery_window();
-            return most.saturating_sub(self.in_network());
+            return self.recovery_left();
         }
         let window = self.congestion_controller.window();
         window.saturating_sub(self.flight().saturating_sub(self.limited()))

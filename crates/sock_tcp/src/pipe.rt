@@ -1,7 +1,8 @@
 //! How much is in the network in a fast recovery (RFC 6675, sections 2 and 4).
 ghost use Rattle.std.specs.Prelude.{◌≡◌, ◌<◌, ◌≤◌, ◌^◌, ◌*◌, ◌+◌};
-ghost use Rattle.sock_tcp.specs.Due.{in_network, is_counted};
-ghost use Rattle.sock_tcp.specs.Rfc.Pipe.{before_place, counts, has_room, pipe, resent_to, told_before};
+ghost use Rattle.sock_tcp.specs.Due.{is_counted, recovery_left};
+ghost use Rattle.sock_tcp.specs.Rfc.Pipe.{before_place, counts, exchanged, has_room, holes_sent, pipe, resent_to};
+ghost use Rattle.sock_tcp.specs.Rfc.Pipe.{room, told_before};
 ghost use Rattle.sock_tcp.specs.Rfc.Recovery.{has_room_after, is_told_lost};
 ghost use Rattle.sock_tcp.specs.Sent.{goes_on};
 
@@ -51,19 +52,64 @@ impl Recovery {
         }
     }
 
+    // How many bytes of the holes that is.
+    fn holes_sent(self, sacked: &Scoreboard, una: TcpSeqNumber) -> usize
+        ensures value { result ≡ holes_sent self sacked.now una }
+        ensures small { result < 2 ^ 32 }
+    {
+        let place = self.resent_to(sacked, una);
+        place - sacked.told_before(place as u64) as usize
+    }
+
     // What is in the network, of so many bytes that were sent behind SND.UNA.
     #[tactic(auto, unfolding(crate::specs::Rfc::Pipe::pipe))]
     fn pipe(self, sacked: &Scoreboard, una: TcpSeqNumber, sent: usize) -> usize
         requires { sent < 2 ^ 32 }
         ensures { result ≡ pipe self sacked.now una sent }
     {
-        let place = self.resent_to(sacked, una);
-        let again = place - sacked.told_before(place as u64) as usize;
         let behind = sent.saturating_sub(sacked.highest_told() as usize);
-        sent.min(behind + again)
+        sent.min(behind + self.holes_sent(sacked, una))
     }
 
-    // Whether a segment fits in what the window leaves.
+    // A segment for each two that were told, less what went out in this recovery, until something new is acknowledged.
+    #[tactic(auto, unfolding(crate::specs::Rfc::Pipe::exchanged))]
+    fn exchanged(self, sacked: &Scoreboard, una: TcpSeqNumber, sent: usize, mss: usize) -> usize
+        requires sent { sent < 2 ^ 32 }
+        requires mss { mss < 2 ^ 16 }
+        ensures { result ≡ exchanged self sacked.now una sent mss }
+    {
+        match self {
+            Recovery::Fast {
+                point,
+                resent_at,
+                ..
+            } if resent_at == point => {
+                let segments = sacked.told_before(1 << 32) as usize / (2 * mss.max(1));
+                let new = sent.saturating_sub(point.since(una));
+                (segments * mss).saturating_sub(self.holes_sent(sacked, una) + new)
+            }
+            _ => 0,
+        }
+    }
+
+    // What may go out: what the window leaves beside what is in the network, or that.
+    pub(crate) fn room(
+        self,
+        sacked: &Scoreboard,
+        una: TcpSeqNumber,
+        sent: usize,
+        window: usize,
+        mss: usize,
+    ) -> usize
+        requires sent { sent < 2 ^ 32 }
+        requires mss { mss < 2 ^ 16 }
+        ensures { result ≡ room self sacked.now una sent window mss }
+    {
+        let left = window.saturating_sub(self.pipe(sacked, una, sent));
+        left.max(self.exchanged(sacked, una, sent, mss))
+    }
+
+    // Whether a segment fits.
     fn has_room(
         self,
         sacked: &Scoreboard,
@@ -72,10 +118,11 @@ impl Recovery {
         window: usize,
         mss: usize,
     ) -> bool
-        requires { sent < 2 ^ 32 }
+        requires sent { sent < 2 ^ 32 }
+        requires mss { mss < 2 ^ 16 }
         ensures { result ≡ has_room self sacked.now una sent window mss }
     {
-        window.saturating_sub(self.pipe(sacked, una, sent)) >= mss.max(1)
+        self.room(sacked, una, sent, window, mss) >= mss.max(1)
     }
 }
 
@@ -104,35 +151,30 @@ impl Before {
 }
 
 impl<'a> ControlBlock<'a> {
-    // A recovery counts what is in the network, while something is told by SACK.
+    // A recovery counts what is in the network, where the peer tells by SACK.
     pub(crate) fn is_counted(&self) -> bool
         ensures { result ≡ is_counted self.now }
     {
         match (self.rules, self.recovery) {
-            (Rules::Rfc, Recovery::Fast { .. }) => !self.sacked.is_blank(),
+            (Rules::Rfc, Recovery::Fast { .. }) => self.remote_has_sack,
             _ => false,
         }
     }
 
-    pub(crate) fn in_network(&self) -> usize
-        ensures { result ≡ in_network self.now }
+    // What may go out in such a recovery.
+    pub(crate) fn recovery_left(&self) -> usize
+        ensures { result ≡ recovery_left self.now }
     {
+        let window = self.congestion_controller.recovery_window();
+        let (una, mss) = (self.local_seq_no, self.remote_mss);
         self.recovery
-            .pipe(&self.sacked, self.local_seq_no, self.flight())
+            .room(&self.sacked, una, self.flight(), window, mss)
     }
 
     // The next hole that the peer's window takes goes out at once while there is room.
     pub(crate) fn goes_on(&self) -> bool
         ensures { result ≡ goes_on self.now }
     {
-        if !self.is_counted() {
-            return false;
-        }
-        let window = self.congestion_controller.recovery_window();
-        let (una, mss) = (self.local_seq_no, self.remote_mss);
-        self.hole().is_some()
-            && self
-                .recovery
-                .has_room(&self.sacked, una, self.flight(), window, mss)
+        self.is_counted() && self.hole().is_some() && self.recovery_left() >= self.remote_mss.max(1)
     }
 }

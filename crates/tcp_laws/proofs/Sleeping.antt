@@ -12,7 +12,7 @@ use Rattle.sock_core.specs.declared.congestion.AnyController.{AnyController}
 use Rattle.sock_core.specs.declared.congestion.AnyController.TheVariants as controller
 use Rattle.sock_core.specs.declared.context.PollAt.{PollAt}
 use Rattle.sock_core.specs.declared.context.PollAt.TheVariants as poll
-use Rattle.sock_tcp.specs.Due.{congestion_left, in_network, is_counted, limited, ack_due, ack_poll, data_due, effective_mss, flight, held_poll, is_closed, is_closing, is_held_back, is_opening, may_wait, sendable, window_doubled}
+use Rattle.sock_tcp.specs.Due.{congestion_left, is_counted, recovery_left, limited, ack_due, ack_poll, data_due, effective_mss, flight, held_poll, is_closed, is_closing, is_held_back, is_opening, may_wait, sendable, window_doubled}
 use Rattle.sock_tcp.specs.Rfc.Pipe.{pipe}
 use Rattle.sock_tcp.specs.Poll.{is_due_now, poll_moment, poll_moment_to}
 use Rattle.sock_tcp.specs.Polls.{delay_poll, earlier, timer_poll, timeout_poll}
@@ -216,7 +216,7 @@ pub congestion_leaves : (v : View) → IsOpen v.congestion_controller → flight
 unfolding pipe
 congestion_leaves v h z = by (is_counted v)
   where
-    by : (b : Bool) → 0 < (if b then recovery_window v.congestion_controller - in_network v else congestion_window v.congestion_controller - (flight v - limited v))
+    by : (b : Bool) → 0 < (if b then recovery_left v else congestion_window v.congestion_controller - (flight v - limited v))
     by true = omega (arith, z, open_recovery v.congestion_controller h)
     by false = omega (arith, z, open_window v.congestion_controller h)
 

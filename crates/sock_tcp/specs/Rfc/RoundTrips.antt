@@ -1,6 +1,6 @@
 -- Round trips by timestamps: what was sent again is timed by them, since their echo tells which sending is acknowledged
 -- (RFC 6298, section 3; RFC 7323, section 4).
-use Rattle.std.specs.Prelude.{ℕ, Option, Some, None, Bool, true, false, ◌&&◌}
+use Rattle.std.specs.Prelude.{ℕ, Option, Some, None, Bool, true, false}
 use Rattle.net_base.specs.declared.time.Instant.{Instant}
 use Rattle.control_wire.specs.declared.tcp.TcpTimestampRepr.{TcpTimestampRepr}
 use Rattle.sock_core.specs.Estimator.{Estimator, echoed, is_awaited, sent, stamped}
