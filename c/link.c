@@ -16,7 +16,9 @@
 #include <time.h>
 #include <unistd.h>
 
-enum { MTU = 1500, WAITING = 32768, BURST = 64, PAUSE = 50000 /* nanoseconds */ };
+enum { MTU = 1500, WAITING = 32768, BURST = 64 };
+
+enum { PAUSE = 50, LONGEST_PAUSE = 50000 }; /* microseconds */
 
 struct packet { int64_t at; ssize_t len; uint8_t bytes[MTU]; };
 
@@ -74,6 +76,19 @@ static int hand_on(struct way *way, int64_t now) {
     return written;
 }
 
+/* Microseconds until the next packet arrives. One that its device did not take is tried again after a short pause. */
+static int64_t until_next(int64_t now) {
+    int64_t least = LONGEST_PAUSE;
+    int i;
+    for (i = 0; i < 2; i++) {
+        int64_t left = ways[i].packets[ways[i].first % WAITING].at - now;
+        if (ways[i].first == ways[i].next) continue;
+        if (left <= 0) left = PAUSE;
+        if (left < least) least = left;
+    }
+    return least;
+}
+
 int main(int count, char **words_of) {
     unsigned lost;
     int64_t delay, end;
@@ -98,7 +113,7 @@ int main(int count, char **words_of) {
         }
         if (!work) {
             struct pollfd ready[2] = {{ways[0].device, POLLIN, 0}, {ways[1].device, POLLIN, 0}};
-            struct timespec pause = {0, PAUSE};
+            struct timespec pause = {0, until_next(now) * 1000};
             ppoll(ready, 2, &pause, NULL);
         }
     }

@@ -8,21 +8,13 @@ use smoltcp_socket::storage::RingBuffer;
 use smoltcp_socket::tcp::{self, State};
 use smoltcp_socket::time::Instant;
 use smoltcp_socket::wire::{IpAddress, IpEndpoint, IpListenEndpoint, Ipv4Address};
-use std::alloc::AllocError;
 use std::process::ExitCode;
 
 const CLIENT: IpAddress = IpAddress::Ipv4(Ipv4Address([10, 0, 0, 1]));
 
 const SERVER: IpAddress = IpAddress::Ipv4(Ipv4Address([10, 0, 0, 2]));
 
-// A host with one socket. The set is a type parameter, as the check does not yet state a struct that has one in a field.
-#[derive(Drop)]
-struct Host<S> {
-    interface: Interface<Secret>,
-    sockets: S,
-    handle: SocketHandle,
-    link: Link,
-}
+type Host<'a> = (Interface<Secret>, SocketSet<'a>, SocketHandle);
 
 // 1. Two sockets, each over two buffers.
 fn main(rt: HostRuntime) -> ExitCode {
@@ -30,119 +22,79 @@ fn main(rt: HostRuntime) -> ExitCode {
     let (mut rx_b, mut tx_b) = ([0u8; 64], [0u8; 64]);
     let client = tcp::Socket::new(RingBuffer::new(&mut rx_a), RingBuffer::new(&mut tx_a));
     let server = tcp::Socket::new(RingBuffer::new(&mut rx_b), RingBuffer::new(&mut tx_b));
-    match start(&rt, client, server) {
-        Ok(code) => code,
-        Err(_) => ExitCode::FAILURE,
+    match run(&rt, client, server) {
+        Some(()) => ExitCode::SUCCESS,
+        None => ExitCode::FAILURE,
     }
 }
 
-fn start(
-    rt: &HostRuntime,
-    client: tcp::Socket<'_>,
-    server: tcp::Socket<'_>,
-) -> Result<ExitCode, AllocError> {
-    let mut client = Host::new(rt, CLIENT, client)?;
-    let mut server = Host::new(rt, SERVER, server)?;
-    Ok(run(rt, &mut client, &mut server))
+// 2. A host: its address, its secret, which one on a network draws anew at each start, and its socket in a set of one.
+fn host<'a>(rt: &HostRuntime, address: IpAddress, socket: tcp::Socket<'a>) -> Option<Host<'a>> {
+    let cidr = IpCidr {
+        address,
+        prefix_len: 24,
+    };
+    let addresses = Vec::from_array(rt.alloc(), [cidr]).ok()?;
+    let mut sockets = SocketSet::new(rt.alloc(), 1).ok()?;
+    let handle = sockets.add(Socket::Tcp(socket)).ok()?;
+    let interface = Interface::new(addresses, Secret::new([7; 32]));
+    Some((interface, sockets, handle))
 }
 
-// 2. A host: its address, its secret, which one on a network draws anew at each start, and its socket.
-impl<'a> Host<SocketSet<'a>> {
-    fn new(
-        rt: &HostRuntime,
-        address: IpAddress,
-        socket: tcp::Socket<'a>,
-    ) -> Result<Host<SocketSet<'a>>, AllocError> {
-        let cidr = IpCidr {
-            address,
-            prefix_len: 24,
-        };
-        let addresses = Vec::from_array(rt.alloc(), [cidr])?;
-        let mut sockets = SocketSet::new(rt.alloc(), 1)?;
-        let Ok(handle) = sockets.add(Socket::Tcp(socket)) else {
-            return Err(AllocError);
-        };
-        Ok(Host {
-            interface: Interface::new(addresses, Secret::new([7; 32])),
-            sockets,
-            handle,
-            link: Link::new(),
-        })
+// 3. The server listens, the client connects, and time passes until both are closed. None where memory or time is over.
+fn run(rt: &HostRuntime, client: tcp::Socket<'_>, mut server: tcp::Socket<'_>) -> Option<()> {
+    let (addr, port) = (SERVER, 7);
+    let _ = server.listen(here(port));
+    let (mut a, mut on_a, client) = host(rt, CLIENT, client)?;
+    let (mut b, mut on_b, server) = host(rt, SERVER, server)?;
+    if let Some(socket) = on_a.tcp_mut(client) {
+        let _ = socket.connect(a.context(), IpEndpoint { addr, port }, here(49152));
     }
-}
-
-// 3. The server listens, the client connects, and time passes until both are closed.
-fn run(rt: &HostRuntime, a: &mut Host<SocketSet<'_>>, b: &mut Host<SocketSet<'_>>) -> ExitCode {
-    let addr = SERVER;
-    if let Some(socket) = a.sockets.tcp_mut(a.handle) {
-        let _ = socket.connect(
-            a.interface.context(),
-            IpEndpoint { addr, port: 7 },
-            port(49152),
-        );
-    }
-    if let Some(socket) = b.sockets.tcp_mut(b.handle) {
-        let _ = socket.listen(port(7));
-    }
+    let (mut end_a, mut end_b) = (Link::new(), Link::new());
+    let (mut heard, mut said) = ([0u8; 1500], [0u8; 1500]);
     for millis in 0..60_000u32 {
         let now = Instant::from_micros(i64::from(millis) * 1000);
-        let open = ask(rt, a) | answer(rt, b);
-        a.poll(now);
-        b.poll(now);
-        a.link.pass(&mut b.link);
-        if !open {
-            return ExitCode::SUCCESS;
+        if !(ask(rt, on_a.tcp_mut(client)) | answer(rt, on_b.tcp_mut(server))) {
+            return Some(());
         }
+        let _ = a.poll(&mut on_a, now, &mut end_a, &mut heard, &mut said);
+        let _ = b.poll(&mut on_b, now, &mut end_b, &mut heard, &mut said);
+        end_a.pass(&mut end_b);
     }
-    ExitCode::FAILURE
+    None
 }
 
-fn port(port: u16) -> IpListenEndpoint {
+fn here(port: u16) -> IpListenEndpoint {
     IpListenEndpoint { addr: None, port }
 }
 
-impl Host<SocketSet<'_>> {
-    fn poll(&mut self, now: Instant) {
-        let (mut heard, mut said) = ([0u8; 1500], [0u8; 1500]);
-        let sockets = &mut self.sockets;
-        let _ = self
-            .interface
-            .poll(sockets, now, &mut self.link, &mut heard, &mut said);
-    }
-}
-
 // 4. The applications never wait: each does what it can, and says whether its socket is open.
-fn ask(rt: &HostRuntime, host: &mut Host<SocketSet<'_>>) -> bool {
-    let Some(socket) = host.sockets.tcp_mut(host.handle) else {
-        return false;
-    };
+fn ask(rt: &HostRuntime, socket: Option<&mut tcp::Socket<'_>>) -> bool {
+    let Some(socket) = socket else { return false };
     if socket.state() == State::Established {
         let _ = socket.send_slice(b"hello");
         socket.close();
     }
-    let mut bytes = [0u8; 64];
-    let count = socket.recv_slice(&mut bytes).unwrap_or(0);
-    show(rt, "the client reads: ", &bytes[..count]);
+    let _ = read(rt, "the client reads: ", socket);
     socket.is_open()
 }
 
-fn answer(rt: &HostRuntime, host: &mut Host<SocketSet<'_>>) -> bool {
-    let Some(socket) = host.sockets.tcp_mut(host.handle) else {
-        return false;
-    };
-    let mut bytes = [0u8; 64];
-    let count = socket.recv_slice(&mut bytes).unwrap_or(0);
-    show(rt, "the server reads: ", &bytes[..count]);
+fn answer(rt: &HostRuntime, socket: Option<&mut tcp::Socket<'_>>) -> bool {
+    let Some(socket) = socket else { return false };
+    let (mut bytes, count) = read(rt, "the server reads: ", socket);
     bytes.make_ascii_uppercase();
-    let _ = socket.send_slice(&bytes[..count]);
+    let _ = socket.send_slice(&bytes[..count.min(64)]);
     if socket.state() == State::CloseWait {
         socket.close();
     }
     socket.is_open()
 }
 
-fn show(rt: &HostRuntime, who: &str, bytes: &[u8]) {
-    if !bytes.is_empty() {
-        let _ = rt.println(format_args!("{who}{}", bytes.escape_ascii()));
+fn read(rt: &HostRuntime, who: &str, socket: &mut tcp::Socket<'_>) -> ([u8; 64], usize) {
+    let mut bytes = [0u8; 64];
+    let count = socket.recv_slice(&mut bytes).unwrap_or(0);
+    if count > 0 {
+        let _ = rt.println(format_args!("{who}{}", bytes[..count].escape_ascii()));
     }
+    (bytes, count)
 }
