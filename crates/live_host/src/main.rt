@@ -40,7 +40,7 @@ RULES    rfc, for peers that are not smoltcp and a wire that loses, or smoltcp,
          which it is where it is left out
 SOCKETS  how many TCP sockets it has: 4 to 10000, 32 where it is left out; each
          has two buffers of 64 KB, or of 8 KB where there are more than 512; by
-         the RFCs' rules of 512 KB where there are at most 64, and a quarter of
+         the RFCs' rules of 1 MB where there are at most 32, and a quarter of
          the sockets is kept for those who answer a SYN cookie
 ";
 

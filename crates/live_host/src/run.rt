@@ -24,22 +24,23 @@ pub const MOST_SOCKETS: usize = 10_000;
 // windows a link with a long round trip can fill.
 const BUFFER: usize = 65536;
 
-const LARGE_BUFFER: usize = 524_288;
+const LARGE_BUFFER: usize = 1_048_576;
 
 const SMALL_BUFFER: usize = 8192;
 
 // More sockets than these have small buffers, and no more than those have large ones.
 const FEW: usize = 512;
 
-const VERY_FEW: usize = 64;
+const VERY_FEW: usize = 32;
 
 // How many datagrams wait each way, and how many bytes they have together.
 const PLACES: usize = 8;
 
 const DATAGRAMS: usize = 8192;
 
-// The lowest retransmission timeout by the RFCs' rules, as Linux's.
-const LEAST_TIMEOUT: Duration = Duration { micros: 200_000 };
+// The lowest retransmission timeout by the RFCs' rules: more than twice what a Linux peer delays an acknowledgement, of
+// which Linux itself waits twice as long, and FreeBSD 30 milliseconds.
+const LEAST_TIMEOUT: Duration = Duration { micros: 100_000 };
 
 // How long a handshake may last: time for the SYN|ACK to be sent again three times, and less than the 30 seconds of a
 // new interface, since few sockets are soon taken by SYNs from addresses where nobody is.
@@ -100,7 +101,7 @@ pub fn run<R: Read, W: Write>(
 }
 
 fn buffer_size(sockets: usize, rules: Rules) -> usize
-    ensures most { result ≤ 524288 }
+    ensures most { result ≤ 1048576 }
     ensures some { 0 < result }
 {
     if sockets <= VERY_FEW && rules == Rules::Rfc {
