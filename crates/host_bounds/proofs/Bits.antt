@@ -11,9 +11,7 @@ use Rattle.std.proofs.lemmas.List.{length-set, get_or-set_other, get_or-set_same
 use Rattle.std.proofs.lemmas.List.Elements.{All-get_or}
 use Rattle.std.proofs.lemmas.Int.{ints}
 use Rattle.std.proofs.lemmas.Nat.Bits.{bit_at-lt, bit_at-suc, bit_at-trailing_zeros, bit_at-zero, bit_at_clear_other, bit_at_clear_same, bit_at_set_other, bit_at_set_same, bit_at_ones}
-use Rattle.host_bounds.specs.Marking.{Clears, IsBusy, IsFull, IsMarked, Sets, bit_of}
-use Rattle.host_bounds.specs.Bounding.{at_once, bound_at}
-use Rattle.host_bounds.proofs.Layers.{set_elsewhere}
+use Rattle.host_bounds.specs.Marking.{AreNoted, Clears, IsBusy, IsFull, Sets, bit_of}
 
 pub shifted : (k n i : ℕ) → bit_at n (k + i) ≡ bit_at (n / 2 ^ k) i
 shifted zero n i =
@@ -123,12 +121,26 @@ module _ (marks marks' words words' : List ℕ) (place : ℕ) (busy : IsBusy mar
           absurd (no_one (bit_of marks' k) (empty k same) h)
       go false e = high.others (k / 64) e ∙ busy_without low k h
 
--- ---- what is found
-
+-- all are ones
 pub full_bit : (ws : List ℕ) (k : ℕ) → IsFull ws → k / 64 < length ws → bit_of ws k ≡ 1
 full_bit ws k full within =
     let low : k % 64 < 64 = omega arith in
     ap (λ x. bit_at x (k % 64)) (All-get_or (λ w. w ≡ 18446744073709551615) ws (k / 64) 0 within full) ∙ bit_at_ones 64 (k % 64) low
+
+pub full_noted : (marks words : List ℕ) → ((k : ℕ) → k < length marks → k / 64 < length words) → IsFull words → AreNoted marks words
+full_noted marks words reach full = record { reach = reach; busy = λ k h. busy k h (nat_lt (k / 64) (length marks)) refl }
+  where
+    busy : (k : ℕ) → bit_of marks k ≡ 1 → (b : Bool) → nat_lt (k / 64) (length marks) ≡ b → bit_of words (k / 64) ≡ 1
+    busy k h true e = full_bit words (k / 64) full (reach (k / 64) (grind (arith, e)))
+    busy k h false e =
+        let beyond : length marks ≤ k / 64 = grind (arith, e) in
+        let p : bit_of marks k ≡ 0 = ap (λ x. bit_at x (k % 64)) (get_or_past marks (k / 64) 0 beyond) ∙ bit_at-zero (k % 64) in
+        absurd (no_one (bit_of marks k) p h)
+
+pub noted_still : (marks marks' words words' : List ℕ) → length marks' ≡ length marks → length words' ≡ length words → IsBusy marks' words' → AreNoted marks words → AreNoted marks' words'
+noted_still marks marks' words words' same len busy was = record { reach = λ k h. subst (λ n. k / 64 < n) (sym len) (was.reach k (subst (λ n. k < n) same h)); busy = busy }
+
+-- ---- what is found
 
 module _ (marks words : List ℕ) (start zeros next result : ℕ) (busy : IsBusy marks words) where
   -- in the word of the start, in those behind it, and in the next one
@@ -157,130 +169,3 @@ module _ (marks words : List ℕ) (start zeros next result : ℕ) (busy : IsBusy
       go false e false f =
           let there : next ≤ k / 64 = grind (arith, f) in
           last k (omega (arith, there, to, bound)) to
-
--- ---- the bounds of places
-
-module _ (places times : List ℤ) (marks words : List ℕ) (was : IsMarked places times marks words) where
-  -- before what is not marked
-  pub none_asked : (start stop : ℕ) (now : ℤ) → stop ≤ length places → ((k : ℕ) → start ≤ k → k < stop → bit_of marks k ≡ 0) → ((k : ℕ) → start ≤ k → k < stop → now <ℤ bound_at times k) → (k : ℕ) → start ≤ k → k < stop → now <ℤ bound_at places k
-  none_asked start stop now within unmarked after k from to = go (int_le (bound_at places k) at_once) refl
-    where
-      there : k < length places
-      there = omega (arith, to, within)
-
-      go : (b : Bool) → int_le (bound_at places k) at_once ≡ b → now <ℤ bound_at places k
-      go true e =
-          let low : bound_at places k ≤ℤ at_once = grind (arith, ints, e) in
-          absurd (no_one (bit_of marks k) (unmarked k from to) (was.marked k there low))
-      go false e =
-          let high : at_once <ℤ bound_at places k = grind (arith, ints, e) in
-          let p : bound_at times k ≤ℤ bound_at places k = was.timed k there high in
-          let q : now <ℤ bound_at times k = after k from to in
-          grind (arith, ints, p, q)
-
-module _ (places times : List ℤ) (marks words marks' words' : List ℕ) (place : ℕ) (there : place < length places) (was : IsMarked places times marks words) where
-  set_here : (m : ℤ) (k : ℕ) → k ≡ place → bound_at (slice_set places place m) k ≡ m
-  set_here m k e = ap (λ n. bound_at (slice_set places place m) n) e ∙ get_or-set_same places place m at_once there
-
-  reached : (ms ns : List ℕ) → length ns ≡ length ms → ((k : ℕ) → k < length places → k / 64 < length ms) → (m : ℤ) → (k : ℕ) → k < length (slice_set places place m) → k / 64 < length ns
-  reached ms ns same h m k within = subst (λ n. k / 64 < n) (sym same) (h k (subst (λ n. k < n) (length-set places place m) within))
-
-  pub marked_now : Sets place marks marks' → length words' ≡ length words → IsBusy marks' words' → IsMarked (slice_set places place at_once) times marks' words'
-  marked_now set len busy = record {
-    as_many = was.as_many ∙ sym (length-set places place at_once);
-    marks_reach = reached marks marks' set.len was.marks_reach at_once;
-    words_reach = λ k h. subst (λ n. k / 64 < n) (sym len) (was.words_reach k (subst (λ n. k < n) set.len h));
-    busy = busy;
-    floor = λ k. floor k (nat_eq k place) refl;
-    marked = λ k h low. marked k (subst (λ n. k < n) (length-set places place at_once) h) low (nat_eq k place) refl;
-    timed = λ k h high. timed k (subst (λ n. k < n) (length-set places place at_once) h) high (nat_eq k place) refl;
-  }
-    where
-      floor : (k : ℕ) (b : Bool) → nat_eq k place ≡ b → at_once ≤ℤ bound_at (slice_set places place at_once) k
-      floor k true e =
-          let p : bound_at (slice_set places place at_once) k ≡ at_once = set_here at_once k (grind (arith, e)) in
-          grind (arith, ints, p)
-      floor k false e = subst (λ z. at_once ≤ℤ z) (sym (set_elsewhere places k place at_once e)) (was.floor k)
-
-      marked : (k : ℕ) → k < length places → bound_at (slice_set places place at_once) k ≤ℤ at_once → (b : Bool) → nat_eq k place ≡ b → bit_of marks' k ≡ 1
-      marked k h low true e =
-          let same : k ≡ place = grind (arith, e) in
-          ap (bit_of marks') same ∙ set.here
-      marked k h low false e = set.others k e ∙ was.marked k h (subst (λ z. z ≤ℤ at_once) (set_elsewhere places k place at_once e) low)
-
-      timed : (k : ℕ) → k < length places → at_once <ℤ bound_at (slice_set places place at_once) k → (b : Bool) → nat_eq k place ≡ b → bound_at times k ≤ℤ bound_at (slice_set places place at_once) k
-      timed k h high true e =
-          let p : bound_at (slice_set places place at_once) k ≡ at_once = set_here at_once k (grind (arith, e)) in
-          absurd (grind (arith, ints, p, high))
-      timed k h high false e = subst (λ z. bound_at times k ≤ℤ z) (sym (set_elsewhere places k place at_once e)) (was.timed k h (subst (λ z. at_once <ℤ z) (set_elsewhere places k place at_once e) high))
-
-  pub timed_now : (m : ℤ) → at_once <ℤ m → Clears place marks marks' → length words' ≡ length words → IsBusy marks' words' → IsMarked (slice_set places place m) (slice_set times place m) marks' words'
-  timed_now m later clears len busy = record {
-    as_many = length-set times place m ∙ was.as_many ∙ sym (length-set places place m);
-    marks_reach = reached marks marks' clears.len was.marks_reach m;
-    words_reach = λ k h. subst (λ n. k / 64 < n) (sym len) (was.words_reach k (subst (λ n. k < n) clears.len h));
-    busy = busy;
-    floor = λ k. floor k (nat_eq k place) refl;
-    marked = λ k h low. marked k (subst (λ n. k < n) (length-set places place m) h) low (nat_eq k place) refl;
-    timed = λ k h high. timed k (subst (λ n. k < n) (length-set places place m) h) high (nat_eq k place) refl;
-  }
-    where
-      floor : (k : ℕ) (b : Bool) → nat_eq k place ≡ b → at_once ≤ℤ bound_at (slice_set places place m) k
-      floor k true e =
-          let p : bound_at (slice_set places place m) k ≡ m = set_here m k (grind (arith, e)) in
-          grind (arith, ints, p, later)
-      floor k false e = subst (λ z. at_once ≤ℤ z) (sym (set_elsewhere places k place m e)) (was.floor k)
-
-      marked : (k : ℕ) → k < length places → bound_at (slice_set places place m) k ≤ℤ at_once → (b : Bool) → nat_eq k place ≡ b → bit_of marks' k ≡ 1
-      marked k h low true e =
-          let p : bound_at (slice_set places place m) k ≡ m = set_here m k (grind (arith, e)) in
-          absurd (grind (arith, ints, p, later, low))
-      marked k h low false e = clears.others k e ∙ was.marked k h (subst (λ z. z ≤ℤ at_once) (set_elsewhere places k place m e) low)
-
-      timed : (k : ℕ) → k < length places → at_once <ℤ bound_at (slice_set places place m) k → (b : Bool) → nat_eq k place ≡ b → bound_at (slice_set times place m) k ≤ℤ bound_at (slice_set places place m) k
-      timed k h high true e =
-          let same : k ≡ place = grind (arith, e) in
-          let among : place < length times = subst (λ n. place < n) (sym was.as_many) there in
-          let p : bound_at (slice_set places place m) k ≡ m = set_here m k same in
-          let q : bound_at (slice_set times place m) k ≡ m = ap (λ n. bound_at (slice_set times place m) n) same ∙ get_or-set_same times place m at_once among in
-          grind (arith, ints, p, q)
-      timed k h high false e =
-          let p : bound_at (slice_set places place m) k ≡ bound_at places k = set_elsewhere places k place m e in
-          let q : bound_at (slice_set times place m) k ≡ bound_at times k = set_elsewhere times k place m e in
-          let r : bound_at times k ≤ℤ bound_at places k = was.timed k h (subst (λ z. at_once <ℤ z) p high) in
-          grind (arith, ints, p, q, r)
-
-pub all_marked : (places times : List ℤ) (marks words : List ℕ) → length times ≡ length places → ((k : ℕ) → k < length places → k / 64 < length marks) → ((k : ℕ) → k < length marks → k / 64 < length words) → All (λ b. b ≡ at_once) places → IsFull marks → IsFull words → IsMarked places times marks words
-all_marked places times marks words as_many marks_reach words_reach least full full_words = record {
-  as_many = as_many;
-  marks_reach = marks_reach;
-  words_reach = words_reach;
-  busy = λ k h. busy k h (nat_lt (k / 64) (length marks)) refl;
-  floor = λ k. floor k (nat_lt k (length places)) refl;
-  marked = λ k h low. full_bit marks k full (marks_reach k h);
-  timed = λ k h high. absurd (low k h high);
-}
-  where
-    is : (k : ℕ) → k < length places → bound_at places k ≡ at_once
-    is k h = All-get_or (λ b. b ≡ at_once) places k at_once h least
-
-    low : (k : ℕ) → k < length places → at_once <ℤ bound_at places k → ⊥
-    low k h high =
-        let p : bound_at places k ≡ at_once = is k h in
-        absurd (grind (arith, ints, p, high))
-
-    floor : (k : ℕ) (b : Bool) → nat_lt k (length places) ≡ b → at_once ≤ℤ bound_at places k
-    floor k true e =
-        let p : bound_at places k ≡ at_once = is k (grind (arith, e)) in
-        grind (arith, ints, p)
-    floor k false e =
-        let beyond : length places ≤ k = grind (arith, e) in
-        let p : bound_at places k ≡ at_once = get_or_past places k at_once beyond in
-        grind (arith, ints, p)
-
-    busy : (k : ℕ) → bit_of marks k ≡ 1 → (b : Bool) → nat_lt (k / 64) (length marks) ≡ b → bit_of words (k / 64) ≡ 1
-    busy k h true e = full_bit words (k / 64) full_words (words_reach (k / 64) (grind (arith, e)))
-    busy k h false e =
-        let beyond : length marks ≤ k / 64 = grind (arith, e) in
-        let p : bit_of marks k ≡ 0 = ap (λ x. bit_at x (k % 64)) (get_or_past marks (k / 64) 0 beyond) ∙ bit_at-zero (k % 64) in
-        absurd (no_one (bit_of marks k) p h)

@@ -1,5 +1,6 @@
 -- Marks of places, as bits in words of 64.
-use Rattle.std.specs.Prelude.{ℕ, ℤ, ◌≡◌, ◌/◌, ◌%◌, ◌<◌, ◌≤ℤ◌, ◌<ℤ◌, nat_eq, false, List, length, get_or}
+use Rattle.std.specs.Prelude.{ℕ, ℤ, ◌≡◌, ◌/◌, ◌%◌, ◌<◌, ◌≤ℤ◌, nat_eq, suc, false, List, [], ◌∷◌, length, get_or}
+use Rattle.std.specs.Prelude.{if◌then◌else◌}
 use Rattle.std.specs.Int.{bit_at}
 use Rattle.std.specs.List.{All}
 use Rattle.host_bounds.specs.Bounding.{at_once, bound_at}
@@ -22,16 +23,24 @@ pub record Clears (place : ℕ) (ws us : List ℕ) : Type 0 where
 abbrev pub IsFull : List ℕ → Type 0
 IsFull ws = All (λ w. w ≡ 18446744073709551615) ws
 
+-- each bit that there is is a one
+abbrev pub AllMarked : List ℕ → Type 0
+AllMarked ws = (k : ℕ) → k / 64 < length ws → bit_of ws k ≡ 1
+
 -- each word with a one has a one among the words
 abbrev pub IsBusy : List ℕ → List ℕ → Type 0
 IsBusy marks words = (k : ℕ) → bit_of marks k ≡ 1 → bit_of words (k / 64) ≡ 1
 
--- a place that is to be asked at once is marked, and of the others the times are no later than their bounds
-pub record IsMarked (places times : List ℤ) (marks words : List ℕ) : Type 0 where
-  pub as_many : length times ≡ length places
-  pub marks_reach : (k : ℕ) → k < length places → k / 64 < length marks
-  pub words_reach : (k : ℕ) → k < length marks → k / 64 < length words
+pub record AreNoted (marks words : List ℕ) : Type 0 where
+  pub reach : (k : ℕ) → k < length marks → k / 64 < length words
   pub busy : IsBusy marks words
-  pub floor : (k : ℕ) → at_once ≤ℤ bound_at places k
-  pub marked : (k : ℕ) → k < length places → bound_at places k ≤ℤ at_once → bit_of marks k ≡ 1
-  pub timed : (k : ℕ) → k < length places → at_once <ℤ bound_at places k → bound_at times k ≤ℤ bound_at places k
+
+-- ---- bounds: a place that is marked is to be asked at once, another one at its time
+
+unfoldable pub merged : ℕ → List ℕ → List ℤ → List ℤ
+merged i ws [] = []
+merged i ws (t ∷ ts) = (if nat_eq (bit_of ws i) 1 then at_once else t) ∷ merged (suc i) ws ts
+
+pub record AreBounds (marks : List ℕ) (times : List ℤ) : Type 0 where
+  pub reach : (k : ℕ) → k < length times → k / 64 < length marks
+  pub floor : (k : ℕ) → at_once ≤ℤ bound_at times k

@@ -3,8 +3,7 @@ ghost use Rattle.std.specs.Prelude.{ℕ, ◌≡◌, ◌≤◌, ◌<◌, ◌<ℤ�
 ghost use Rattle.std.specs.List.{All};
 ghost use Rattle.host_bounds.specs.Bounding.{FindsReached, IsBelowAll, at_once, bound_at};
 
-use crate::levels::{first_between, least_bounds, lower_all};
-use crate::marks::{all_ones, first_in, put_on, set_all, take_off};
+use crate::marks::Marks;
 use crate::times::Times;
 use std::alloc::{AllocError, Global};
 use std::marker::Model;
@@ -13,37 +12,31 @@ use std::marker::Model;
 /// asked at once, `i64::MAX` where never.
 #[derive(Drop)]
 pub struct Bounds {
-    places: Vec<i64>,
-    // a bit for each place, set where it is to be asked at once
-    marks: Vec<u64>,
-    // a bit for each word of these, set where it is not 0
-    words: Vec<u64>,
+    // each place that is to be asked at once is marked
+    marks: Marks,
     // of each place what its bound was last, when it was not the least
     times: Times,
 }
 
 impl Model for Bounds {
     ghost use Rattle.std.specs.Prelude.{ℤ, List};
-    ghost use Rattle.host_bounds.specs.Marking.{IsMarked};
+    ghost use Rattle.host_bounds.specs.Marking.{AreBounds, merged};
 
     ghost Value = { List ℤ };
 
-    ghost view = { λ b. b.places.items };
+    ghost view = { λ b. merged 0 b.marks b.times };
 
-    ghost invariant = { λ b. IsMarked b.places.items b.times b.marks.items b.words.items };
+    ghost invariant = { λ b. AreBounds b.marks b.times };
 }
 
 impl Bounds {
-    /// Bounds of so many places, each of which is to be asked at once. They take 16.4 bytes a place.
+    /// Bounds of so many places, each of which is to be asked at once. They take 8.4 bytes a place.
     pub fn new(alloc: Global, count: usize) -> Result<Bounds, AllocError>
         ensures len { IfOk result (λ b. length b ≡ count) }
         ensures least { IfOk result (λ b. All (λ m. m ≡ at_once) b) }
     {
-        let words = count / 64 + 1;
         Ok(Bounds {
-            places: least_bounds(alloc, count)?,
-            marks: all_ones(alloc, words)?,
-            words: all_ones(alloc, words / 64 + 1)?,
+            marks: Marks::new(alloc, count)?,
             times: Times::new(alloc, count)?,
         })
     }
@@ -52,14 +45,14 @@ impl Bounds {
     pub fn len(&self) -> usize
         ensures { result ≡ length self.now }
     {
-        self.places.len()
+        self.times.len()
     }
 
     /// Sets the bound of a place; of none where it is not there.
     pub fn set(&mut self, place: usize, bound: i64)
         ensures { self.new ≡ slice_set self.old place bound }
     {
-        if place < self.places.len() && self.get(place) != bound {
+        if place < self.len() && self.get(place) != bound {
             if bound == i64::MIN {
                 self.mark(place);
             } else {
@@ -72,8 +65,7 @@ impl Bounds {
         requires { place < length self.old }
         ensures { self.new ≡ slice_set self.old place at_once }
     {
-        self.places[place] = i64::MIN;
-        put_on(&mut self.marks, &mut self.words, place);
+        self.marks.put_on(place);
     }
 
     fn time(&mut self, place: usize, bound: i64)
@@ -81,8 +73,7 @@ impl Bounds {
         requires later { at_once <ℤ bound }
         ensures { self.new ≡ slice_set self.old place bound }
     {
-        self.places[place] = bound;
-        take_off(&mut self.marks, &mut self.words, place);
+        self.marks.take_off(place);
         self.times.set(place, bound);
     }
 
@@ -91,19 +82,17 @@ impl Bounds {
         ensures len { length self.new ≡ length self.old }
         ensures least { All (λ m. m ≡ at_once) self.new }
     {
-        lower_all(&mut self.places);
-        set_all(&mut self.marks);
-        set_all(&mut self.words);
+        self.marks.reset();
     }
 
     /// The bound of a place; the least where it is not there.
     pub fn get(&self, place: usize) -> i64
         ensures { result ≡ bound_at self.now place }
     {
-        match self.places.get(place) {
-            Some(bound) => *bound,
-            None => i64::MIN,
+        if self.marks.is_on(place) {
+            return i64::MIN;
         }
+        self.times.get(place)
     }
 
     /// Whether no place wants to be asked by now, as the highest bounds tell; they may not tell it.
@@ -119,7 +108,7 @@ impl Bounds {
         ensures within { result ≤ end }
         ensures before { (k : ℕ) → start ≤ k → k < result → now <ℤ bound_at self.now k }
     {
-        let near = first_in(&self.marks, &self.words, start).min(end);
+        let near = self.marks.next(start).min(end);
         if now < self.times.least() {
             return near;
         }
@@ -138,14 +127,26 @@ impl Bounds {
         if end <= first {
             return None;
         }
-        first_between(&self.places, first, end, now)
+        self.first_between(first, end, now)
+    }
+
+    fn first_between(&self, start: usize, end: usize, now: i64) -> Option<usize>
+        requires { end ≤ length self.now }
+        ensures { FindsReached self.now start end now result }
+    {
+        for place in start..end {
+            if self.get(place) <= now {
+                return Some(place);
+            }
+        }
+        None
     }
 
     /// A moment before which no place need be asked.
     pub fn least(&self) -> i64
         ensures { IsBelowAll result self.now }
     {
-        if first_in(&self.marks, &self.words, 0) < self.places.len() {
+        if self.marks.next(0) < self.len() {
             return i64::MIN;
         }
         self.times.least()

@@ -20,14 +20,6 @@ pub(crate) fn least_bounds(alloc: Global, count: usize) -> Result<Vec<i64>, Allo
     Ok(bounds)
 }
 
-/// All are the least now.
-pub(crate) fn lower_all(bounds: &mut Vec<i64>)
-    ensures len { length bounds.new.items ≡ length bounds.old.items }
-    ensures least { All (λ b. b ≡ at_once) bounds.new.items }
-{
-    bounds.fill(i64::MIN);
-}
-
 /// The least of these bounds.
 pub(crate) fn least_between(bounds: &[i64], start: usize, end: usize) -> i64
     requires order { start ≤ end }

@@ -7,3 +7,4 @@ pub mod marks;
 pub mod times;
 
 pub use bounds::Bounds;
+pub use marks::Marks;

@@ -1,15 +1,93 @@
 //! Bits of many places, in words of 64, and of each word whether it is not 0.
-ghost use Rattle.std.specs.Prelude.{ℕ, ◌≡◌, ◌+◌, ◌*◌, ◌<◌, ◌≤◌, ◌/◌, IfOk, length, true};
+ghost use Rattle.std.specs.Prelude.{ℕ, ◌≡◌, ◌+◌, ◌*◌, ◌<◌, ◌≤◌, ◌/◌, IfOk, length, nat_eq, true};
 ghost use Rattle.std.specs.Int.{bit_at};
-ghost use Rattle.host_bounds.specs.Marking.{Clears, IsBusy, IsFull, Sets, bit_of};
+ghost use Rattle.host_bounds.specs.Marking.{AllMarked, Clears, IsBusy, IsFull, Sets, bit_of};
 
 use std::alloc::{AllocError, Global};
+use std::marker::Model;
 
 // How many bits a word has.
 const BITS: usize = 64;
 
-/// So many words of ones.
-pub(crate) fn all_ones(alloc: Global, count: usize) -> Result<Vec<u64>, AllocError>
+/// Marks of many places, the first of which is found without a look at each.
+#[derive(Drop)]
+pub struct Marks {
+    // a bit for each place
+    places: Vec<u64>,
+    // a bit for each word of these, set where it is not 0
+    words: Vec<u64>,
+}
+
+impl Model for Marks {
+    ghost use Rattle.std.specs.Prelude.{ℕ, List};
+    ghost use Rattle.host_bounds.specs.Marking.{AreNoted};
+
+    ghost Value = { List ℕ };
+
+    ghost view = { λ m. m.places.items };
+
+    ghost invariant = { λ m. AreNoted m.places.items m.words.items };
+}
+
+impl Marks {
+    /// Marks of so many places, each of which is marked. They take 1/8 byte a place.
+    pub fn new(alloc: Global, count: usize) -> Result<Marks, AllocError>
+        ensures room { IfOk result (λ m. count / 64 < length m) }
+        ensures marked { IfOk result (λ m. AllMarked m) }
+    {
+        let words = count / BITS + 1;
+        Ok(Marks {
+            places: all_ones(alloc, words)?,
+            words: all_ones(alloc, words / BITS + 1)?,
+        })
+    }
+
+    /// This place is marked.
+    pub fn put_on(&mut self, place: usize)
+        requires { place / 64 < length self.old }
+        ensures { Sets place self.old self.new }
+    {
+        put_on(&mut self.places, &mut self.words, place);
+    }
+
+    /// This place is not marked any more.
+    pub fn take_off(&mut self, place: usize)
+        requires { place / 64 < length self.old }
+        ensures { Clears place self.old self.new }
+    {
+        take_off(&mut self.places, &mut self.words, place);
+    }
+
+    /// Each place is marked.
+    pub fn reset(&mut self)
+        ensures len { length self.new ≡ length self.old }
+        ensures marked { AllMarked self.new }
+    {
+        set_all(&mut self.places);
+        set_all(&mut self.words);
+    }
+
+    /// Whether this place is marked; none is that is not there.
+    pub fn is_on(&self, place: usize) -> bool
+        ensures { result ≡ nat_eq (bit_of self.now place) 1 }
+    {
+        match self.places.get(place / BITS) {
+            Some(word) => (*word >> (place % BITS)) % 2 == 1,
+            None => false,
+        }
+    }
+
+    /// The next place that is marked, from one on, or one before which none is.
+    pub fn next(&self, start: usize) -> usize
+        ensures behind { start ≤ result }
+        ensures before { (k : ℕ) → start ≤ k → k < result → bit_of self.now k ≡ 0 }
+    {
+        first_in(&self.places, &self.words, start).max(start)
+    }
+}
+
+// So many words of ones.
+fn all_ones(alloc: Global, count: usize) -> Result<Vec<u64>, AllocError>
     ensures len { IfOk result (λ v. length v.items ≡ count) }
     ensures ones { IfOk result (λ v. IsFull v.items) }
 {
@@ -18,8 +96,8 @@ pub(crate) fn all_ones(alloc: Global, count: usize) -> Result<Vec<u64>, AllocErr
     Ok(words)
 }
 
-/// All bits are ones now.
-pub(crate) fn set_all(words: &mut Vec<u64>)
+// All bits are ones now.
+fn set_all(words: &mut Vec<u64>)
     ensures len { length words.new.items ≡ length words.old.items }
     ensures ones { IsFull words.new.items }
 {
@@ -46,8 +124,7 @@ fn clear_bit(words: &mut Vec<u64>, place: usize) -> bool
     words[word] == 0
 }
 
-/// This place is marked.
-pub(crate) fn put_on(marks: &mut Vec<u64>, words: &mut Vec<u64>, place: usize)
+fn put_on(marks: &mut Vec<u64>, words: &mut Vec<u64>, place: usize)
     requires within { place / 64 < length marks.old.items }
     requires above { place / 64 / 64 < length words.old.items }
     requires busy { IsBusy marks.old.items words.old.items }
@@ -59,8 +136,7 @@ pub(crate) fn put_on(marks: &mut Vec<u64>, words: &mut Vec<u64>, place: usize)
     set_bit(words, place / BITS);
 }
 
-/// This place is not marked any more.
-pub(crate) fn take_off(marks: &mut Vec<u64>, words: &mut Vec<u64>, place: usize)
+fn take_off(marks: &mut Vec<u64>, words: &mut Vec<u64>, place: usize)
     requires within { place / 64 < length marks.old.items }
     requires above { place / 64 / 64 < length words.old.items }
     requires busy { IsBusy marks.old.items words.old.items }
@@ -114,8 +190,8 @@ fn first_of(marks: &[u64], word: usize) -> usize
     }
 }
 
-/// A place before which none is marked, from one on.
-pub(crate) fn first_in(marks: &[u64], words: &[u64], start: usize) -> usize
+// A place before which none is marked, from one on.
+fn first_in(marks: &[u64], words: &[u64], start: usize) -> usize
     requires { IsBusy marks.now words.now }
     ensures { (k : ℕ) → start ≤ k → k < result → bit_of marks.now k ≡ 0 }
 {

@@ -45,6 +45,13 @@ impl Times {
         })
     }
 
+    /// How many places there are.
+    pub(crate) fn len(&self) -> usize
+        ensures { result ≡ length self.now }
+    {
+        self.places.len()
+    }
+
     /// Sets the bound of a place; of none where it is not there.
     pub(crate) fn set(&mut self, place: usize, bound: i64)
         ensures { self.new ≡ slice_set self.old place bound }
@@ -65,7 +72,8 @@ impl Times {
         self.top = least_between(&self.groups, 0, self.groups.len());
     }
 
-    fn get(&self, place: usize) -> i64
+    /// The bound of a place; the least where it is not there.
+    pub(crate) fn get(&self, place: usize) -> i64
         ensures { result ≡ bound_at self.now place }
     {
         match self.places.get(place) {

@@ -1,6 +1,13 @@
-use Rattle.std.proofs.Common.{◌<◌, length, subst, sym}
-use Rattle.host_bounds.proofs.Bits.{marked_now}
+use Rattle.std.proofs.Common.{◌∙◌, ap}
+use Rattle.std.specs.Prelude.{slice_set}
+use Rattle.host_bounds.specs.Bounding.{at_once}
+use Rattle.host_bounds.proofs.Merged.{now_marked, within_times}
 use Rattle.host_bounds.proofs.bounds.Bounds.mark.Goals as goal
 
-pub invariant_of-self : goal.invariant_of-self
-invariant_of-self c = marked_now c.self.inside.places.items c.self.inside.times c.self.inside.marks.items c.self.inside.words.items c.put_on.new.marks.items c.put_on.new.words.items c.args.place (subst (λ xs. c.args.place < length xs) (sym c.self.view_is) c.requires) c.self.invariant c.put_on.ensures.set c.put_on.ensures.len c.put_on.ensures.busy
+pub put_on-requires : goal.put_on-requires
+put_on-requires c = c.self.invariant.reach c.args.place (within_times c.self.inside.marks c.self.inside.times c.args.self.now c.args.place c.self.view_is c.requires)
+
+pub returns : goal.returns
+returns c =
+    now_marked c.self.inside.marks c.put_on.new.self c.self.inside.times c.args.place (within_times c.self.inside.marks c.self.inside.times c.args.self.now c.args.place c.self.view_is c.requires) c.put_on.ensures
+    ∙ ap (λ l. slice_set l c.args.place at_once) c.self.view_is

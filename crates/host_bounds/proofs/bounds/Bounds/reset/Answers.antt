@@ -1,10 +1,11 @@
-use Rattle.std.proofs.Common.{rules, ℕ, ◌≡◌, ◌/◌, ◌<◌, length}
-use Rattle.host_bounds.proofs.Bits.{all_marked}
+use Rattle.std.proofs.Common.{rules, ◌∙◌, ◌/◌, ◌<◌, ℕ, length, ap, sym}
+use Rattle.host_bounds.proofs.Merged.{all_at_once, merged_len}
 use Rattle.host_bounds.proofs.bounds.Bounds.reset.Goals as goal
 
-pub invariant_of-self : goal.invariant_of-self
-invariant_of-self c =
-    let as_many : length c.self.inside.times ≡ length c.lower_all.new.bounds.items = search rules in
-    let marks : (k : ℕ) → k < length c.lower_all.new.bounds.items → k / 64 < length c.set_all.new.words.items = search rules in
-    let words : (k : ℕ) → k < length c.set_all.new.words.items → k / 64 < length c.set_all-2.new.words.items = search rules in
-    all_marked c.lower_all.new.bounds.items c.self.inside.times c.set_all.new.words.items c.set_all-2.new.words.items as_many marks words c.lower_all.ensures.least c.set_all.ensures.ones c.set_all-2.ensures.ones
+pub returns-clause-len : goal.returns-clause-len
+returns-clause-len c = merged_len 0 c.reset.new.self c.self.inside.times ∙ sym (merged_len 0 c.self.inside.marks c.self.inside.times) ∙ ap length c.self.view_is
+
+pub returns-clause-least : goal.returns-clause-least
+returns-clause-least c =
+    let reach : (k : ℕ) → k < length c.self.inside.times → k / 64 < length c.reset.new.self = search rules in
+    all_at_once c.reset.new.self c.self.inside.times c.reset.ensures.marked reach
