@@ -1,0 +1,102 @@
+-- Entries in order, with one more or one fewer.
+use Rattle.std.proofs.Common.{◌≡◌, ◌∙◌, ℕ, ◌+◌, ◌-◌, ◌<◌, ◌≤◌, List, [], ◌∷◌, length, get_or, Bool, true, false, nat_lt, nat_eq, suc, zero, refl, sym, subst, ap, arith}
+use Rattle.std.specs.Prelude.{◌||◌, if◌then◌else◌}
+use Rattle.std.specs.List.{insert, remove}
+use Rattle.std.proofs.lemmas.List.{get_or_default}
+use Rattle.std.proofs.lemmas.List.Edits.{get_or-insert_above, get_or-insert_at, get_or-insert_below, get_or-remove_above, get_or-remove_below, length-insert, length-remove}
+use Rattle.host_index.specs.declared.entry.Entry.{Entry}
+use Rattle.host_index.specs.Entries.{Keeps, KeepsBut, Splits, has, is_entry, nothing, rank}
+
+pub same_entry : (a b : Entry) → is_entry a b ≡ true → a ≡ b
+same_entry a b h = grind (arith, h)
+
+pub entry_itself : (a : Entry) → is_entry a a ≡ true
+entry_itself a = grind arith
+
+-- a place with an entry
+pub record IsIn (es : List Entry) (x : Entry) : Type 0 where
+  pub place : ℕ
+  pub within : place < length es
+  pub is : get_or es place nothing ≡ x
+
+onward : (e : Entry) (es : List Entry) (x : Entry) → IsIn es x → IsIn (e ∷ es) x
+onward e es x h = record { place = suc h.place; within = omega (arith, h.within); is = h.is }
+
+false_not_true : false ≡ true → ⊥
+false_not_true h = cc
+
+pub find_in : (es : List Entry) (x : Entry) → has es x ≡ true → IsIn es x
+unfolding has
+find_in [] x h = absurd (false_not_true h)
+find_in (e ∷ es) x h = go (is_entry e x) refl h (find_in es x)
+  where
+    go : (b : Bool) → is_entry e x ≡ b → (b || has es x) ≡ true → (has es x ≡ true → IsIn es x) → IsIn (e ∷ es) x
+    go true is h rest = record { place = 0; within = omega arith; is = same_entry e x is }
+    go false is h rest = onward e es x (rest h)
+
+pub has_in : (es : List Entry) (x : Entry) (k : ℕ) → k < length es → get_or es k nothing ≡ x → has es x ≡ true
+unfolding has
+has_in [] x k within is = absurd (omega (arith, within))
+has_in (e ∷ es) x zero within is = ap (λ b. b || has es x) (subst (λ y. is_entry e y ≡ true) is (entry_itself e))
+has_in (e ∷ es) x (suc k) within is = go (is_entry e x) (has_in es x k (omega (arith, within)) is)
+  where
+    go : (b : Bool) → has es x ≡ true → (b || has es x) ≡ true
+    go true h = refl
+    go false h = h
+
+-- ---- one more
+
+module _ (es : List Entry) (e : Entry) (p : ℕ) (s : Splits es (rank e) p) where
+  pub inserted : has (insert es p e) e ≡ true
+  inserted = has_in (insert es p e) e p (let q = length-insert es p e s.within in omega (arith, q, s.within)) (get_or-insert_at es p e nothing s.within)
+
+  pub insert_keeps : Keeps es (insert es p e)
+  insert_keeps x h = go (find_in es x h)
+    where
+      go : IsIn es x → has (insert es p e) x ≡ true
+      go i = by (nat_lt i.place p) refl
+        where
+          len : length (insert es p e) ≡ length es + 1
+          len = length-insert es p e s.within
+
+          by : (b : Bool) → nat_lt i.place p ≡ b → has (insert es p e) x ≡ true
+          by true q = has_in (insert es p e) x i.place (let w = i.within in omega (arith, len, w)) (get_or-insert_below es p e nothing i.place (grind (arith, q)) s.within ∙ i.is)
+          by false q = has_in (insert es p e) x (i.place + 1) (let w = i.within in omega (arith, len, w)) (get_or-insert_above es p e nothing i.place (grind (arith, q)) s.within ∙ i.is)
+
+-- ---- one fewer
+
+module _ (es : List Entry) (e x : Entry) (p : ℕ) (within : p < length es) (is : x ≡ get_or es p x) (same : is_entry x e ≡ true) where
+  here_is : get_or es p nothing ≡ e
+  here_is = get_or_default es p nothing x within ∙ sym is ∙ same_entry x e same
+
+  len_fewer : length (remove es p) + 1 ≡ length es
+  len_fewer = length-remove es p within
+
+  pub remove_keeps : KeepsBut e es (remove es p)
+  remove_keeps y other h = go (find_in es y h)
+    where
+      go : IsIn es y → has (remove es p) y ≡ true
+      go i = by (nat_lt i.place p) refl (nat_eq i.place p) refl
+        where
+          by : (b : Bool) → nat_lt i.place p ≡ b → (c : Bool) → nat_eq i.place p ≡ c → has (remove es p) y ≡ true
+          by true q c r = has_in (remove es p) y i.place (let f : i.place < p = grind (arith, q) in omega (arith, len_fewer, within, f)) (get_or-remove_below es p nothing i.place (grind (arith, q)) within ∙ i.is)
+          by false q true r =
+              let k : i.place ≡ p = grind (arith, r) in
+              let z : e ≡ y = sym here_is ∙ sym (ap (λ j. get_or es j nothing) k) ∙ i.is in
+              let no : true ≡ false = sym (subst (λ w. is_entry e w ≡ true) z (entry_itself e)) ∙ other in cc
+          by false q false r =
+              let f : p < i.place = grind (arith, q, r) in
+              let w = i.within in
+              let k : (i.place - 1) + 1 ≡ i.place = omega (arith, f) in
+              has_in (remove es p) y (i.place - 1) (omega (arith, len_fewer, w, f)) (get_or-remove_above es p nothing (i.place - 1) (omega (arith, f)) within ∙ ap (λ j. get_or es j nothing) k ∙ i.is)
+
+-- ---- as the calls say it
+
+module _ (es fs : List Entry) (e : Entry) (p : ℕ) (s : Splits es (rank e) p) where
+  pub put_adds : (b : Bool) → fs ≡ (if b then insert es p e else es) → b ≡ true → has fs e ≡ true
+  put_adds true is h = subst (λ l. has l e ≡ true) (sym is) (inserted es e p s)
+  put_adds false is h = cc
+
+  pub put_keeps : (b : Bool) → fs ≡ (if b then insert es p e else es) → Keeps es fs
+  put_keeps true is = subst (Keeps es) (sym is) (insert_keeps es e p s)
+  put_keeps false is = subst (Keeps es) (sym is) (λ x h. h)

@@ -1,0 +1,308 @@
+-- The entries of numbers in order.
+use Rattle.std.proofs.Common.{◌≡◌, ◌∙◌, ℕ, ◌+◌, ◌-◌, ◌<◌, ◌≤◌, List, [], ◌∷◌, ◌++◌, take, drop, length, get_or, Bool, true, false, nat_lt, nat_eq, suc, zero, refl, sym, subst, ap, arith}
+use Rattle.std.specs.Prelude.{if◌then◌else◌}
+use Rattle.std.specs.List.{insert, remove}
+use mathlib.Core.List.{map}
+use Rattle.std.proofs.lemmas.List.{get_or-map, length-map, map-append, take-map, drop-map}
+use Rattle.host_index.specs.declared.columns.Columns.{Columns}
+use Rattle.host_index.specs.declared.entry.Entry.{Entry}
+use Rattle.std.proofs.lemmas.List.Edits.{get_or-insert_above, get_or-insert_at, get_or-insert_below, get_or-remove_above, get_or-remove_below, length-insert, length-remove}
+use Rattle.host_index.specs.Columns.{Frees, Puts, entry_in, is_free}
+use Rattle.host_index.specs.Entries.{IsSortedByRank, Splits, nothing, rank, rank_at}
+use Rattle.host_index.specs.Indexing.{IsIndex, IsOrdered, entries_in, number_at}
+
+pub entry_of : (c : Columns) (os : List ℕ) (k : ℕ) → k < length os → get_or (entries_in c os) k nothing ≡ entry_in c (number_at os k)
+entry_of c os k within = get_or-map (λ n. entry_in c n) os k 0 nothing within
+
+pub rank_of : (c : Columns) (os : List ℕ) (k : ℕ) → k < length os → rank_at (entries_in c os) k ≡ rank (entry_in c (number_at os k))
+rank_of c os k within = ap rank (entry_of c os k within)
+
+pub as_many : (c : Columns) (os : List ℕ) → length (entries_in c os) ≡ length os
+as_many c os = length-map os (λ n. entry_in c n)
+
+pub sorted : (c : Columns) (os : List ℕ) → IsOrdered c os → IsSortedByRank (entries_in c os)
+sorted c os h i j before within =
+    let inside : j < length os = subst (λ n. j < n) (as_many c os) within in
+    let p = rank_of c os i (omega (arith, before, inside)) in
+    let q = rank_of c os j inside in
+    let r : rank (entry_in c (number_at os i)) < rank (entry_in c (number_at os j)) = h i j before inside in
+    omega (arith, p, q, r)
+
+-- where the entries of a rank begin
+pub splits : (c : Columns) (os : List ℕ) (n p : ℕ) → p ≤ length os → ((k : ℕ) → k < p → rank (entry_in c (number_at os k)) < n) → ((k : ℕ) → p ≤ k → k < length os → n ≤ rank (entry_in c (number_at os k))) → Splits (entries_in c os) n p
+splits c os n p within below above = record {
+  within = subst (λ m. p ≤ m) (sym (as_many c os)) within;
+  below = λ k h. subst (λ m. m < n) (sym (rank_of c os k (omega (arith, h, within)))) (below k h);
+  above = λ k h inside.
+      let there : k < length os = subst (λ m. k < m) (as_many c os) inside in
+      subst (λ m. n ≤ m) (sym (rank_of c os k there)) (above k h there);
+}
+
+-- where the first is not less, none is
+pub first_splits : (c : Columns) (os : List ℕ) (n : ℕ) → IsOrdered c os → (0 < length os → n ≤ rank (entry_in c (number_at os 0))) → Splits (entries_in c os) n 0
+first_splits c os n ordered first = splits c os n 0 (omega arith) (λ k h. absurd (omega (arith, h))) above
+  where
+    above : (k : ℕ) → 0 ≤ k → k < length os → n ≤ rank (entry_in c (number_at os k))
+    above zero from within = first within
+    above (suc k) from within =
+        let p : n ≤ rank (entry_in c (number_at os 0)) = first (omega (arith, within)) in
+        let q : rank (entry_in c (number_at os 0)) < rank (entry_in c (number_at os (suc k))) = ordered 0 (suc k) (omega arith) within in
+        omega (arith, p, q)
+
+-- ---- a binary search
+
+module _ (c : Columns) (os : List ℕ) (n m : ℕ) (ordered : IsOrdered c os) (within : m < length os) where
+  abbrev at : ℕ → ℕ
+  at k = rank (entry_in c (number_at os k))
+
+  pub one_below : at m < n → (k : ℕ) → k < m + 1 → at k < n
+  one_below less k below = go (nat_lt k m) refl
+    where
+      go : (b : Bool) → nat_lt k m ≡ b → at k < n
+      go true e = let q : at k < at m = ordered k m (grind (arith, e)) within in omega (arith, q, less)
+      go false e =
+          let least : m ≤ k = grind (arith, e) in
+          let same : m ≡ k = omega (arith, below, least) in
+          subst (λ j. at j < n) same less
+
+  pub one_above : n ≤ at m → (k : ℕ) → m ≤ k → k < length os → n ≤ at k
+  one_above least k from inside = go (nat_lt m k) refl
+    where
+      go : (b : Bool) → nat_lt m k ≡ b → n ≤ at k
+      go true e = let q : at m < at k = ordered m k (grind (arith, e)) inside in omega (arith, q, least)
+      go false e =
+          let most : k ≤ m = grind (arith, e) in
+          let same : m ≡ k = omega (arith, from, most) in
+          subst (λ j. n ≤ at j) same least
+
+-- ---- one more, and one fewer
+
+pub entries_with : (c : Columns) (os : List ℕ) (p n : ℕ) → entries_in c (insert os p n) ≡ insert (entries_in c os) p (entry_in c n)
+entries_with c os p n =
+    map-append (λ m. entry_in c m) (take p os) (n ∷ drop p os) ∙ ap (λ l. l ++ entry_in c n ∷ map (λ m. entry_in c m) (drop p os)) (sym (take-map (λ m. entry_in c m) p os))
+    ∙ ap (λ l. take p (entries_in c os) ++ entry_in c n ∷ l) (sym (drop-map (λ m. entry_in c m) p os))
+
+pub entries_without : (c : Columns) (os : List ℕ) (p : ℕ) → entries_in c (remove os p) ≡ remove (entries_in c os) p
+entries_without c os p =
+    map-append (λ m. entry_in c m) (take p os) (drop (suc p) os) ∙ ap (λ l. l ++ map (λ m. entry_in c m) (drop (suc p) os)) (sym (take-map (λ m. entry_in c m) p os))
+    ∙ ap (λ l. take p (entries_in c os) ++ l) (sym (drop-map (λ m. entry_in c m) (suc p) os))
+
+-- other columns with the same entries
+pub same_entries : (c d : Columns) (os : List ℕ) → ((k : ℕ) → k < length os → entry_in d (number_at os k) ≡ entry_in c (number_at os k)) → entries_in d os ≡ entries_in c os
+same_entries c d [] h = refl
+same_entries c d (o ∷ os) h =
+    ap (λ e. e ∷ entries_in d os) (h 0 (omega arith)) ∙ ap (λ l. entry_in c o ∷ l) (same_entries c d os (λ k within. h (suc k) (omega (arith, within))))
+
+contrary : (i j p : ℕ) → nat_lt i p ≡ false → nat_lt j p ≡ true → i < j → ⊥
+contrary i j p u v h = absurd (grind (arith, u, v, h))
+
+beyond : (j p : ℕ) → nat_lt j p ≡ false → nat_eq j p ≡ false → p < j
+beyond j p u v = grind (arith, u, v)
+
+in_front : (j p : ℕ) → nat_lt j p ≡ true → j < p
+in_front j p u = grind (arith, u)
+
+equal : (m n : ℕ) → nat_eq m n ≡ true → m ≡ n
+equal m n h = grind (arith, h)
+
+not_free : true ≡ false → ⊥
+not_free e = cc
+
+-- a number that is free is not among those that are taken
+pub is_new : (c : Columns) (os : List ℕ) (n k : ℕ) → is_free c n ≡ true → is_free c (number_at os k) ≡ false → nat_eq (number_at os k) n ≡ false
+is_new c os n k free taken = go (nat_eq (number_at os k) n) refl
+  where
+    go : (b : Bool) → nat_eq (number_at os k) n ≡ b → b ≡ false
+    go false e = refl
+    go true e =
+        let same : number_at os k ≡ n = equal (number_at os k) n e in
+        absurd (not_free (sym free ∙ sym (ap (is_free c) same) ∙ taken))
+
+module _ (c d : Columns) (os : List ℕ) (p n : ℕ) (e : Entry) (was : IsIndex c os) (put : Puts n e c d) (s : Splits (entries_in c os) (rank e) p) (behind : p < length os → rank e < rank (entry_in c (number_at os p))) where
+  inside : p ≤ length os
+  inside = subst (λ m. p ≤ m) (as_many c os) s.within
+
+  other : (k : ℕ) → k < length os → nat_eq (number_at os k) n ≡ false
+  other k within = is_new c os n k put.was_free (was.taken k within)
+
+  same : (k : ℕ) → k < length os → entry_in d (number_at os k) ≡ entry_in c (number_at os k)
+  same k within = put.others (number_at os k) (other k within)
+
+  pub entries_put : entries_in d os ≡ entries_in c os
+  entries_put = same_entries c d os same
+
+  pub entries_added : entries_in d (insert os p n) ≡ insert (entries_in c os) p e
+  entries_added = entries_with d os p n ∙ ap (λ l. insert l p (entry_in d n)) entries_put ∙ ap (insert (entries_in c os) p) put.here
+
+  len : length (insert os p n) ≡ length os + 1
+  len = length-insert os p n inside
+
+  -- the ranks, old and new
+  abbrev old : ℕ → ℕ
+  old k = rank (entry_in c (number_at os k))
+
+  abbrev new : ℕ → ℕ
+  new k = rank (entry_in d (number_at (insert os p n) k))
+
+  before : (k : ℕ) → k < p → new k ≡ old k
+  before k h = ap (λ m. rank (entry_in d m)) (get_or-insert_below os p n 0 k h inside) ∙ ap rank (same k (omega (arith, h, inside)))
+
+  here : new p ≡ rank e
+  here = ap (λ m. rank (entry_in d m)) (get_or-insert_at os p n 0 inside) ∙ ap rank put.here
+
+  shifted : (k : ℕ) → p ≤ k → k < length os → new (k + 1) ≡ old k
+  shifted k h within = ap (λ m. rank (entry_in d m)) (get_or-insert_above os p n 0 k h inside) ∙ ap rank (same k within)
+
+  less : (k : ℕ) → k < p → old k < rank e
+  less k h = subst (λ m. m < rank e) (rank_of c os k (omega (arith, h, inside))) (s.below k h)
+
+  more : (k : ℕ) → p ≤ k → k < length os → rank e < old k
+  more k h within = go (nat_lt p k) refl
+    where
+      first : rank e < old p
+      first = behind (omega (arith, h, within))
+
+      go : (b : Bool) → nat_lt p k ≡ b → rank e < old k
+      go true q = let r : old p < old k = was.ordered p k (grind (arith, q)) within in omega (arith, first, r)
+      go false q =
+          let at : p ≡ k = grind (arith, q, h) in
+          subst (λ m. rank e < old m) at first
+
+  -- by where one stands: in front, there, or behind
+  ordered_at : (i j : ℕ) → i < j → j < length (insert os p n) → (a : Bool) → nat_lt i p ≡ a → (b : Bool) → nat_lt j p ≡ b → (f : Bool) → nat_eq i p ≡ f → (g : Bool) → nat_eq j p ≡ g → new i < new j
+  ordered_at i j h within true u true v f x g y =
+      let q : old i < old j = was.ordered i j h (let w : j < p = in_front j p v in omega (arith, w, inside)) in
+      let y = before i (in_front i p u) in
+      let z = before j (in_front j p v) in
+      omega (arith, q, y, z)
+  ordered_at i j h within true u false v f x true y =
+      let at : p ≡ j = sym (equal j p y) in
+      let q : old i < rank e = less i (in_front i p u) in
+      let z = before i (in_front i p u) in
+      subst (λ m. new i < new m) at (omega (arith, q, z, here))
+  ordered_at i j h within true u false v f x false y =
+      let w : p < j = beyond j p v y in
+      let l : i < p = in_front i p u in
+      let q : old i < rank e = less i l in
+      let is : (j - 1) + 1 ≡ j = omega (arith, w) in
+      let r : rank e < old (j - 1) = more (j - 1) (omega (arith, w)) (omega (arith, len, within, w)) in
+      let z = before i l in
+      let t : new j ≡ old (j - 1) = sym (ap new is) ∙ shifted (j - 1) (omega (arith, w)) (omega (arith, len, within, w)) in
+      omega (arith, q, r, z, t)
+  ordered_at i j h within false u true v f x g y = absurd (contrary i j p u v h)
+  ordered_at i j h within false u false v true x g y =
+      let at : p ≡ i = sym (equal i p x) in
+      let w : p < j = omega (arith, at, h) in
+      let is : (j - 1) + 1 ≡ j = omega (arith, w) in
+      let r : rank e < old (j - 1) = more (j - 1) (omega (arith, w)) (omega (arith, len, within, w)) in
+      let t : new j ≡ old (j - 1) = sym (ap new is) ∙ shifted (j - 1) (omega (arith, w)) (omega (arith, len, within, w)) in
+      subst (λ m. new m < new j) at (omega (arith, r, t, here))
+  ordered_at i j h within false u false v false x g y =
+      let l : p < i = beyond i p u x in
+      let w : p < j = omega (arith, l, h) in
+      let is : (i - 1) + 1 ≡ i = omega (arith, l) in
+      let js : (j - 1) + 1 ≡ j = omega (arith, w) in
+      let q : old (i - 1) < old (j - 1) = was.ordered (i - 1) (j - 1) (omega (arith, l, h)) (omega (arith, len, within, w)) in
+      let z : new i ≡ old (i - 1) = sym (ap new is) ∙ shifted (i - 1) (omega (arith, l)) (omega (arith, len, within, h, l)) in
+      let t : new j ≡ old (j - 1) = sym (ap new js) ∙ shifted (j - 1) (omega (arith, w)) (omega (arith, len, within, w)) in
+      omega (arith, q, z, t)
+
+  taken_at : (k : ℕ) → k < length (insert os p n) → (a : Bool) → nat_lt k p ≡ a → (b : Bool) → nat_eq k p ≡ b → is_free d (number_at (insert os p n) k) ≡ false
+  taken_at k within true u b v =
+      let l : k < p = in_front k p u in
+      let there : k < length os = omega (arith, l, inside) in
+      ap (is_free d) (get_or-insert_below os p n 0 k l inside) ∙ put.others_free (number_at os k) (other k there) ∙ was.taken k there
+  taken_at k within false u true v =
+      let at : k ≡ p = equal k p v in
+      ap (λ m. is_free d (number_at (insert os p n) m)) at ∙ ap (is_free d) (get_or-insert_at os p n 0 inside) ∙ put.taken
+  taken_at k within false u false v =
+      let l : p < k = beyond k p u v in
+      let is : k ≡ (k - 1) + 1 = omega (arith, l) in
+      let there : k - 1 < length os = omega (arith, len, within, l) in
+      ap (λ m. is_free d (number_at (insert os p n) m)) is ∙ ap (is_free d) (get_or-insert_above os p n 0 (k - 1) (omega (arith, l)) inside) ∙ put.others_free (number_at os (k - 1)) (other (k - 1) there) ∙ was.taken (k - 1) there
+
+  with_one : IsIndex d (insert os p n)
+  with_one = record {
+    as_many = put.as_many;
+    ordered = λ i j h within. ordered_at i j h within (nat_lt i p) refl (nat_lt j p) refl (nat_eq i p) refl (nat_eq j p) refl;
+    taken = λ k within. taken_at k within (nat_lt k p) refl (nat_eq k p) refl;
+  }
+
+  with_none : IsIndex d os
+  with_none = record {
+    as_many = put.as_many;
+    ordered = λ i j h within.
+        let q : old i < old j = was.ordered i j h within in
+        let y = ap rank (same i (omega (arith, h, within))) in
+        let z = ap rank (same j within) in
+        omega (arith, q, y, z);
+    taken = λ k within. put.others_free (number_at os k) (other k within) ∙ was.taken k within;
+  }
+
+  -- as the calls say it
+  pub added : (b : Bool) (qs : List ℕ) → qs ≡ (if b then insert os p n else os) → IsIndex d qs
+  added true qs is = subst (IsIndex d) (sym is) with_one
+  added false qs is = subst (IsIndex d) (sym is) with_none
+
+  pub entries_now : (b : Bool) (qs : List ℕ) → qs ≡ (if b then insert os p n else os) → entries_in d qs ≡ (if b then insert (entries_in c os) p e else entries_in c os)
+  entries_now true qs is = ap (entries_in d) is ∙ entries_added
+  entries_now false qs is = ap (entries_in d) is ∙ entries_put
+
+module _ (c d : Columns) (os : List ℕ) (p : ℕ) (within : p < length os) (was : IsIndex c os) (frees : Frees (number_at os p) c d) where
+  len_less : length (remove os p) + 1 ≡ length os
+  len_less = length-remove os p within
+
+  -- no number stands there twice
+  once : (k : ℕ) → k < length os → (nat_eq k p ≡ false) → nat_eq (number_at os k) (number_at os p) ≡ false
+  once k inside h = go (nat_eq (number_at os k) (number_at os p)) refl (nat_lt k p) refl
+    where
+      less : (m n : ℕ) → m < n → m ≡ n → ⊥
+      less m n q r = absurd (omega (arith, q, r))
+
+      go : (b : Bool) → nat_eq (number_at os k) (number_at os p) ≡ b → (f : Bool) → nat_lt k p ≡ f → b ≡ false
+      go false e f u = refl
+      go true e true u = absurd (less _ _ (was.ordered k p (grind (arith, u)) within) (ap (λ m. rank (entry_in c m)) (equal (number_at os k) (number_at os p) e)))
+      go true e false u = absurd (less _ _ (was.ordered p k (grind (arith, u, h)) inside) (ap (λ m. rank (entry_in c m)) (sym (equal (number_at os k) (number_at os p) e))))
+
+  -- where the number at k stood before
+  abbrev from : ℕ → Bool → ℕ
+  from k true = k
+  from k false = k + 1
+
+  stood : (k : ℕ) (b : Bool) → nat_lt k p ≡ b → number_at (remove os p) k ≡ number_at os (from k b)
+  stood k true u = get_or-remove_below os p 0 k (grind (arith, u)) within
+  stood k false u = get_or-remove_above os p 0 k (grind (arith, u)) within
+
+  apart : (k : ℕ) (b : Bool) → nat_lt k p ≡ b → nat_eq (from k b) p ≡ false
+  apart k true u = grind (arith, u)
+  apart k false u = grind (arith, u)
+
+  there : (k : ℕ) → k < length (remove os p) → (b : Bool) → from k b < length os
+  there k inside true = omega (arith, len_less, inside)
+  there k inside false = omega (arith, len_less, inside)
+
+  kept : (k : ℕ) → k < length (remove os p) → (b : Bool) → nat_lt k p ≡ b → entry_in d (number_at (remove os p) k) ≡ entry_in c (number_at os (from k b))
+  kept k inside b u = ap (entry_in d) (stood k b u) ∙ frees.others (number_at os (from k b)) (once (from k b) (there k inside b) (apart k b u))
+
+  same_now : (k : ℕ) → k < length (remove os p) → entry_in d (number_at (remove os p) k) ≡ entry_in c (number_at (remove os p) k)
+  same_now k inside = kept k inside (nat_lt k p) refl ∙ ap (entry_in c) (sym (stood k (nat_lt k p) refl))
+
+  pub entries_removed : entries_in d (remove os p) ≡ remove (entries_in c os) p
+  entries_removed = same_entries c d (remove os p) same_now ∙ entries_without c os p
+
+  onward : (i j : ℕ) → i < j → (a : Bool) → nat_lt i p ≡ a → (b : Bool) → nat_lt j p ≡ b → from i a < from j b
+  onward i j h true u true v = h
+  onward i j h true u false v = omega (arith, h)
+  onward i j h false u true v = absurd (contrary i j p u v h)
+  onward i j h false u false v = omega (arith, h)
+
+  pub removed : IsIndex d (remove os p)
+  removed = record {
+    as_many = frees.as_many;
+    ordered = λ i j h inside.
+        let q : rank (entry_in c (number_at os (from i (nat_lt i p)))) < rank (entry_in c (number_at os (from j (nat_lt j p)))) = was.ordered (from i (nat_lt i p)) (from j (nat_lt j p)) (onward i j h (nat_lt i p) refl (nat_lt j p) refl) (there j inside (nat_lt j p)) in
+        let y = ap rank (kept i (omega (arith, h, inside)) (nat_lt i p) refl) in
+        let z = ap rank (kept j inside (nat_lt j p) refl) in
+        omega (arith, q, y, z);
+    taken = λ k inside. ap (is_free d) (stood k (nat_lt k p) refl) ∙ frees.others_free (number_at os (from k (nat_lt k p))) (once (from k (nat_lt k p)) (there k inside (nat_lt k p)) (apart k (nat_lt k p) refl)) ∙ was.taken (from k (nat_lt k p)) (there k inside (nat_lt k p));
+  }

@@ -1,0 +1,24 @@
+-- Keys in order, by their numbers.
+use Rattle.std.specs.Prelude.{ℕ, ◌≡◌, ◌<◌, false, List, length, get_or}
+use mathlib.Core.List.{map}
+use Rattle.host_index.specs.Columns.{AreAsMany, entry_in, is_free}
+use Rattle.host_index.specs.Entries.{rank}
+use Rattle.host_index.specs.declared.columns.Columns.{Columns}
+use Rattle.host_index.specs.declared.entry.Entry.{Entry}
+
+abbrev pub entries_in : Columns → List ℕ → List Entry
+entries_in c os = map (λ n. entry_in c n) os
+
+abbrev pub number_at : List ℕ → ℕ → ℕ
+number_at os k = get_or os k 0
+
+-- each is less than those behind it
+abbrev pub IsOrdered : Columns → List ℕ → Type 0
+IsOrdered c os =
+    (i j : ℕ) → i < j → j < length os → rank (entry_in c (number_at os i)) < rank (entry_in c (number_at os j))
+
+-- and none is free
+pub record IsIndex (c : Columns) (os : List ℕ) : Type 0 where
+  pub as_many : AreAsMany c
+  pub ordered : IsOrdered c os
+  pub taken : (k : ℕ) → k < length os → is_free c (number_at os k) ≡ false

@@ -1,0 +1,34 @@
+//! Places under keys.
+ghost use Rattle.std.specs.Prelude.{◌≡◌, nat_eq, nat_lt};
+ghost use Rattle.host_index.specs.Entries.{is_entry, rank};
+
+/// A place under a key.
+#[derive(Debug, Clone, Copy, PartialEq, Eq)]
+pub struct Entry {
+    /// The first part of the key.
+    pub major: u128,
+    /// The second part.
+    pub minor: u64,
+    /// The place.
+    pub place: usize,
+}
+
+/// Which of the two keys of a place.
+#[derive(Debug, Clone, Copy, PartialEq, Eq)]
+pub enum Which {
+    First,
+    Second,
+}
+
+pub(crate) fn is_less(a: Entry, b: Entry) -> bool
+    ensures { result ≡ nat_lt (rank a) (rank b) }
+{
+    a.major < b.major
+        || a.major == b.major && (a.minor < b.minor || a.minor == b.minor && a.place < b.place)
+}
+
+pub(crate) fn is_entry(a: Entry, b: Entry) -> bool
+    ensures { result ≡ is_entry a b }
+{
+    a.major == b.major && a.minor == b.minor && a.place == b.place
+}

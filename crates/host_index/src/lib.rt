@@ -1,0 +1,9 @@
+//! An index of many places under two keys each, in order.
+#![tactic(auto)]
+
+pub mod columns;
+pub mod entry;
+pub mod index;
+
+pub use entry::{Entry, Which};
+pub use index::Index;
