@@ -29,7 +29,7 @@ use Rattle.net_host.specs.Sleeping.{is_marked, sleeps_at}
 use Rattle.net_host.specs.Walks.{ChangesAt}
 use Rattle.net_host.specs.Turns.{Watches, WatchesIn, asked_of, delayed, is_due, may_speak}
 use Rattle.net_host.specs.Watching.{Looks, is_over_for}
-use Rattle.net_host.specs.declared.guard.Guard.{Guard}
+use Rattle.net_host.specs.Remembered.{Remembered as Guard}
 use Rattle.net_host.specs.declared.guard.GuardSettings.{GuardSettings}
 use Rattle.net_host.specs.declared.guard.Phase.{Phase}
 use Rattle.net_host.specs.declared.guard.Phase.TheVariants as phase

@@ -14,21 +14,20 @@ use Rattle.smoltcp_socket.specs.declared.socket.Socket.TheVariants as socket
 use Rattle.net_host.specs.declared.guard.Guard.{Guard}
 use Rattle.net_host.specs.declared.guard.GuardSettings.{GuardSettings}
 use Rattle.net_host.specs.declared.guard.Phase.{Phase}
-use Rattle.net_host.specs.declared.index.Entry.{Entry}
+use Rattle.host_index.specs.declared.entry.Entry.{Entry}
 use Rattle.net_host.specs.declared.key.Lent.{Lent}
 use Rattle.net_host.specs.declared.slot.Slot.{Slot}
 use Rattle.net_host.specs.Datagrams as datagrams
-use Rattle.net_host.specs.Entries.{FindsListed, entry_at, has}
+use Rattle.host_index.specs.Entries.{entry_at, has}
 use Rattle.net_host.specs.Filing.{icmp_key, keys_by, keys_in, keys_of, one_key, raw_key, udp_key}
 use Rattle.net_host.specs.Indexing.{IsIndexed, is_filed, is_under}
-use Rattle.net_host.specs.Finding.{IsThere}
 use Rattle.net_host.specs.Guards.{ended_if, lawful_limit, phase_of, with_timeout}
 use Rattle.net_host.specs.Messages as messages
 use Rattle.net_host.specs.Messages.{AnyMail}
 use Rattle.net_host.specs.RawCopies as raw_copies
 use Rattle.net_host.specs.Turns.{Watches, WatchesIn, ends, ends_in}
 use Rattle.net_host.specs.Unreachable.{RawTakes, TakesRaw}
-use Rattle.net_host.specs.Walks.{Both, ChangesAt, ChangesEach, Nowhere}
+use Rattle.net_host.specs.Walks.{ChangesAt, ChangesEach}
 use Rattle.net_host.specs.Watching.{is_over_for}
 use Rattle.net_host.proofs.Places.{each_keeps, keeps_keys}
 
@@ -56,10 +55,10 @@ watched_in st now (Some (socket.Udp x)) t g h w e = ap keys_in w.0
 watched_in st now (Some (socket.Icmp x)) t g h w e = ap keys_in w.0
 watched_in st now None t g h w e = ap keys_in w.0
 
-pub watch_keeps : {G : Type 0} (st : GuardSettings) (now : Instant) (complete : Bool) (lent : Option Lent) (ss ts : List (Slot G)) (es : List Entry) (i : ℕ) → IfSome (slice_get ss i) (λ s. ends st now s ≡ false) → ChangesAt (λ b a. Watches st now b a) ss i ts → IsIndexed (λ s. keys_of s) complete lent ss es → IsIndexed (λ s. keys_of s) complete lent ts es
-watch_keeps st now complete lent ss ts es i kept c h =
+pub watch_keeps : {G : Type 0} (st : GuardSettings) (now : Instant) (complete : Bool) (lent : Option Lent) (ss ts : List (Slot G)) (es : List Entry) (ws : List ℕ) (i : ℕ) → IfSome (slice_get ss i) (λ s. ends st now s ≡ false) → ChangesAt (λ b a. Watches st now b a) ss i ts → IsIndexed (λ s. keys_of s) complete lent ss es ws → IsIndexed (λ s. keys_of s) complete lent ts es ws
+watch_keeps st now complete lent ss ts es ws i kept c h =
     let e : ends st now c.before ≡ false = subst (λ o. IfSome o (λ s. ends st now s ≡ false)) c.was kept in
-    keeps_keys (λ s. keys_of s) (λ b a. Watches st now b a × (ends st now b ≡ false)) complete lent ss ts es i (λ b a w. watched_in st now b.socket a.socket b.guard a.guard w.0.looked w.1) (record { before = c.before; after = c.after; was = c.was; changed = (c.changed, e); now = c.now }) h
+    keeps_keys (λ s. keys_of s) (λ b a. Watches st now b a × (ends st now b ≡ false)) complete lent ss ts es ws i (λ b a w. watched_in st now b.socket a.socket b.guard a.guard w.0.looked w.1) (record { before = c.before; after = c.after; was = c.was; changed = (c.changed, e); now = c.now }) h
 
 -- ---- copies, and datagrams
 
@@ -74,8 +73,8 @@ raw_keeps f ip payload (Some (socket.Udp x)) t h = ap keys_in h
 raw_keeps f ip payload (Some (socket.Icmp x)) t h = ap keys_in h
 raw_keeps f ip payload None t h = ap keys_in h
 
-pub copies_keep : {G : Type 0} (f : Facts) (ip : IpRepr) (payload : List ℕ) (complete : Bool) (lent : Option Lent) (ss ts : List (Slot G)) (es : List Entry) → ChangesEach (λ b a. raw_copies.CopiesPacket f ip payload b a) ss ts → IsIndexed (λ s. keys_of s) complete lent ss es → IsIndexed (λ s. keys_of s) complete lent ts es
-copies_keep f ip payload complete lent ss ts es c h = each_keeps (λ s. keys_of s) (λ b a. raw_copies.CopiesPacket f ip payload b a) complete lent ss ts es (λ b a w. raw_keeps f ip payload b.socket a.socket w.copied) c h
+pub copies_keep : {G : Type 0} (f : Facts) (ip : IpRepr) (payload : List ℕ) (complete : Bool) (lent : Option Lent) (ss ts : List (Slot G)) (es : List Entry) (ws : List ℕ) → ChangesEach (λ b a. raw_copies.CopiesPacket f ip payload b a) ss ts → IsIndexed (λ s. keys_of s) complete lent ss es ws → IsIndexed (λ s. keys_of s) complete lent ts es ws
+copies_keep f ip payload complete lent ss ts es ws c h = each_keeps (λ s. keys_of s) (λ b a. raw_copies.CopiesPacket f ip payload b a) complete lent ss ts es ws (λ b a w. raw_keeps f ip payload b.socket a.socket w.copied) c h
 
 mail_keeps : {G : Type 0} (f : Facts) (m : AnyMail) (s t : Option (Socket G)) → messages.SocketCopies f s m t → keys_in t ≡ keys_in s
 mail_keeps f m (Some (socket.Icmp x)) (Some (socket.Icmp y)) h = refl
@@ -88,8 +87,8 @@ mail_keeps f m (Some (socket.Udp x)) t h = ap keys_in h
 mail_keeps f m (Some (socket.Raw x)) t h = ap keys_in h
 mail_keeps f m None t h = ap keys_in h
 
-pub mails_keep : {G : Type 0} (f : Facts) (m : AnyMail) (complete : Bool) (lent : Option Lent) (ss ts : List (Slot G)) (es : List Entry) → ChangesEach (λ b a. messages.Copies f m b a) ss ts → IsIndexed (λ s. keys_of s) complete lent ss es → IsIndexed (λ s. keys_of s) complete lent ts es
-mails_keep f m complete lent ss ts es c h = each_keeps (λ s. keys_of s) (λ b a. messages.Copies f m b a) complete lent ss ts es (λ b a w. mail_keeps f m b.socket a.socket w.copied) c h
+pub mails_keep : {G : Type 0} (f : Facts) (m : AnyMail) (complete : Bool) (lent : Option Lent) (ss ts : List (Slot G)) (es : List Entry) (ws : List ℕ) → ChangesEach (λ b a. messages.Copies f m b a) ss ts → IsIndexed (λ s. keys_of s) complete lent ss es ws → IsIndexed (λ s. keys_of s) complete lent ts es ws
+mails_keep f m complete lent ss ts es ws c h = each_keeps (λ s. keys_of s) (λ b a. messages.Copies f m b a) complete lent ss ts es ws (λ b a w. mail_keeps f m b.socket a.socket w.copied) c h
 
 datagram_keeps : {G : Type 0} (ip : IpRepr) (u : UdpRepr) (payload : List ℕ) (s t : Option (Socket G)) → datagrams.SocketHears s ip u payload t → keys_in t ≡ keys_in s
 datagram_keeps ip u payload (Some (socket.Udp x)) (Some (socket.Udp y)) h = ap (λ (v : udp.View). one_key (udp_key v.endpoint.port)) h.0
@@ -102,57 +101,57 @@ datagram_keeps ip u payload (Some (socket.Icmp x)) t h = absurd h
 datagram_keeps ip u payload (Some (socket.Raw x)) t h = absurd h
 datagram_keeps ip u payload None t h = absurd h
 
-pub heard_keeps : {G : Type 0} (found : Option ℕ) (ip : IpRepr) (u : UdpRepr) (payload : List ℕ) (complete : Bool) (lent : Option Lent) (ss ts : List (Slot G)) (es : List Entry) → datagrams.HeardBy found ss ip u payload ts → IsIndexed (λ s. keys_of s) complete lent ss es → IsIndexed (λ s. keys_of s) complete lent ts es
-heard_keeps None ip u payload complete lent ss ts es c h = subst (λ us. IsIndexed (λ s. keys_of s) complete lent us es) (sym c) h
-heard_keeps (Some i) ip u payload complete lent ss ts es c h = keeps_keys (λ s. keys_of s) (λ b a. datagrams.Hears ip u payload b a) complete lent ss ts es i (λ b a w. datagram_keeps ip u payload b.socket a.socket w.heard) c h
+pub heard_keeps : {G : Type 0} (found : Option ℕ) (ip : IpRepr) (u : UdpRepr) (payload : List ℕ) (complete : Bool) (lent : Option Lent) (ss ts : List (Slot G)) (es : List Entry) (ws : List ℕ) → datagrams.HeardBy found ss ip u payload ts → IsIndexed (λ s. keys_of s) complete lent ss es ws → IsIndexed (λ s. keys_of s) complete lent ts es ws
+heard_keeps None ip u payload complete lent ss ts es ws c h = subst (λ us. IsIndexed (λ s. keys_of s) complete lent us es ws) (sym c) h
+heard_keeps (Some i) ip u payload complete lent ss ts es ws c h = keeps_keys (λ s. keys_of s) (λ b a. datagrams.Hears ip u payload b a) complete lent ss ts es ws i (λ b a w. datagram_keeps ip u payload b.socket a.socket w.heard) c h
 
--- ---- where no socket is of a kind, each stays
+-- ---- what is not listed under the key of a kind of sockets is none of them
 
 module _ {G : Type 0} (ss : List (Slot G)) (es : List Entry) (filed : (k : ℕ) → is_filed (λ s. keys_of s) es k (slice_get ss k) ≡ true) where
   first_of : (k : ℕ) (s : Slot G) → is_filed (λ s. keys_of s) es k (Some s) ≡ true → is_under es k (keys_of s).first ≡ true
   first_of k s h = (and_parts (is_under es k (keys_of s).first) (is_under es k (keys_of s).second) h).0
 
-  listed_once : (k : ℕ) (key : Entry) → FindsListed (λ (s : Slot G). IsThere s) ss es key None → (s : Slot G) → slice_get ss k ≡ Some s → has es (entry_at key k) ≡ true → ⊥
-  listed_once k key none s at has_it = subst (λ o. IfSome o (λ (x : Slot G). IsThere x → ⊥)) at (none k has_it) tt
-
-  pub no_raw : (f : Facts) (ip : IpRepr) (payload : List ℕ) → FindsListed (λ (s : Slot G). IsThere s) ss es raw_key None → ChangesEach (λ b a. raw_copies.CopiesPacket f ip payload b a) ss ss
-  no_raw f ip payload none = λ k. by k (slice_get ss k) refl (filed k)
+  -- a place that is not listed among the raw sockets takes no copy of a packet
+  pub raw_idle : (f : Facts) (ip : IpRepr) (payload : List ℕ) (k : ℕ) → (has es (entry_at raw_key k) ≡ true → ⊥) → IfSome (slice_get ss k) (λ s. raw_copies.CopiesPacket f ip payload s s)
+  raw_idle f ip payload k nay = by (slice_get ss k) (filed k)
     where
-      same : (k : ℕ) (s : Slot G) (o : Option (Socket G)) → s.socket ≡ o → is_under es k (keys_in o).first ≡ true → (has es (entry_at raw_key k) ≡ true → ⊥) → raw_copies.SocketCopies f ip payload o o
-      same k s (Some (socket.Raw x)) e h nay = absurd (nay h)
-      same k s (Some (socket.Tcp x)) e h nay = refl
-      same k s (Some (socket.Udp x)) e h nay = refl
-      same k s (Some (socket.Icmp x)) e h nay = refl
-      same k s None e h nay = refl
+      same : (o : Option (Socket G)) → is_under es k (keys_in o).first ≡ true → raw_copies.SocketCopies f ip payload o o
+      same (Some (socket.Raw x)) h = absurd (nay h)
+      same (Some (socket.Tcp x)) h = refl
+      same (Some (socket.Udp x)) h = refl
+      same (Some (socket.Icmp x)) h = refl
+      same None h = refl
 
-      by : (k : ℕ) (o : Option (Slot G)) → slice_get ss k ≡ o → is_filed (λ s. keys_of s) es k o ≡ true → Both (λ b a. raw_copies.CopiesPacket f ip payload b a) o o
-      by k None e h = tt
-      by k (Some s) e h = record { generation = refl; guard = refl; copied = same k s s.socket refl (first_of k s h) (listed_once k raw_key none s e) }
+      by : (o : Option (Slot G)) → is_filed (λ s. keys_of s) es k o ≡ true → IfSome o (λ s. raw_copies.CopiesPacket f ip payload s s)
+      by None h = tt
+      by (Some s) h = record { generation = refl; guard = refl; copied = same s.socket (first_of k s h) }
 
-  pub no_icmp : (f : Facts) (m : AnyMail) → FindsListed (λ (s : Slot G). IsThere s) ss es icmp_key None → ChangesEach (λ b a. messages.Copies f m b a) ss ss
-  no_icmp f m none = λ k. by k (slice_get ss k) refl (filed k)
+  -- nor the packet itself
+  pub not_raw : (ip : IpRepr) (k : ℕ) → (has es (entry_at raw_key k) ≡ true → ⊥) → IfSome (slice_get ss k) (λ s. TakesRaw ip s → ⊥)
+  not_raw ip k nay = by (slice_get ss k) (filed k)
     where
-      same : (k : ℕ) (s : Slot G) (o : Option (Socket G)) → s.socket ≡ o → is_under es k (keys_in o).first ≡ true → (has es (entry_at icmp_key k) ≡ true → ⊥) → messages.SocketCopies f o m o
-      same k s (Some (socket.Icmp x)) e h nay = absurd (nay h)
-      same k s (Some (socket.Tcp x)) e h nay = refl
-      same k s (Some (socket.Udp x)) e h nay = refl
-      same k s (Some (socket.Raw x)) e h nay = refl
-      same k s None e h nay = refl
+      never : (o : Option (Socket G)) → is_under es k (keys_in o).first ≡ true → RawTakes o ip → ⊥
+      never (Some (socket.Raw x)) h r = absurd (nay h)
+      never (Some (socket.Tcp x)) h r = r
+      never (Some (socket.Udp x)) h r = r
+      never (Some (socket.Icmp x)) h r = r
+      never None h r = r
 
-      by : (k : ℕ) (o : Option (Slot G)) → slice_get ss k ≡ o → is_filed (λ s. keys_of s) es k o ≡ true → Both (λ b a. messages.Copies f m b a) o o
-      by k None e h = tt
-      by k (Some s) e h = record { generation = refl; guard = refl; copied = same k s s.socket refl (first_of k s h) (listed_once k icmp_key none s e) }
+      by : (o : Option (Slot G)) → is_filed (λ s. keys_of s) es k o ≡ true → IfSome o (λ s. TakesRaw ip s → ⊥)
+      by None h = tt
+      by (Some s) h = never s.socket (first_of k s h)
 
-  pub none_takes_raw : (ip : IpRepr) → FindsListed (λ (s : Slot G). IsThere s) ss es raw_key None → Nowhere (TakesRaw ip) ss
-  none_takes_raw ip none = λ k. by k (slice_get ss k) refl (filed k)
+  -- a place that is not listed among the ICMP sockets takes no copy of a message
+  pub icmp_idle : (f : Facts) (m : AnyMail) (k : ℕ) → (has es (entry_at icmp_key k) ≡ true → ⊥) → IfSome (slice_get ss k) (λ s. messages.Copies f m s s)
+  icmp_idle f m k nay = by (slice_get ss k) (filed k)
     where
-      not_raw : (k : ℕ) (o : Option (Socket G)) → is_under es k (keys_in o).first ≡ true → (has es (entry_at raw_key k) ≡ true → ⊥) → RawTakes o ip → ⊥
-      not_raw k (Some (socket.Raw x)) h nay r = absurd (nay h)
-      not_raw k (Some (socket.Tcp x)) h nay r = r
-      not_raw k (Some (socket.Udp x)) h nay r = r
-      not_raw k (Some (socket.Icmp x)) h nay r = r
-      not_raw k None h nay r = r
+      same : (o : Option (Socket G)) → is_under es k (keys_in o).first ≡ true → messages.SocketCopies f o m o
+      same (Some (socket.Icmp x)) h = absurd (nay h)
+      same (Some (socket.Tcp x)) h = refl
+      same (Some (socket.Udp x)) h = refl
+      same (Some (socket.Raw x)) h = refl
+      same None h = refl
 
-      by : (k : ℕ) (o : Option (Slot G)) → slice_get ss k ≡ o → is_filed (λ s. keys_of s) es k o ≡ true → IfSome o (λ s. TakesRaw ip s → ⊥)
-      by k None e h = tt
-      by k (Some s) e h = not_raw k s.socket (first_of k s h) (listed_once k raw_key none s e)
+      by : (o : Option (Slot G)) → is_filed (λ s. keys_of s) es k o ≡ true → IfSome o (λ s. messages.Copies f m s s)
+      by None h = tt
+      by (Some s) h = record { generation = refl; guard = refl; copied = same s.socket (first_of k s h) }

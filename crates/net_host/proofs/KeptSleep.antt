@@ -20,7 +20,7 @@ use Rattle.net_host.specs.RawCopies.{TakesCopy}
 use Rattle.net_host.specs.Sleeping.{AreAsleep}
 use Rattle.net_host.specs.Turns.{asked_of}
 use Rattle.net_host.specs.Walks.{ChangesEach}
-use Rattle.net_host.specs.declared.guard.Guard.{Guard}
+use Rattle.net_host.specs.Remembered.{Remembered as Guard}
 use Rattle.net_host.specs.declared.slot.Slot.{Slot}
 use Rattle.net_host.specs.declared.terms.Terms.{Terms}
 use Rattle.net_host.proofs.Sleepers.{changed_len, each_sleeps, one_sleeps}

@@ -12,10 +12,12 @@ pub mod Measure
 pub mod Steps
 pub mod Oldest
 pub mod Again
-pub mod Ordered
 pub mod Runs
+pub mod Under
+pub mod Jumps
 pub mod Moments
 pub mod Places
+pub mod Vacant
 pub mod Keyed
 pub mod Rested
 pub mod Each
@@ -24,4 +26,5 @@ pub mod KeptKeys
 pub mod KeptSleep
 pub mod CookieAnswers
 pub mod Believed
+pub mod Lawful
 pub mod Polled

@@ -3,10 +3,11 @@ use Rattle.std.proofs.Common.{◌≡◌, ◌∙◌, ℕ, ◌+◌, ◌*◌, ◌^�
 use Rattle.std.specs.Prelude.{IfSome, slice_get, ◌≤ℤ◌, ◌<ℤ◌}
 use Rattle.std.proofs.lemmas.Int.{ints}
 use Rattle.std.proofs.lemmas.Option.{slice_get_past}
-use Rattle.net_host.specs.declared.index.Entry.{Entry}
+use Rattle.host_index.specs.declared.entry.Entry.{Entry}
 use Rattle.net_base.specs.declared.time.Instant.{Instant}
-use Rattle.net_host.specs.Entries.{FindsEarliestListed, IsEarliestListed, IsListedOf, IsSortedByRank, Splits, entry_of, is_ordered, nothing, order_of, rank, rank_at}
-use Rattle.net_host.proofs.Ordered.{IsIn, find_in}
+use Rattle.host_index.specs.Entries.{IsSortedByRank, Splits, nothing, rank, rank_at}
+use Rattle.net_host.specs.Entries.{FindsEarliestListed, IsEarliestListed, IsListedOf, entry_of, is_ordered, order_of}
+use Rattle.host_index.proofs.Entered.{IsIn, find_in}
 use Rattle.net_host.proofs.Runs.{always, place_at, weaker}
 
 not_later : (t u : Instant) → is_ordered t ≡ true → is_ordered u ≡ true → order_of t ≤ order_of u → t.micros ≤ℤ u.micros

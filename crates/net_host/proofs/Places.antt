@@ -1,17 +1,18 @@
 -- Each place is filed, whatever is done to one of them.
-use Rattle.std.proofs.Common.{◌≡◌, ◌∙◌, ℕ, ◌<◌, List, [], ◌∷◌, length, Bool, true, false, nat_eq, suc, zero, Option, Some, None, refl, sym, subst, ap, arith}
-use Rattle.std.specs.Prelude.{IfSome, IfNone, slice_get, slice_set, ◌&&◌, if◌then◌else◌}
+use Rattle.std.proofs.Common.{◌≡◌, ◌∙◌, ℕ, ◌<◌, ◌/◌, List, [], ◌∷◌, length, Bool, true, false, not, nat_eq, nat_lt, suc, zero, Option, Some, None, refl, sym, subst, ap, arith}
+use Rattle.std.specs.Prelude.{IfSome, IfNone, slice_get, slice_set, ◌&&◌, ◌||◌, if◌then◌else◌}
 use Rattle.std.specs.List.{All}
 use Rattle.std.proofs.lemmas.Bool.{and_parts}
 use Rattle.std.proofs.lemmas.List.Elements.{All-get_or}
 use Rattle.std.proofs.lemmas.Option.{get_or_from_slice_get, slice_get_within}
-use Rattle.net_host.specs.declared.index.Entry.{Entry}
+use Rattle.host_index.specs.declared.entry.Entry.{Entry}
 use Rattle.net_host.specs.declared.key.Key.{Key}
 use Rattle.net_host.specs.declared.key.Key.TheVariants as key
 use Rattle.net_host.specs.declared.key.Keys.{Keys}
 use Rattle.net_host.specs.declared.key.Lent.{Lent}
-use Rattle.net_host.specs.Entries.{Keeps, entry_at, has, is_entry}
-use Rattle.net_host.specs.Indexing.{IsIndexed, IsLentAt, KeepsOthers, are_filed, is_filed, is_under, lent_of, no_keys, same_key}
+use Rattle.host_index.specs.Entries.{Keeps, entry_at, has, is_entry}
+use Rattle.net_host.specs.Indexing.{IsIndexed, IsLentAt, KeepsMarks, KeepsOthers, are_filed, is_filed, is_kept, is_kept_of, is_noted, is_noted_of, is_under, lent_of, no_keys, same_key}
+use Rattle.host_bounds.specs.Marking.{bit_of}
 use Rattle.net_host.specs.Walks.{Both, ChangesAt, ChangesEach}
 use Rattle.net_host.proofs.Each.{elsewhere}
 
@@ -71,6 +72,16 @@ same_filed es k old new first second h =
     let p = and_parts (is_under es k old.first) (is_under es k old.second) h in
     both (is_under es k new.first) (is_under es k new.second) (same_under es k old.first new.first first p.0) (same_under es k old.second new.second second p.1)
 
+-- ---- marks
+
+mark_kept : (place : ℕ) (ws us : List ℕ) (k : ℕ) → KeepsMarks place ws us → nat_eq k place ≡ false → (free : Bool) → is_noted ws k free ≡ true → is_noted us k free ≡ true
+mark_kept place ws us k marks other free h =
+    subst (λ n. (nat_lt (k / 64) n && (not free || nat_eq (bit_of us k) 1)) ≡ true) (sym marks.len)
+    (subst (λ b. (nat_lt (k / 64) (length ws) && (not free || nat_eq b 1)) ≡ true) (sym (marks.others k other)) h)
+
+pub noted_on : (ws : List ℕ) (k : ℕ) → k / 64 < length ws → bit_of ws k ≡ 1 → is_noted ws k true ≡ true
+noted_on ws k room on = both (nat_lt (k / 64) (length ws)) (nat_eq (bit_of ws k) 1) (grind (arith, room)) (grind (arith, on))
+
 set_none : {X : Type 0} (xs : List X) (i : ℕ) (x : X) → slice_get xs i ≡ None → slice_set xs i x ≡ xs
 set_none [] i x h = refl
 set_none (y ∷ ys) zero x h = cc
@@ -88,70 +99,93 @@ all_at {X = X} P xs k h = go (slice_get xs k) refl
 module _ {X : Type 0} (keys_of : X → Keys) where
   -- ---- places
 
-  slot_kept : (place : ℕ) (es fs : List Entry) (k : ℕ) → KeepsOthers place es fs → nat_eq k place ≡ false → (o : Option X) → is_filed keys_of es k o ≡ true → is_filed keys_of fs k o ≡ true
-  slot_kept place es fs k keep other None h = refl
-  slot_kept place es fs k keep other (Some s) h = keys_kept place es fs k keep other (keys_of s) h
+  slot_kept : (place : ℕ) (es fs : List Entry) (ws us : List ℕ) (k : ℕ) (complete filed : Bool) → KeepsOthers place es fs → KeepsMarks place ws us → nat_eq k place ≡ false → (o : Option X) → is_kept_of keys_of complete es ws k o ≡ true → is_kept_of keys_of (complete && filed) fs us k o ≡ true
+  slot_kept place es fs ws us k complete filed keep marks other None h = refl
+  slot_kept place es fs ws us k complete filed keep marks other (Some s) h =
+      let p = and_parts (not complete || are_filed es k (keys_of s)) (is_noted ws k (keys_of s).free) h in
+      both (not (complete && filed) || are_filed fs k (keys_of s)) (is_noted us k (keys_of s).free) (in_order complete filed p.0) (mark_kept place ws us k marks other (keys_of s).free p.1)
+    where
+      in_order : (c d : Bool) → (not c || are_filed es k (keys_of s)) ≡ true → (not (c && d) || are_filed fs k (keys_of s)) ≡ true
+      in_order false d h = refl
+      in_order true false h = refl
+      in_order true true h = keys_kept place es fs k keep other (keys_of s) h
 
   -- ---- what was lent comes back
 
-  pub settled : (complete filed : Bool) (l : Lent) (ss : List X) (es fs : List Entry) → IsIndexed keys_of complete (Some l) ss es → KeepsOthers l.place es fs → (filed ≡ true → are_filed es l.place l.keys ≡ true → is_filed keys_of fs l.place (slice_get ss l.place) ≡ true) → IsIndexed keys_of (complete && filed) None ss fs
-  settled false filed l ss es fs before keep back = λ k. refl
-  settled true false l ss es fs before keep back = λ k. refl
-  settled true true l ss es fs before keep back = λ k. by k (nat_eq k l.place) refl (before k)
+  comes_back : (complete filed : Bool) (l : Lent) (es fs : List Entry) (ws us : List ℕ) (o : Option X) → is_kept complete es ws l.place l.keys ≡ true → (filed ≡ true → are_filed es l.place l.keys ≡ true → is_filed keys_of fs l.place o ≡ true) → (is_noted ws l.place l.keys.free ≡ true → is_noted_of keys_of us l.place o ≡ true) → is_kept_of keys_of (complete && filed) fs us l.place o ≡ true
+  comes_back complete filed l es fs ws us None h back noted = refl
+  comes_back complete filed l es fs ws us (Some s) h back noted =
+      let p = and_parts (not complete || are_filed es l.place l.keys) (is_noted ws l.place l.keys.free) h in
+      both (not (complete && filed) || are_filed fs l.place (keys_of s)) (is_noted us l.place (keys_of s).free) (in_order complete filed p.0 back) (noted p.1)
     where
-      by : (k : ℕ) (b : Bool) → nat_eq k l.place ≡ b → (if b then are_filed es k l.keys else is_filed keys_of es k (slice_get ss k)) ≡ true → is_filed keys_of fs k (slice_get ss k) ≡ true
+      in_order : (c d : Bool) → (not c || are_filed es l.place l.keys) ≡ true → (d ≡ true → are_filed es l.place l.keys ≡ true → are_filed fs l.place (keys_of s) ≡ true) → (not (c && d) || are_filed fs l.place (keys_of s)) ≡ true
+      in_order false d h back = refl
+      in_order true false h back = refl
+      in_order true true h back = back refl h
+
+  pub settled : (complete filed : Bool) (l : Lent) (ss : List X) (es fs : List Entry) (ws us : List ℕ) → IsIndexed keys_of complete (Some l) ss es ws → KeepsOthers l.place es fs → (filed ≡ true → are_filed es l.place l.keys ≡ true → is_filed keys_of fs l.place (slice_get ss l.place) ≡ true) → KeepsMarks l.place ws us → (is_noted ws l.place l.keys.free ≡ true → is_noted_of keys_of us l.place (slice_get ss l.place) ≡ true) → IsIndexed keys_of (complete && filed) None ss fs us
+  settled complete filed l ss es fs ws us before keep back marks noted = λ k. by k (nat_eq k l.place) refl (before k)
+    where
+      by : (k : ℕ) (b : Bool) → nat_eq k l.place ≡ b → (if b then is_kept complete es ws k l.keys else is_kept_of keys_of complete es ws k (slice_get ss k)) ≡ true → is_kept_of keys_of (complete && filed) fs us k (slice_get ss k) ≡ true
       by k true e h =
           let same : l.place ≡ k = grind (arith, e) in
-          subst (λ j. is_filed keys_of fs j (slice_get ss j) ≡ true) same (back refl (subst (λ j. are_filed es j l.keys ≡ true) (sym same) h))
-      by k false e h = slot_kept l.place es fs k keep e (slice_get ss k) h
+          subst (λ j. is_kept_of keys_of (complete && filed) fs us j (slice_get ss j) ≡ true) same (comes_back complete filed l es fs ws us (slice_get ss l.place) (subst (λ j. is_kept complete es ws j l.keys ≡ true) (sym same) h) back noted)
+      by k false e h = slot_kept l.place es fs ws us k complete filed keep marks e (slice_get ss k) h
+
+  -- a place that is lent has a mark
+  pub lent_room : (complete : Bool) (lent : Option Lent) (l : Lent) (ss : List X) (es : List Entry) (ws : List ℕ) → lent ≡ Some l → IsIndexed keys_of complete lent ss es ws → l.place / 64 < length ws
+  lent_room complete lent l ss es ws is h =
+      let here : (if nat_eq l.place l.place then is_kept complete es ws l.place l.keys else is_kept_of keys_of complete es ws l.place (slice_get ss l.place)) ≡ true = subst (λ o. IsIndexed keys_of complete o ss es ws) is h l.place in
+      let same : nat_eq l.place l.place ≡ true = grind arith in
+      let kept : is_kept complete es ws l.place l.keys ≡ true = subst (λ b. (if b then is_kept complete es ws l.place l.keys else is_kept_of keys_of complete es ws l.place (slice_get ss l.place)) ≡ true) same here in
+      let noted : is_noted ws l.place l.keys.free ≡ true = (and_parts (not complete || are_filed es l.place l.keys) (is_noted ws l.place l.keys.free) kept).1 in
+      let room : nat_lt (l.place / 64) (length ws) ≡ true = (and_parts (nat_lt (l.place / 64) (length ws)) (not l.keys.free || nat_eq (bit_of ws l.place) 1) noted).0 in
+      grind (arith, room)
 
   -- ---- a place is lent
 
-  pub lent_one : (complete : Bool) (i : ℕ) (s : X) (ss : List X) (es : List Entry) → slice_get ss i ≡ Some s → IsIndexed keys_of complete None ss es → IsIndexed keys_of complete (Some (record { place = i; keys = keys_of s })) ss es
-  lent_one false i s ss es is h = λ k. refl
-  lent_one true i s ss es is h = λ k. by k (nat_eq k i) refl
+  pub lent_one : (complete : Bool) (i : ℕ) (s : X) (ss : List X) (es : List Entry) (ws : List ℕ) → slice_get ss i ≡ Some s → IsIndexed keys_of complete None ss es ws → IsIndexed keys_of complete (Some (record { place = i; keys = keys_of s })) ss es ws
+  lent_one complete i s ss es ws is h = λ k. by k (nat_eq k i) refl
     where
-      by : (k : ℕ) (b : Bool) → nat_eq k i ≡ b → (if b then are_filed es k (keys_of s) else is_filed keys_of es k (slice_get ss k)) ≡ true
+      by : (k : ℕ) (b : Bool) → nat_eq k i ≡ b → (if b then is_kept complete es ws k (keys_of s) else is_kept_of keys_of complete es ws k (slice_get ss k)) ≡ true
       by k true e =
           let same : k ≡ i = grind (arith, e) in
           let at : slice_get ss k ≡ Some s = ap (slice_get ss) same ∙ is in
-          subst (λ o. is_filed keys_of es k o ≡ true) at (h k)
+          subst (λ o. is_kept_of keys_of complete es ws k o ≡ true) at (h k)
       by k false e = h k
 
-  pub lent_changes : (complete : Bool) (l : Lent) (ss : List X) (es : List Entry) (w : X) → IsIndexed keys_of complete (Some l) ss es → IsIndexed keys_of complete (Some l) (slice_set ss l.place w) es
-  lent_changes false l ss es w h = λ k. refl
-  lent_changes true l ss es w h = λ k. by k (nat_eq k l.place) refl (h k)
+  pub lent_changes : (complete : Bool) (l : Lent) (ss : List X) (es : List Entry) (ws : List ℕ) (w : X) → IsIndexed keys_of complete (Some l) ss es ws → IsIndexed keys_of complete (Some l) (slice_set ss l.place w) es ws
+  lent_changes complete l ss es ws w h = λ k. by k (nat_eq k l.place) refl (h k)
     where
-      by : (k : ℕ) (b : Bool) → nat_eq k l.place ≡ b → (if b then are_filed es k l.keys else is_filed keys_of es k (slice_get ss k)) ≡ true → (if b then are_filed es k l.keys else is_filed keys_of es k (slice_get (slice_set ss l.place w) k)) ≡ true
+      by : (k : ℕ) (b : Bool) → nat_eq k l.place ≡ b → (if b then is_kept complete es ws k l.keys else is_kept_of keys_of complete es ws k (slice_get ss k)) ≡ true → (if b then is_kept complete es ws k l.keys else is_kept_of keys_of complete es ws k (slice_get (slice_set ss l.place w) k)) ≡ true
       by k true e x = x
-      by k false e x = subst (λ o. is_filed keys_of es k o ≡ true) (sym (elsewhere ss l.place k w e)) x
+      by k false e x = subst (λ o. is_kept_of keys_of complete es ws k o ≡ true) (sym (elsewhere ss l.place k w e)) x
 
   -- ---- all places change, but for their keys
 
-  same_at : (es : List Entry) (k : ℕ) (a b : Option X) → Both (λ before after. keys_of after ≡ keys_of before) a b → is_filed keys_of es k a ≡ true → is_filed keys_of es k b ≡ true
-  same_at es k None None h f = refl
-  same_at es k None (Some t) h f = absurd h
-  same_at es k (Some s) None h f = absurd h
-  same_at es k (Some s) (Some t) h f = subst (λ q. are_filed es k q ≡ true) (sym h) f
+  same_at : (complete : Bool) (es : List Entry) (ws : List ℕ) (k : ℕ) (a b : Option X) → Both (λ before after. keys_of after ≡ keys_of before) a b → is_kept_of keys_of complete es ws k a ≡ true → is_kept_of keys_of complete es ws k b ≡ true
+  same_at complete es ws k None None h f = refl
+  same_at complete es ws k None (Some t) h f = absurd h
+  same_at complete es ws k (Some s) None h f = absurd h
+  same_at complete es ws k (Some s) (Some t) h f = subst (λ q. is_kept complete es ws k q ≡ true) (sym h) f
 
-  pub all_same : (complete : Bool) (lent : Option Lent) (ss ts : List X) (es : List Entry) → ChangesEach (λ before after. keys_of after ≡ keys_of before) ss ts → IsIndexed keys_of complete lent ss es → IsIndexed keys_of complete lent ts es
-  all_same false lent ss ts es same h = λ k. refl
-  all_same true None ss ts es same h = λ k. same_at es k (slice_get ss k) (slice_get ts k) (same k) (h k)
-  all_same true (Some l) ss ts es same h = λ k. by k (nat_eq k l.place) (h k)
+  pub all_same : (complete : Bool) (lent : Option Lent) (ss ts : List X) (es : List Entry) (ws : List ℕ) → ChangesEach (λ before after. keys_of after ≡ keys_of before) ss ts → IsIndexed keys_of complete lent ss es ws → IsIndexed keys_of complete lent ts es ws
+  all_same complete None ss ts es ws same h = λ k. same_at complete es ws k (slice_get ss k) (slice_get ts k) (same k) (h k)
+  all_same complete (Some l) ss ts es ws same h = λ k. by k (nat_eq k l.place) (h k)
     where
-      by : (k : ℕ) (b : Bool) → (if b then are_filed es k l.keys else is_filed keys_of es k (slice_get ss k)) ≡ true → (if b then are_filed es k l.keys else is_filed keys_of es k (slice_get ts k)) ≡ true
+      by : (k : ℕ) (b : Bool) → (if b then is_kept complete es ws k l.keys else is_kept_of keys_of complete es ws k (slice_get ss k)) ≡ true → (if b then is_kept complete es ws k l.keys else is_kept_of keys_of complete es ws k (slice_get ts k)) ≡ true
       by k true x = x
-      by k false x = same_at es k (slice_get ss k) (slice_get ts k) (same k) x
+      by k false x = same_at complete es ws k (slice_get ss k) (slice_get ts k) (same k) x
 
-  pub lent_at_place : (complete : Bool) (lent : Option Lent) (i : ℕ) (ss : List X) (es : List Entry) → lent ≡ None → IsIndexed keys_of complete lent ss es → IsIndexed keys_of complete (lent_of keys_of i (slice_get ss i)) ss es
-  lent_at_place complete lent i ss es none h = go (slice_get ss i) refl
+  pub lent_at_place : (complete : Bool) (lent : Option Lent) (i : ℕ) (ss : List X) (es : List Entry) (ws : List ℕ) → lent ≡ None → IsIndexed keys_of complete lent ss es ws → IsIndexed keys_of complete (lent_of keys_of i (slice_get ss i)) ss es ws
+  lent_at_place complete lent i ss es ws none h = go (slice_get ss i) refl
     where
-      before : IsIndexed keys_of complete None ss es
-      before = subst (λ l. IsIndexed keys_of complete l ss es) none h
+      before : IsIndexed keys_of complete None ss es ws
+      before = subst (λ l. IsIndexed keys_of complete l ss es ws) none h
 
-      go : (o : Option X) → slice_get ss i ≡ o → IsIndexed keys_of complete (lent_of keys_of i o) ss es
+      go : (o : Option X) → slice_get ss i ≡ o → IsIndexed keys_of complete (lent_of keys_of i o) ss es ws
       go None e = before
-      go (Some s) e = lent_one complete i s ss es e before
+      go (Some s) e = lent_one complete i s ss es ws e before
 
   -- ---- the place that is lent changes
 
@@ -159,16 +193,16 @@ module _ {X : Type 0} (keys_of : X → Keys) where
   lent_there i None = refl
   lent_there i (Some s) = refl
 
-  pub lent_writes : (complete : Bool) (lent : Option Lent) (ss : List X) (es : List Entry) (i : ℕ) (w : X) → IsLentAt i (slice_get ss i) lent → IsIndexed keys_of complete lent ss es → IsIndexed keys_of complete lent (slice_set ss i w) es
-  lent_writes complete None ss es i w none h = subst (λ us. IsIndexed keys_of complete None us es) (sym (set_none ss i w none)) h
-  lent_writes complete (Some l) ss es i w at h = subst (λ j. IsIndexed keys_of complete (Some l) (slice_set ss j w) es) at (lent_changes complete l ss es w h)
+  pub lent_writes : (complete : Bool) (lent : Option Lent) (ss : List X) (es : List Entry) (ws : List ℕ) (i : ℕ) (w : X) → IsLentAt i (slice_get ss i) lent → IsIndexed keys_of complete lent ss es ws → IsIndexed keys_of complete lent (slice_set ss i w) es ws
+  lent_writes complete None ss es ws i w none h = subst (λ us. IsIndexed keys_of complete None us es ws) (sym (set_none ss i w none)) h
+  lent_writes complete (Some l) ss es ws i w at h = subst (λ j. IsIndexed keys_of complete (Some l) (slice_set ss j w) es ws) at (lent_changes complete l ss es ws w h)
 
-  pub lent_changed : (R : X → X → Type 0) (complete : Bool) (lent : Option Lent) (ss ts : List X) (es : List Entry) (i : ℕ) → IsLentAt i (slice_get ss i) lent → IsIndexed keys_of complete lent ss es → ChangesAt R ss i ts → IsIndexed keys_of complete lent ts es
-  lent_changed R complete lent ss ts es i is h c = subst (λ us. IsIndexed keys_of complete lent us es) (sym c.now) (lent_writes complete lent ss es i c.after is h)
+  pub lent_changed : (R : X → X → Type 0) (complete : Bool) (lent : Option Lent) (ss ts : List X) (es : List Entry) (ws : List ℕ) (i : ℕ) → IsLentAt i (slice_get ss i) lent → IsIndexed keys_of complete lent ss es ws → ChangesAt R ss i ts → IsIndexed keys_of complete lent ts es ws
+  lent_changed R complete lent ss ts es ws i is h c = subst (λ us. IsIndexed keys_of complete lent us es ws) (sym c.now) (lent_writes complete lent ss es ws i c.after is h)
 
-  pub lent_changed_if : {Y : Type 0} (r : Option Y) (R : Y → X → X → Type 0) (complete : Bool) (lent : Option Lent) (ss ts : List X) (es : List Entry) (i : ℕ) → IsLentAt i (slice_get ss i) lent → IsIndexed keys_of complete lent ss es → IfSome r (λ y. ChangesAt (R y) ss i ts) → IfNone r (ts ≡ ss) → IsIndexed keys_of complete lent ts es
-  lent_changed_if None R complete lent ss ts es i is h c same = subst (λ us. IsIndexed keys_of complete lent us es) (sym same) h
-  lent_changed_if (Some y) R complete lent ss ts es i is h c same = lent_changed (R y) complete lent ss ts es i is h c
+  pub lent_changed_if : {Y : Type 0} (r : Option Y) (R : Y → X → X → Type 0) (complete : Bool) (lent : Option Lent) (ss ts : List X) (es : List Entry) (ws : List ℕ) (i : ℕ) → IsLentAt i (slice_get ss i) lent → IsIndexed keys_of complete lent ss es ws → IfSome r (λ y. ChangesAt (R y) ss i ts) → IfNone r (ts ≡ ss) → IsIndexed keys_of complete lent ts es ws
+  lent_changed_if None R complete lent ss ts es ws i is h c same = subst (λ us. IsIndexed keys_of complete lent us es ws) (sym same) h
+  lent_changed_if (Some y) R complete lent ss ts es ws i is h c same = lent_changed (R y) complete lent ss ts es ws i is h c
 
   -- one place changes, but for its keys
   one_same : (ss : List X) (i k : ℕ) (b a : X) → slice_get ss i ≡ Some b → keys_of a ≡ keys_of b → Both (λ before after. keys_of after ≡ keys_of before) (slice_get ss k) (slice_get (slice_set ss i a) k)
@@ -192,12 +226,12 @@ module _ {X : Type 0} (keys_of : X → Keys) where
           here (x ∷ xs) (suc j) b a is same = here xs j b a is same
       by false e = subst (λ o. Both (λ before after. keys_of after ≡ keys_of before) (slice_get ss k) o) (sym (elsewhere ss i k a e)) (itself (slice_get ss k))
 
-  pub keeps_keys : (R : X → X → Type 0) (complete : Bool) (lent : Option Lent) (ss ts : List X) (es : List Entry) (i : ℕ) → ((b a : X) → R b a → keys_of a ≡ keys_of b) → ChangesAt R ss i ts → IsIndexed keys_of complete lent ss es → IsIndexed keys_of complete lent ts es
-  keeps_keys R complete lent ss ts es i same c h =
-      subst (λ us. IsIndexed keys_of complete lent us es) (sym c.now) (all_same complete lent ss (slice_set ss i c.after) es (λ k. one_same ss i k c.before c.after c.was (same c.before c.after c.changed)) h)
+  pub keeps_keys : (R : X → X → Type 0) (complete : Bool) (lent : Option Lent) (ss ts : List X) (es : List Entry) (ws : List ℕ) (i : ℕ) → ((b a : X) → R b a → keys_of a ≡ keys_of b) → ChangesAt R ss i ts → IsIndexed keys_of complete lent ss es ws → IsIndexed keys_of complete lent ts es ws
+  keeps_keys R complete lent ss ts es ws i same c h =
+      subst (λ us. IsIndexed keys_of complete lent us es ws) (sym c.now) (all_same complete lent ss (slice_set ss i c.after) es ws (λ k. one_same ss i k c.before c.after c.was (same c.before c.after c.changed)) h)
 
-  pub each_keeps : (R : X → X → Type 0) (complete : Bool) (lent : Option Lent) (ss ts : List X) (es : List Entry) → ((b a : X) → R b a → keys_of a ≡ keys_of b) → ChangesEach R ss ts → IsIndexed keys_of complete lent ss es → IsIndexed keys_of complete lent ts es
-  each_keeps R complete lent ss ts es same c h = all_same complete lent ss ts es (λ k. weaken (slice_get ss k) (slice_get ts k) (c k)) h
+  pub each_keeps : (R : X → X → Type 0) (complete : Bool) (lent : Option Lent) (ss ts : List X) (es : List Entry) (ws : List ℕ) → ((b a : X) → R b a → keys_of a ≡ keys_of b) → ChangesEach R ss ts → IsIndexed keys_of complete lent ss es ws → IsIndexed keys_of complete lent ts es ws
+  each_keeps R complete lent ss ts es ws same c h = all_same complete lent ss ts es ws (λ k. weaken (slice_get ss k) (slice_get ts k) (c k)) h
     where
       weaken : (a b : Option X) → Both R a b → Both (λ before after. keys_of after ≡ keys_of before) a b
       weaken None None h = tt
@@ -205,16 +239,24 @@ module _ {X : Type 0} (keys_of : X → Keys) where
       weaken (Some s) None h = absurd h
       weaken (Some s) (Some t) h = same s t h
 
-  -- ---- places without keys
+  -- ---- places where nothing is
 
-  nothing_filed : (es : List Entry) (k : ℕ) (o : Option X) → IfSome o (λ x. keys_of x ≡ no_keys) → is_filed keys_of es k o ≡ true
-  nothing_filed es k None h = refl
-  nothing_filed es k (Some x) h = subst (λ q. are_filed es k q ≡ true) (sym h) refl
+  nothing_kept : (es : List Entry) (ws : List ℕ) (k : ℕ) (o : Option X) → is_noted ws k true ≡ true → IfSome o (λ x. keys_of x ≡ no_keys) → is_kept_of keys_of true es ws k o ≡ true
+  nothing_kept es ws k None noted h = refl
+  nothing_kept es ws k (Some x) noted h = subst (λ q. is_kept true es ws k q ≡ true) (sym h) noted
 
-  pub nothing_indexed : (ss : List X) (es : List Entry) → All (λ x. keys_of x ≡ no_keys) ss → IsIndexed keys_of true None ss es
-  nothing_indexed ss es h = λ k. nothing_filed es k (slice_get ss k) (all_at (λ x. keys_of x ≡ no_keys) ss k h)
+  pub nothing_indexed : (ss : List X) (es : List Entry) (ws : List ℕ) → All (λ x. keys_of x ≡ no_keys) ss → ((k : ℕ) → k < length ss → is_noted ws k true ≡ true) → IsIndexed keys_of true None ss es ws
+  nothing_indexed ss es ws h noted = λ k. go k (slice_get ss k) refl (all_at (λ x. keys_of x ≡ no_keys) ss k h)
+    where
+      go : (k : ℕ) (o : Option X) → slice_get ss k ≡ o → IfSome o (λ x. keys_of x ≡ no_keys) → is_kept_of keys_of true es ws k o ≡ true
+      go k None e f = refl
+      go k (Some x) e f = nothing_kept es ws k (Some x) (noted k (slice_get_within ss k x e)) f
 
-  pub all_filed : (complete : Bool) (lent : Option Lent) (ss : List X) (es : List Entry) → complete ≡ true → lent ≡ None → IsIndexed keys_of complete lent ss es → (k : ℕ) → is_filed keys_of es k (slice_get ss k) ≡ true
-  all_filed false lent ss es c none h = absurd (false_not_true c)
-  all_filed true None ss es c none h = h
-  all_filed true (Some l) ss es c none h = cc
+  pub all_filed : (complete : Bool) (lent : Option Lent) (ss : List X) (es : List Entry) (ws : List ℕ) → complete ≡ true → lent ≡ None → IsIndexed keys_of complete lent ss es ws → (k : ℕ) → is_filed keys_of es k (slice_get ss k) ≡ true
+  all_filed false lent ss es ws c none h = absurd (false_not_true c)
+  all_filed true None ss es ws c none h = λ k. go k (slice_get ss k) (h k)
+    where
+      go : (k : ℕ) (o : Option X) → is_kept_of keys_of true es ws k o ≡ true → is_filed keys_of es k o ≡ true
+      go k None f = refl
+      go k (Some x) f = (and_parts (are_filed es k (keys_of x)) (is_noted ws k (keys_of x).free) f).0
+  all_filed true (Some l) ss es ws c none h = cc

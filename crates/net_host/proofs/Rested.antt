@@ -10,9 +10,10 @@ use Rattle.sock_tcp.specs.declared.state.State.{State}
 use Rattle.sock_tcp.specs.declared.state.State.TheVariants as state
 use Rattle.smoltcp_socket.specs.declared.socket.Socket.{Socket}
 use Rattle.smoltcp_socket.specs.declared.socket.Socket.TheVariants as socket
-use Rattle.net_host.specs.declared.index.Entry.{Entry}
+use Rattle.host_index.specs.declared.entry.Entry.{Entry}
 use Rattle.net_host.specs.declared.slot.Slot.{Slot}
-use Rattle.net_host.specs.Entries.{FindsEarliestListed, IsListedOf, entry_at, has, is_ordered, order_of, ordered}
+use Rattle.host_index.specs.Entries.{entry_at, has}
+use Rattle.net_host.specs.Entries.{FindsEarliestListed, IsListedOf, is_ordered, order_of, ordered}
 use Rattle.std.proofs.lemmas.Option.{slice_get_within}
 use Rattle.net_host.specs.Finding.{RestsAt, with_minor}
 use Rattle.net_host.specs.Filing.{keys_in, keys_of, rest_by, rest_major, second_by, server_key}

@@ -2,10 +2,11 @@
 use Rattle.std.proofs.Common.{◌≡◌, ◌∙◌, ℕ, ◌+◌, ◌^◌, ◌<◌, ◌≤◌, List, length, get_or, Bool, true, false, nat_lt, nat_eq, Option, Some, None, refl, sym, subst, ap, arith}
 use Rattle.std.specs.Prelude.{IfSome, slice_get}
 use Rattle.std.proofs.lemmas.Option.{slice_get_past, slice_get_within}
-use Rattle.net_host.specs.declared.index.Entry.{Entry}
-use Rattle.net_host.specs.Entries.{FindsListed, IsFirstListed, IsSortedByRank, Splits, entry_at, has, nothing, rank, rank_at}
+use Rattle.host_index.specs.declared.entry.Entry.{Entry}
+use Rattle.host_index.specs.Entries.{IsSortedByRank, Splits, entry_at, has, nothing, rank, rank_at}
+use Rattle.net_host.specs.Entries.{FindsListed, IsFirstListed}
 use Rattle.net_host.specs.Walks.{IsAt}
-use Rattle.net_host.proofs.Ordered.{IsIn, find_in}
+use Rattle.host_index.proofs.Entered.{IsIn, find_in}
 
 pub weaker : {X : Type 0} (P Q : X → Type 0) (o : Option X) → ((y : X) → P y → Q y) → IfSome o P → IfSome o Q
 weaker P Q None f h = tt

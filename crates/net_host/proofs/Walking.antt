@@ -17,7 +17,7 @@ use Rattle.net_host.specs.Sleeping.{AreAsleep, is_marked, sleeps_at}
 use Rattle.net_host.specs.Speaking.{Due}
 use Rattle.net_host.specs.Turns.{Watches, WatchesIn, is_due}
 use Rattle.net_host.specs.Walks.{Both, ChangesAt, ChangesEach, FindsIn, IsNext, Nowhere}
-use Rattle.net_host.specs.declared.guard.Guard.{Guard}
+use Rattle.net_host.specs.Remembered.{Remembered as Guard}
 use Rattle.net_host.specs.declared.guard.GuardSettings.{GuardSettings}
 use Rattle.net_host.specs.declared.slot.Slot.{Slot}
 use Rattle.net_host.specs.declared.terms.Terms.{Terms}

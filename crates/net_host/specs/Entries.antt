@@ -3,46 +3,8 @@ use Rattle.std.specs.Prelude.{ℕ, ◌≡◌, ◌<◌, ◌≤◌, ◌+◌, ◌*�
 use Rattle.std.specs.Prelude.{int_le, pos, negsuc, ◌+ℤ◌, ◌≤ℤ◌, ◌<ℤ◌, List, length, [], ◌∷◌, get_or, Option, Some, None}
 use Rattle.std.specs.Prelude.{IfSome, slice_get, if◌then◌else◌}
 use Rattle.net_base.specs.declared.time.Instant.{Instant}
-use Rattle.net_host.specs.declared.index.Entry.{Entry}
-
-abbrev pub nothing : Entry
-nothing = record { major = 0; minor = 0; place = 0 }
-
--- their order
-abbrev pub rank : Entry → ℕ
-rank e = (e.major * 2 ^ 64 + e.minor) * 2 ^ 64 + e.place
-
-abbrev pub rank_at : List Entry → ℕ → ℕ
-rank_at es k = rank (get_or es k (nothing))
-
-abbrev pub IsSortedByRank : List Entry → Type 0
-IsSortedByRank es = (i j : ℕ) → i < j → j < length es → rank_at es i ≤ rank_at es j
-
-abbrev pub is_entry : Entry → Entry → Bool
-is_entry a b = nat_eq a.major b.major && (nat_eq a.minor b.minor && nat_eq a.place b.place)
-
--- whether it is among them
-unfoldable pub has : List Entry → Entry → Bool
-has [] x = false
-has (e ∷ es) x = is_entry e x || has es x
-
--- where entries of a rank would begin
-pub record Splits (es : List Entry) (n : ℕ) (p : ℕ) : Type 0 where
-  pub within : p ≤ length es
-  pub below : (k : ℕ) → k < p → rank_at es k < n
-  pub above : (k : ℕ) → p ≤ k → k < length es → n ≤ rank_at es k
-
--- what was among them still is
-abbrev pub Keeps : List Entry → List Entry → Type 0
-Keeps es fs = (x : Entry) → has es x ≡ true → has fs x ≡ true
-
--- but for this one
-abbrev pub KeepsBut : Entry → List Entry → List Entry → Type 0
-KeepsBut e es fs = (x : Entry) → is_entry e x ≡ false → has es x ≡ true → has fs x ≡ true
-
--- the entry of a place under the key of another
-abbrev pub entry_at : Entry → ℕ → Entry
-entry_at key k = record { major = key.major; minor = key.minor; place = k }
+use Rattle.host_index.specs.Entries.{entry_at, has}
+use Rattle.host_index.specs.declared.entry.Entry.{Entry}
 
 -- ---- a walk through the entries under a key
 
@@ -56,6 +18,19 @@ pub record IsFirstListed {X : Type 0} (P : X → Type 0) (xs : List X) (es : Lis
 abbrev pub FindsListed : {X : Type 0} → (X → Type 0) → List X → List Entry → Entry → Option ℕ → Type 0
 FindsListed P xs es key None = (k : ℕ) → has es (entry_at key k) ≡ true → IfSome (slice_get xs k) (λ x. P x → ⊥)
 FindsListed P xs es key (Some i) = IsFirstListed P xs es key i
+
+-- ---- the places under a key, one after the other
+
+-- the first place from one on, and before another, that has an entry under the key
+pub record IsNextUnder (es : List Entry) (key : Entry) (start end i : ℕ) : Type 0 where
+  pub behind : start ≤ i
+  pub within : i < end
+  pub listed : has es (entry_at key i) ≡ true
+  pub before : (k : ℕ) → start ≤ k → k < i → has es (entry_at key k) ≡ true → ⊥
+
+abbrev pub FindsUnder : List Entry → Entry → (start end : ℕ) → Option ℕ → Type 0
+FindsUnder es key start end None = (k : ℕ) → start ≤ k → k < end → has es (entry_at key k) ≡ true → ⊥
+FindsUnder es key start end (Some i) = IsNextUnder es key start end i
 
 -- ---- a walk through the entries of one major, by moments
 

@@ -1,5 +1,5 @@
 -- Under which keys the socket of a place is filed.
-use Rattle.std.specs.Prelude.{ℕ, ◌+◌, ◌*◌, Option, Some, None}
+use Rattle.std.specs.Prelude.{ℕ, ◌+◌, ◌*◌, false, Option, Some, None}
 use Rattle.std.specs.Int.{from_be_bytes, w32, w128}
 use Rattle.ip_wire.specs.declared.address.IpAddress.{IpAddress}
 use Rattle.ip_wire.specs.declared.address.IpAddress.TheVariants as address
@@ -16,7 +16,7 @@ use Rattle.net_host.specs.Indexing.{no_keys}
 use Rattle.net_host.specs.declared.key.Key.{Key}
 use Rattle.net_host.specs.declared.key.Key.TheVariants as key
 use Rattle.net_host.specs.declared.key.Keys.{Keys}
-use Rattle.net_host.specs.declared.index.Entry.{Entry}
+use Rattle.host_index.specs.declared.entry.Entry.{Entry}
 use Rattle.net_host.specs.declared.slot.Slot.{Slot}
 
 -- ---- keys
@@ -38,7 +38,7 @@ abbrev pub listener_key : ℕ → Entry
 listener_key port = record { major = 0; minor = port; place = 0 }
 
 abbrev pub server_key : ℕ → Entry
-server_key port = record { major = 1; minor = port; place = 0 }
+server_key port = record { major = 65536; minor = port; place = 0 }
 
 -- of raw sockets, which is the least, and of ICMP sockets
 abbrev pub raw_key : Entry
@@ -83,10 +83,11 @@ abbrev pub keys_by : View → Keys
 keys_by v = record {
   first = first_by v.state v.tuple v.listen_endpoint.port;
   second = second_by v.state (close_end v.timer) v.listen_endpoint.port;
+  free = false;
 }
 
 abbrev pub one_key : Entry → Keys
-one_key e = record { first = key.Under e; second = key.Nothing }
+one_key e = record { first = key.Under e; second = key.Nothing; free = false }
 
 abbrev pub keys_in : {G : Type 0} → Option (Socket G) → Keys
 keys_in (Some (socket.Tcp x)) = keys_by x.control_block

@@ -1,6 +1,6 @@
 -- What is looked for in an index, for a segment.
 use Rattle.std.specs.Prelude.{ℕ, ◌≡◌, ◌+◌, ◌*◌, ◌<◌, true, false, List, length, Option, Some, None, IfSome, slice_get}
-use Rattle.std.specs.Prelude.{⊤, ◌==◌, if◌then◌else◌}
+use Rattle.std.specs.Prelude.{◌==◌, if◌then◌else◌}
 use Rattle.ip_wire.specs.IpHeader.{src_addr_of}
 use Rattle.ip_wire.specs.declared.repr.IpRepr.{IpRepr}
 use Rattle.net_base.specs.declared.time.Instant.{Instant}
@@ -11,7 +11,7 @@ use Rattle.net_host.specs.Resting.{RestsUntil, Serves}
 use Rattle.net_host.specs.Segments.{TakesSegment}
 use Rattle.net_host.specs.declared.find.Sought.{Sought}
 use Rattle.net_host.specs.declared.find.Sought.TheVariants as sought
-use Rattle.net_host.specs.declared.index.Entry.{Entry}
+use Rattle.host_index.specs.declared.entry.Entry.{Entry}
 use Rattle.net_host.specs.declared.slot.Slot.{Slot}
 
 abbrev pub Fits : {G : Type 0} → Sought → IpRepr → Segment → Slot G → Type 0
@@ -44,7 +44,3 @@ RestsAt ip s ss e None =
     (u : Instant) → is_ordered u ≡ true → e.minor ≡ order_of u
     → IfSome (slice_get ss e.place) (λ x. RestsUntil ip s u x → ⊥)
 RestsAt ip s ss e (Some t) = RestsSo ip s ss e t
-
--- of any socket
-abbrev pub IsThere : {G : Type 0} → Slot G → Type 0
-IsThere s = ⊤

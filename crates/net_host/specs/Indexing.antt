@@ -1,15 +1,17 @@
 -- Places that are filed in an index under their keys.
-use Rattle.std.specs.Prelude.{ℕ, ◌≡◌, ◌&&◌, ◌||◌, not, nat_eq, Bool, true, false, List, Option, Some, None, slice_get}
-use Rattle.std.specs.Prelude.{if◌then◌else◌}
-use Rattle.net_host.specs.Entries.{entry_at, has, is_entry}
-use Rattle.net_host.specs.declared.index.Entry.{Entry}
+use Rattle.std.specs.Prelude.{ℕ, ◌≡◌, ◌/◌, ◌<◌, ◌&&◌, ◌||◌, not, nat_eq, nat_lt, Bool, true, false, List, length, Option}
+use Rattle.std.specs.Prelude.{Some, None, slice_get, if◌then◌else◌}
+use Rattle.host_bounds.specs.Marking.{bit_of}
+use Rattle.host_index.specs.Entries.{entry_at, has, is_entry}
+use Rattle.host_index.specs.declared.entry.Entry.{Entry}
 use Rattle.net_host.specs.declared.key.Key.{Key}
 use Rattle.net_host.specs.declared.key.Key.TheVariants as key
 use Rattle.net_host.specs.declared.key.Keys.{Keys}
 use Rattle.net_host.specs.declared.key.Lent.{Lent}
 
+-- of a place where nothing is
 abbrev pub no_keys : Keys
-no_keys = record { first = key.Nothing; second = key.Nothing }
+no_keys = record { first = key.Nothing; second = key.Nothing; free = true }
 
 -- ---- what is filed
 
@@ -24,6 +26,10 @@ are_filed es k keys = is_under es k keys.first && is_under es k keys.second
 abbrev pub is_filed : {X : Type 0} → (X → Keys) → List Entry → ℕ → Option X → Bool
 is_filed keys_of es k None = true
 is_filed keys_of es k (Some s) = are_filed es k (keys_of s)
+
+-- each place is filed under its keys
+abbrev pub AreFiled : {X : Type 0} → (X → Keys) → List X → List Entry → Type 0
+AreFiled keys_of ss es = (k : ℕ) → is_filed keys_of es k (slice_get ss k) ≡ true
 
 -- ---- filing
 
@@ -46,12 +52,39 @@ abbrev pub IsLentAt : {X : Type 0} → ℕ → Option X → Option Lent → Type
 IsLentAt i o None = o ≡ None
 IsLentAt i o (Some l) = l.place ≡ i
 
--- a place that was lent is filed as it was before
-abbrev pub is_filed_at : {X : Type 0} → (X → Keys) → Option Lent → List X → List Entry → ℕ → Bool
-is_filed_at keys_of None ss es k = is_filed keys_of es k (slice_get ss k)
-is_filed_at keys_of (Some l) ss es k =
-    if nat_eq k l.place then are_filed es k l.keys else is_filed keys_of es k (slice_get ss k)
+-- ---- marks
 
--- each place is filed under its keys, where the index is complete
-abbrev pub IsIndexed : {X : Type 0} → (X → Keys) → Bool → Option Lent → List X → List Entry → Type 0
-IsIndexed keys_of complete lent ss es = (k : ℕ) → (not complete || is_filed_at keys_of lent ss es k) ≡ true
+-- a place with a mark, which is on where nothing is there
+abbrev pub is_noted : List ℕ → ℕ → Bool → Bool
+is_noted ws k free = nat_lt (k / 64) (length ws) && (not free || nat_eq (bit_of ws k) 1)
+
+abbrev pub is_noted_of : {X : Type 0} → (X → Keys) → List ℕ → ℕ → Option X → Bool
+is_noted_of keys_of ws k None = true
+is_noted_of keys_of ws k (Some s) = is_noted ws k (keys_of s).free
+
+-- the marks of other places are as they were
+pub record KeepsMarks (place : ℕ) (ws us : List ℕ) : Type 0 where
+  pub len : length us ≡ length ws
+  pub others : (k : ℕ) → nat_eq k place ≡ false → bit_of us k ≡ bit_of ws k
+
+-- ---- all places
+
+-- of a place with these keys: it is filed under them, where the index is complete, and noted
+abbrev pub is_kept : Bool → List Entry → List ℕ → ℕ → Keys → Bool
+is_kept complete es ws k keys = (not complete || are_filed es k keys) && is_noted ws k keys.free
+
+abbrev pub is_kept_of : {X : Type 0} → (X → Keys) → Bool → List Entry → List ℕ → ℕ → Option X → Bool
+is_kept_of keys_of complete es ws k None = true
+is_kept_of keys_of complete es ws k (Some s) = is_kept complete es ws k (keys_of s)
+
+-- the same, of a place that was lent with the keys that it had before
+abbrev pub is_kept_at : {X : Type 0} → (X → Keys) → Bool → Option Lent → List X → List Entry → List ℕ → ℕ → Bool
+is_kept_at keys_of complete None ss es ws k = is_kept_of keys_of complete es ws k (slice_get ss k)
+is_kept_at keys_of complete (Some l) ss es ws k =
+    if nat_eq k l.place
+    then is_kept complete es ws k l.keys
+    else is_kept_of keys_of complete es ws k (slice_get ss k)
+
+-- each place
+abbrev pub IsIndexed : {X : Type 0} → (X → Keys) → Bool → Option Lent → List X → List Entry → List ℕ → Type 0
+IsIndexed keys_of complete lent ss es ws = (k : ℕ) → is_kept_at keys_of complete lent ss es ws k ≡ true

@@ -20,6 +20,7 @@ pub mod Passing
 pub mod Polling
 pub mod RawCopies
 pub mod Receiving
+pub mod Remembered
 pub mod Resting
 pub mod Segments
 pub mod SheetOf

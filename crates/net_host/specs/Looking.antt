@@ -18,7 +18,7 @@ use Rattle.net_host.specs.Addresses.{no_address_v6}
 use Rattle.net_host.specs.Guards.{end_of, lawful_limit, limit_of, phase_of}
 use Rattle.net_host.specs.Turns.{Watches, asked_of, is_due}
 use Rattle.net_host.specs.Walks.{Both, ChangesEach, FindsIn, FindsNext}
-use Rattle.net_host.specs.declared.guard.Guard.{Guard}
+use Rattle.net_host.specs.Remembered.{Remembered as Guard}
 use Rattle.net_host.specs.declared.guard.GuardSettings.{GuardSettings}
 use Rattle.net_host.specs.declared.guard.Phase.{Phase}
 use Rattle.net_host.specs.declared.guard.Phase.TheVariants as phase

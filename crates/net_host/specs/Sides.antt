@@ -1,9 +1,9 @@
 -- Where an entry stands, seen from those under a key.
 use Rattle.std.specs.Prelude.{ℕ, ◌≡◌, ◌*◌, ◌<◌, ◌≤◌, ◌+◌, ◌^◌}
-use Rattle.net_host.specs.declared.index.Entry.{Entry}
+use Rattle.host_index.specs.declared.entry.Entry.{Entry}
 use Rattle.net_host.specs.declared.find.Side.{Side}
 use Rattle.net_host.specs.declared.find.Side.TheVariants as side
-use Rattle.net_host.specs.Entries.{rank}
+use Rattle.host_index.specs.Entries.{rank}
 
 abbrev pub IsSide : Entry → Entry → Side → Type 0
 IsSide e key side.Before = rank e < rank key

@@ -14,7 +14,7 @@ use Rattle.smoltcp_socket.specs.declared.socket.Socket.TheVariants as socket
 use Rattle.net_host.specs.Emissions.{DispatchesDatagram, DispatchesMessage, DispatchesRaw, DispatchesSegment}
 use Rattle.net_host.specs.Guards.{guarded_poll}
 use Rattle.net_host.specs.Watching.{Asks, Looks, is_over_for, may_turn}
-use Rattle.net_host.specs.declared.guard.Guard.{Guard}
+use Rattle.net_host.specs.Remembered.{Remembered as Guard}
 use Rattle.net_host.specs.declared.guard.GuardSettings.{GuardSettings}
 use Rattle.net_host.specs.declared.guard.Phase.{Phase}
 use Rattle.net_host.specs.declared.slot.Slot.{Slot}

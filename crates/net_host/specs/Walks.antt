@@ -22,6 +22,16 @@ abbrev pub Finds : {X : Type 0} → (X → Type 0) → List X → Option ℕ →
 Finds P xs None = Nowhere P xs
 Finds P xs (Some i) = IsFirst P xs i
 
+-- among these places, the first whose element P holds of
+pub record IsFirstAmong {X : Type 0} (Q : ℕ → Type 0) (P : X → Type 0) (xs : List X) (i : ℕ) : Type 0 where
+  pub within : i < length xs
+  pub holds : IfSome (slice_get xs i) P
+  pub before : (k : ℕ) → k < i → Q k → IfSome (slice_get xs k) (λ x. P x → ⊥)
+
+abbrev pub FindsAmong : {X : Type 0} → (ℕ → Type 0) → (X → Type 0) → List X → Option ℕ → Type 0
+FindsAmong Q P xs None = (k : ℕ) → Q k → IfSome (slice_get xs k) (λ x. P x → ⊥)
+FindsAmong Q P xs (Some i) = IsFirstAmong Q P xs i
+
 -- the element at i is changed so, and no other
 pub record ChangesAt {X : Type 0} (R : X → X → Type 0) (xs : List X) (i : ℕ) (ys : List X) : Type 0 where
   pub before : X

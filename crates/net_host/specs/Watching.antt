@@ -3,7 +3,7 @@ use Rattle.std.specs.Prelude.{◌≡◌, Bool, Some}
 use Rattle.net_base.specs.declared.time.Instant.{Instant}
 use Rattle.host_guard.specs.Guarding.{taken_after, taken_at}
 use Rattle.sock_tcp.specs.View.{View}
-use Rattle.net_host.specs.declared.guard.Guard.{Guard}
+use Rattle.net_host.specs.Remembered.{Remembered as Guard}
 use Rattle.net_host.specs.declared.guard.GuardSettings.{GuardSettings}
 use Rattle.net_host.specs.Guards.{end_in, has_ended, last_after, last_left, may_take, moment_left, phase_left, phase_of}
 use Rattle.net_host.specs.Guards.{since_in, watched}

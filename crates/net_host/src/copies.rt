@@ -1,31 +1,18 @@
 //! What sockets of the other kinds take, in a set with an index.
-ghost use Rattle.std.specs.Prelude.{◌≡◌, None, true};
-ghost use Rattle.net_host.specs.Entries.{FindsListed};
-ghost use Rattle.net_host.specs.Finding.{IsThere};
+ghost use Rattle.std.specs.Prelude.{◌≡◌, None};
 ghost use Rattle.net_host.specs.Datagrams.{HeardBy, TakesDatagram};
 ghost use Rattle.net_host.specs.Messages.{Copies, mail_of};
 ghost use Rattle.net_host.specs.RawCopies.{CopiesPacket};
 ghost use Rattle.net_host.specs.Walks.{ChangesEach, Finds};
 
 use crate::datagrams::{first_for_datagram, first_under, hear_found};
-use crate::filing::{icmp_key, raw_key, udp_key};
-use crate::find::lists_none;
-use crate::index::Entry;
-use crate::messages::{Mail, copy_to_all};
-use crate::raw_copies::copy_packet_to_all;
+use crate::filing::udp_key;
+use crate::messages::{Mail, copy_to};
+use crate::raw_copies::copy_packet_to;
 use crate::set::SocketSet;
 use smoltcp_socket::Context;
 use smoltcp_socket::wire::{IpRepr, UdpRepr};
 use sock_tcp::TsvalSource;
-
-/// Whether no place is under the key, as far as is known.
-pub(crate) fn knows_none<G: TsvalSource>(sockets: &SocketSet<'_, G>, key: Entry) -> bool
-    requires { key.place ≡ 0 }
-    ensures { result ≡ true → (sockets.now.complete ≡ true)
-        × FindsListed (λ s. IsThere s) sockets.now.slots.items sockets.now.index.entries.items key None }
-{
-    sockets.complete && lists_none(&sockets.slots, &sockets.index, key)
-}
 
 /// Each raw socket that accepts the packet takes a copy.
 pub(crate) fn copy_packet<C: Context, G: TsvalSource>(
@@ -38,10 +25,15 @@ pub(crate) fn copy_packet<C: Context, G: TsvalSource>(
         sockets.new.slots.items }
 {
     sockets.settle();
-    if knows_none(sockets, raw_key()) {
-        return;
-    }
-    copy_packet_to_all(&mut sockets.slots, cx, ip, payload);
+    let complete = sockets.complete;
+    copy_packet_to(
+        &mut sockets.slots,
+        &sockets.index,
+        complete,
+        cx,
+        ip,
+        payload,
+    );
 }
 
 /// Each ICMP socket that accepts the message takes a copy.
@@ -54,10 +46,8 @@ pub(crate) fn copy_mail<C: Context, G: TsvalSource>(
         sockets.new.slots.items }
 {
     sockets.settle();
-    if knows_none(sockets, icmp_key()) {
-        return;
-    }
-    copy_to_all(&mut sockets.slots, cx, mail);
+    let complete = sockets.complete;
+    copy_to(&mut sockets.slots, &sockets.index, complete, cx, mail);
 }
 
 // The first socket that takes the datagram, by the index where it is complete.

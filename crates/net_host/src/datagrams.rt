@@ -5,8 +5,8 @@ ghost use Rattle.net_host.specs.Entries.{FindsListed};
 ghost use Rattle.net_host.specs.Walks.{Finds, IsAt};
 
 use crate::find::{Side, stands};
-use crate::index::{Entry, Index};
 use crate::slot::Slot;
+use host_index::{Entry, Index};
 use smoltcp_socket::wire::{IpRepr, UdpRepr};
 use smoltcp_socket::{Context, Socket};
 use sock_tcp::TsvalSource;
@@ -106,12 +106,12 @@ pub(crate) fn first_under<C: Context, G: TsvalSource>(
     repr: &UdpRepr,
 ) -> Option<usize>
     requires { key.place ≡ 0 }
-    ensures { FindsListed (TakesDatagram (C.facts cx.now) ip.now repr.now) slots.now index.now.entries.items key
+    ensures { FindsListed (TakesDatagram (C.facts cx.now) ip.now repr.now) slots.now index.now key
         result }
 {
     let _count = slots.len(); // for its bound
-    for p in index.lower(key)..index.entries.len() {
-        let entry = index.entries[p];
+    for p in index.lower(key)..index.len() {
+        let entry = index.get(p);
         match stands(entry, key) {
             Side::Before => {}
             Side::Under => {

@@ -1,18 +1,20 @@
 //! Places that are filed in an index under their keys.
-ghost use Rattle.std.specs.Prelude.{ℤ, Bool, ◌≡◌, ◌&&◌, ◌<◌, IfSome, IsSome, length, get_or, slice_get, true, None};
+ghost use Rattle.std.specs.Prelude.{ℕ, ℤ, Bool, ◌≡◌, ◌&&◌, ◌<◌, ◌/◌, IfSome, IsSome, length, get_or, slice_get, true};
+ghost use Rattle.std.specs.Prelude.{None};
 ghost use Rattle.std.specs.List.{All};
-ghost use Rattle.net_host.specs.Indexing.{IsIndexed, IsLentAt, KeepsOthers, are_filed, is_filed, lent_of, no_keys};
+ghost use Rattle.net_host.specs.Indexing.{IsIndexed, IsLentAt, KeepsMarks, KeepsOthers, are_filed, is_filed, is_noted};
+ghost use Rattle.net_host.specs.Indexing.{is_noted_of, lent_of, no_keys};
 ghost use Rattle.host_bounds.specs.Bounding.{at_once, bound_at};
 ghost use Rattle.net_host.specs.Sleeping.{AreAsleep};
 ghost use Rattle.net_host.specs.declared.key.Keys.{Keys};
 ghost use Rattle.net_host.specs.declared.terms.Terms.{Terms};
 
 use crate::guard::GuardSettings;
-use crate::index::Index;
 use crate::key::{Keys, Lent};
 use crate::refiling::refile;
 use crate::terms::Terms;
-use host_bounds::Bounds;
+use host_bounds::{Bounds, Marks};
+use host_index::Index;
 
 /// What has keys.
 pub trait Keyed {
@@ -34,19 +36,22 @@ pub struct Filed<T: Keyed> {
     pub(crate) index: Index,
     // whether each place is filed, but for the one that was lent, which is filed as it was before
     pub(crate) complete: bool,
+    // the places where nothing is are marked; the one that was lent, as it was before
+    pub(crate) free: Marks,
     pub(crate) lent: Option<Lent>,
     // before which moment each place need not be asked, under these terms; the least where it may have changed
     pub(crate) bounds: Bounds,
     pub(crate) terms: Terms,
-    pub ghost indexed: { IsIndexed T.keys_of complete lent slots.items index.entries.items },
+    pub ghost indexed: { IsIndexed T.keys_of complete lent slots.items index free },
     pub ghost asleep: { AreAsleep T.sleeps terms bounds slots.items },
     pub ghost as_many: { length bounds ≡ length slots.items },
 }
 
 impl<T: Keyed> Filed<T> {
     /// Places without keys, each to be asked at once.
-    pub(crate) fn of_free(slots: Vec<T>, index: Index, bounds: Bounds) -> Filed<T>
+    pub(crate) fn of_free(slots: Vec<T>, index: Index, free: Marks, bounds: Bounds) -> Filed<T>
         requires free { All (λ s. T.keys_of s ≡ no_keys) slots.items }
+        requires noted { (k : ℕ) → k < length slots.items → is_noted free k true ≡ true }
         requires as_many { length bounds ≡ length slots.items }
         requires marked { All (λ b. b ≡ at_once) bounds }
         ensures { result.slots ≡ slots }
@@ -55,6 +60,7 @@ impl<T: Keyed> Filed<T> {
             slots,
             index,
             complete: true,
+            free,
             lent: None,
             bounds,
             terms: Terms {
@@ -71,7 +77,7 @@ impl<T: Keyed> Filed<T> {
         ensures terms { self.new.terms ≡ self.old.terms }
     {
         if let Some(lent) = self.lent {
-            let filed = refile_lent(&self.slots, &mut self.index, &lent);
+            let filed = refile_lent(&self.slots, &mut self.index, &mut self.free, &lent);
             self.complete = both(self.complete, filed);
             self.lent = None;
         }
@@ -165,13 +171,34 @@ fn lent_at<T: Keyed>(slots: &[T], place: usize) -> Option<Lent>
     }
 }
 
-fn refile_lent<T: Keyed>(slots: &[T], index: &mut Index, lent: &Lent) -> bool
-    ensures filed { result ≡ true → are_filed index.old.entries.items lent.now.place lent.now.keys ≡ true
-        → is_filed T.keys_of index.new.entries.items lent.now.place (slice_get slots.now lent.now.place) ≡ true }
-    ensures others { KeepsOthers lent.now.place index.old.entries.items index.new.entries.items }
+// A place is marked where nothing is there.
+fn note(free: &mut Marks, place: usize, was: bool, is: bool)
+    requires { place / 64 < length free.old }
+    ensures here { is_noted free.old place was ≡ true → is_noted free.new place is ≡ true }
+    ensures kept { KeepsMarks place free.old free.new }
+{
+    match (was, is) {
+        (false, true) => free.put_on(place),
+        (true, false) => free.take_off(place),
+        (false, false) | (true, true) => {}
+    }
+}
+
+fn refile_lent<T: Keyed>(slots: &[T], index: &mut Index, free: &mut Marks, lent: &Lent) -> bool
+    requires { lent.now.place / 64 < length free.old }
+    ensures filed { result ≡ true → are_filed index.old lent.now.place lent.now.keys ≡ true
+        → is_filed T.keys_of index.new lent.now.place (slice_get slots.now lent.now.place) ≡ true }
+    ensures others { KeepsOthers lent.now.place index.old index.new }
+    ensures noted { is_noted free.old lent.now.place lent.now.keys.free ≡ true
+        → is_noted_of T.keys_of free.new lent.now.place (slice_get slots.now lent.now.place) ≡ true }
+    ensures marks { KeepsMarks lent.now.place free.old free.new }
 {
     match slots.get(lent.place) {
-        Some(slot) => refile(index, lent.place, &lent.keys, &slot.keys()),
+        Some(slot) => {
+            let keys = slot.keys();
+            note(free, lent.place, lent.keys.free, keys.free);
+            refile(index, lent.place, &lent.keys, &keys)
+        }
         None => true,
     }
 }

@@ -1,16 +1,17 @@
 //! Under which keys the socket of a place is filed.
-ghost use Rattle.std.specs.Prelude.{◌≡◌, ◌+◌, ◌*◌, true};
+ghost use Rattle.std.specs.Prelude.{◌≡◌, ◌+◌, ◌*◌, false, true};
 ghost use Rattle.net_host.specs.declared.key.Key.TheVariants.{Nothing};
 ghost use Rattle.net_host.specs.Entries.{ordered};
 ghost use Rattle.net_host.specs.Filing.{connection_by, first_by, icmp_key, keys_by, keys_of, listener_by, listener_key};
 ghost use Rattle.net_host.specs.Filing.{number_of, raw_key, rest_by, rest_major, second_by, server_key};
 ghost use Rattle.net_host.specs.Filing.{udp_key};
+ghost use Rattle.net_host.specs.Indexing.{no_keys};
 ghost use Rattle.net_host.specs.Looking.{sleeps};
 
 use crate::filed::Keyed;
-use crate::index::Entry;
 use crate::key::{Key, Keys};
 use crate::slot::Slot;
+use host_index::Entry;
 use smoltcp_socket::tcp::State;
 use smoltcp_socket::time::Instant;
 use smoltcp_socket::wire::IpAddress;
@@ -50,12 +51,13 @@ pub(crate) fn listener_key(port: u16) -> Entry
     }
 }
 
-/// The key of the sockets that were opened on a port.
+/// The key of the sockets that were opened on a port: its first part is that of those in TIME-WAIT on port 0, which
+/// there are none of.
 pub(crate) fn server_key(port: u16) -> Entry
     ensures { result ≡ server_key port }
 {
     Entry {
-        major: 1,
+        major: 65536,
         minor: u64::from(port),
         place: 0,
     }
@@ -186,15 +188,27 @@ fn keys_by<G>(tcp: &tcp::Socket<'_, G>) -> Keys
     Keys {
         first: first_by(state, &tuple_of(tcp), port),
         second: second_by(state, tcp.time_wait_end(), port),
+        free: false,
     }
 }
 
 fn one_key(first: Key) -> Keys
-    ensures { result ≡ record { first = first; second = Nothing } }
+    ensures { result ≡ record { first = first; second = Nothing; free = false } }
 {
     Keys {
         first,
         second: Key::Nothing,
+        free: false,
+    }
+}
+
+fn no_keys() -> Keys
+    ensures { result ≡ no_keys }
+{
+    Keys {
+        first: Key::Nothing,
+        second: Key::Nothing,
+        free: true,
     }
 }
 
@@ -209,7 +223,7 @@ impl<'a, G> Keyed for Slot<'a, G> {
             Some(Socket::Raw(_)) => one_key(Key::Under(raw_key())),
             Some(Socket::Icmp(_)) => one_key(Key::Under(icmp_key())),
             Some(Socket::Udp(udp)) => one_key(Key::Under(udp_key(udp.endpoint().port))),
-            None => one_key(Key::Nothing),
+            None => no_keys(),
         }
     }
 }

@@ -1,16 +1,16 @@
 //! Walks through the places under a key.
-ghost use Rattle.std.specs.Prelude.{◌≡◌, ◌↔◌, IsTrue, None, true};
+ghost use Rattle.std.specs.Prelude.{◌≡◌, ◌↔◌, IsTrue, nat_lt, if◌then◌else◌, Some, None};
 ghost use Rattle.control_wire.specs.Segment.{segment_of};
-ghost use Rattle.net_host.specs.Entries.{FindsEarliestListed, FindsListed};
+ghost use Rattle.net_host.specs.Entries.{FindsEarliestListed, FindsListed, FindsUnder};
 ghost use Rattle.net_host.specs.Filing.{rest_major};
-ghost use Rattle.net_host.specs.Finding.{Fits, IsThere, RestsAt, with_minor};
+ghost use Rattle.net_host.specs.Finding.{Fits, RestsAt, with_minor};
 ghost use Rattle.net_host.specs.Resting.{RestsUntil};
 ghost use Rattle.net_host.specs.Sides.{IsSide, IsSideOf};
 ghost use Rattle.net_host.specs.Walks.{IsAt};
 
 use crate::filing::{order, rest_major};
-use crate::index::{Entry, Index};
 use crate::slot::Slot;
+use host_index::{Entry, Index};
 use smoltcp_socket::Context;
 use smoltcp_socket::time::Instant;
 use smoltcp_socket::wire::{IpRepr, TcpRepr};
@@ -105,11 +105,11 @@ pub(crate) fn first_in<C: Context, G: TsvalSource>(
     repr: &TcpRepr<'_>,
 ) -> Option<usize>
     requires { key.place ≡ 0 }
-    ensures { FindsListed (Fits sought ip.now (segment_of repr.now)) slots.now index.now.entries.items key result }
+    ensures { FindsListed (Fits sought ip.now (segment_of repr.now)) slots.now index.now key result }
 {
     let _count = slots.len(); // for its bound
-    for p in index.lower(key)..index.entries.len() {
-        let entry = index.entries[p];
+    for p in index.lower(key)..index.len() {
+        let entry = index.get(p);
         match stands(entry, key) {
             Side::Before => {}
             Side::Under => {
@@ -131,7 +131,7 @@ pub(crate) fn earliest_in<G: TsvalSource>(
     repr: &TcpRepr<'_>,
 ) -> Option<(usize, Instant)>
     ensures { FindsEarliestListed (λ t x. RestsUntil ip.now (segment_of repr.now) t x) slots.now
-        index.now.entries.items (rest_major repr.now.dst_port) result }
+        index.now (rest_major repr.now.dst_port) result }
 {
     let _count = slots.len(); // for its bound
     let major = rest_major(repr.dst_port);
@@ -140,8 +140,8 @@ pub(crate) fn earliest_in<G: TsvalSource>(
         minor: 0,
         place: 0,
     };
-    for p in index.lower(key)..index.entries.len() {
-        let entry = index.entries[p];
+    for p in index.lower(key)..index.len() {
+        let entry = index.get(p);
         match stands_of(entry, major) {
             Side::Before => {}
             Side::Under => {
@@ -173,19 +173,31 @@ fn rests_at<G: TsvalSource>(
     }
 }
 
-/// Whether no place is under the key.
-pub(crate) fn lists_none<G>(slots: &[Slot<'_, G>], index: &Index, key: Entry) -> bool
-    requires { key.place ≡ 0 }
-    ensures { result ≡ true → FindsListed (λ s. IsThere s) slots.now index.now.entries.items key None }
+// The place, where it is before the end.
+fn if_before(place: usize, end: usize) -> Option<usize>
+    ensures { result ≡ (if nat_lt place end then Some place else None) }
 {
-    let _count = slots.len(); // for its bound
-    let p = index.lower(key);
-    if index.entries.len() <= p {
-        return true;
+    if place < end { Some(place) } else { None }
+}
+
+/// The first place from one on, and before another, that has an entry under the key.
+pub(crate) fn next_under(index: &Index, key: Entry, start: usize, end: usize) -> Option<usize>
+    requires { key.place ≡ 0 }
+    ensures { FindsUnder index.now key start end result }
+{
+    let p = index.lower(Entry {
+        major: key.major,
+        minor: key.minor,
+        place: start,
+    });
+    if index.len() <= p {
+        return None;
     }
-    match stands(index.entries[p], key) {
-        Side::Behind => true,
-        _ => false,
+    let entry = index.get(p);
+    match stands(entry, key) {
+        Side::Before => None,
+        Side::Under => if_before(entry.place, end),
+        Side::Behind => None,
     }
 }
 

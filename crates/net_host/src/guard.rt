@@ -1,8 +1,12 @@
 //! Limits that a host sets its TCP connections, so that no peer keeps it busy for ever or keeps its sockets taken.
+ghost use Rattle.std.specs.Prelude.{◌≡◌, Some};
+ghost use Rattle.sock_core.specs.Bounds.{IsMoment};
 ghost use Rattle.sock_tcp.specs.Timers.{IsLastTs};
+ghost use Rattle.net_host.specs.Remembered.{IsTold, moment_from, nothing, phase_from};
 
 use control_wire::TcpSeqNumber;
 use net_base::time::{Duration, Instant};
+use std::marker::Model;
 
 /// How long after a dispatch in FIN-WAIT-2 there is none. Nothing but acknowledgements is left to send in this state,
 /// and with a probe timer that is left over every dispatch emits one: so they are 50 in a second at most.
@@ -10,7 +14,7 @@ pub const PACE: Duration = Duration { micros: 20_000 };
 
 /// How many dispatches a socket has at one moment at most: more than the 45 segments of full size that a queue of 65536
 /// bytes holds, so that only what goes on without end is cut.
-pub const TURNS: usize = 64;
+pub const TURNS: u8 = 64;
 
 /// How long a peer may leave a connection of the host waiting; no limit where there is none. A limit of more than 2^60
 /// microseconds counts as so many.
@@ -43,21 +47,192 @@ pub enum Phase {
     Stuck(TcpSeqNumber),
 }
 
-/// What a host remembers beside a socket.
-#[derive(Debug, Drop)]
+// A phase without its number.
+#[derive(Clone, Copy)]
+pub(crate) enum Kind {
+    Free,
+    Handshake,
+    FinWait1,
+    FinWait2,
+    Closing,
+    LastAck,
+    Stuck,
+}
+
+// What stands for no moment: no moment of a guard is the least.
+const NO_MOMENT: i64 = i64::MIN;
+
+/// What a host remembers beside a socket: what the peer is waited for and since when, counted from the first look that
+/// saw it, and when that is to end; when the socket was last dispatched in FIN-WAIT-2; when it was last dispatched at
+/// all, and how often at that moment.
+///
+/// It takes 40 bytes, as its moments are numbers: an `Option` of one takes sixteen bytes.
+#[derive(Drop)]
 pub struct Guard {
-    /// What the peer is waited for.
-    pub phase: Phase,
-    /// Since when, counted from the first look that saw it.
-    pub since: Option<Instant>,
-    /// When it is to end.
-    pub end: Option<Instant>,
-    /// When the socket was last dispatched in FIN-WAIT-2.
-    pub last: Option<Instant>,
-    /// When it was last dispatched, and how often at that moment.
-    pub moment: Option<Instant>,
-    pub taken: usize,
+    since: i64,
+    end: i64,
+    last: i64,
+    moment: i64,
+    // of the first byte that waits, in `Stuck`
+    number: TcpSeqNumber,
+    kind: Kind,
+    taken: u8,
+}
+
+impl Model for Guard {
+    ghost use Rattle.sock_tcp.specs.Timers.{IsLastTs};
+    ghost use Rattle.net_host.specs.Remembered.{Remembered, moment_from, phase_from};
+
+    ghost Value = { Remembered };
+
+    ghost view = { λ g. record {
+      phase = phase_from g.kind g.number;
+      since = moment_from g.since;
+      end = moment_from g.end;
+      last = moment_from g.last;
+      moment = moment_from g.moment;
+      taken = g.taken;
+    } };
+
     // so a moment that is later by a limit fits its type
-    pub ghost since_lawful: { IsLastTs since },
-    pub ghost last_lawful: { IsLastTs last },
+    ghost invariant = { λ g. IsLastTs (moment_from g.since) × IsLastTs (moment_from g.last) };
+}
+
+// The moment of so many microseconds, or none.
+fn moment_from(micros: i64) -> Option<Instant>
+    ensures { result ≡ moment_from micros }
+{
+    if micros == NO_MOMENT {
+        return None;
+    }
+    Some(Instant { micros })
+}
+
+// The number of the moment, or of none.
+fn micros_of(moment: Option<Instant>) -> i64
+    requires { IsTold moment }
+    ensures { moment_from result ≡ moment }
+{
+    match moment {
+        None => NO_MOMENT,
+        Some(moment) => moment.micros,
+    }
+}
+
+fn phase_from(kind: Kind, number: TcpSeqNumber) -> Phase
+    ensures { result ≡ phase_from kind number }
+{
+    match kind {
+        Kind::Free => Phase::Free,
+        Kind::Handshake => Phase::Handshake,
+        Kind::FinWait1 => Phase::FinWait1,
+        Kind::FinWait2 => Phase::FinWait2,
+        Kind::Closing => Phase::Closing,
+        Kind::LastAck => Phase::LastAck,
+        Kind::Stuck => Phase::Stuck(number),
+    }
+}
+
+// The phase without its number, and that number.
+fn parts_of(phase: Phase) -> (Kind, TcpSeqNumber)
+    ensures { phase_from result.0 result.1 ≡ phase }
+{
+    match phase {
+        Phase::Free => (Kind::Free, TcpSeqNumber(0)),
+        Phase::Handshake => (Kind::Handshake, TcpSeqNumber(0)),
+        Phase::FinWait1 => (Kind::FinWait1, TcpSeqNumber(0)),
+        Phase::FinWait2 => (Kind::FinWait2, TcpSeqNumber(0)),
+        Phase::Closing => (Kind::Closing, TcpSeqNumber(0)),
+        Phase::LastAck => (Kind::LastAck, TcpSeqNumber(0)),
+        Phase::Stuck(number) => (Kind::Stuck, number),
+    }
+}
+
+impl Guard {
+    /// Of a socket that nothing is remembered of.
+    pub fn new() -> Guard
+        ensures { result ≡ nothing }
+    {
+        Guard {
+            since: NO_MOMENT,
+            end: NO_MOMENT,
+            last: NO_MOMENT,
+            moment: NO_MOMENT,
+            number: TcpSeqNumber(0),
+            kind: Kind::Free,
+            taken: 0,
+        }
+    }
+
+    /// What the peer is waited for.
+    pub fn phase(&self) -> Phase
+        ensures { result ≡ self.now.phase }
+    {
+        phase_from(self.kind, self.number)
+    }
+
+    /// Since when.
+    pub fn since(&self) -> Option<Instant>
+        ensures value { result ≡ self.now.since }
+        ensures lawful { IsLastTs result }
+    {
+        moment_from(self.since)
+    }
+
+    /// When that is to end.
+    pub fn end(&self) -> Option<Instant>
+        ensures { result ≡ self.now.end }
+    {
+        moment_from(self.end)
+    }
+
+    /// When the socket was last dispatched in FIN-WAIT-2.
+    pub fn last(&self) -> Option<Instant>
+        ensures value { result ≡ self.now.last }
+        ensures lawful { IsLastTs result }
+    {
+        moment_from(self.last)
+    }
+
+    /// When it was last dispatched.
+    pub fn moment(&self) -> Option<Instant>
+        ensures { result ≡ self.now.moment }
+    {
+        moment_from(self.moment)
+    }
+
+    /// How often it was dispatched at that moment.
+    pub fn taken(&self) -> u8
+        ensures { result ≡ self.now.taken }
+    {
+        self.taken
+    }
+
+    // The peer is waited for.
+    pub(crate) fn wait(&mut self, phase: Phase, since: Option<Instant>, end: Option<Instant>)
+        requires since { IsLastTs since }
+        requires end { IsTold end }
+        ensures { self.new ≡ record self.old { phase = phase; since = since; end = end } }
+    {
+        (self.kind, self.number) = parts_of(phase);
+        self.since = micros_of(since);
+        self.end = micros_of(end);
+    }
+
+    // The last dispatch in FIN-WAIT-2.
+    pub(crate) fn set_last(&mut self, last: Option<Instant>)
+        requires { IsLastTs last }
+        ensures { self.new ≡ record self.old { last = last } }
+    {
+        self.last = micros_of(last);
+    }
+
+    // So many dispatches at this moment.
+    pub(crate) fn count(&mut self, now: Instant, taken: u8)
+        requires { IsMoment now.micros }
+        ensures { self.new ≡ record self.old { moment = Some now; taken = taken } }
+    {
+        self.moment = micros_of(Some(now));
+        self.taken = taken;
+    }
 }

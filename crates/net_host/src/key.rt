@@ -1,5 +1,5 @@
 //! The keys of a place.
-use crate::index::Entry;
+use host_index::Entry;
 
 /// What a place is filed under.
 #[derive(Debug, Clone, Copy, PartialEq, Eq)]
@@ -19,6 +19,8 @@ pub struct Keys {
     pub first: Key,
     /// By the port that it was opened on.
     pub second: Key,
+    /// Whether nothing is there.
+    pub free: bool,
 }
 
 /// A place that was lent, and the keys under which it is filed.

@@ -1,18 +1,23 @@
 //! ICMP messages: which sockets take a copy, and what answers one.
-ghost use Rattle.std.specs.Prelude.{◌≡◌, ◌+◌, ◌≤◌, ◌++◌, min, Some, length, option_map};
+ghost use Rattle.std.specs.Prelude.{◌≡◌, ◌+◌, ◌<◌, ◌≤◌, ◌++◌, min, Some, length, option_map, true};
 ghost use Rattle.ip_wire.specs.Checksum.{is_sent};
 ghost use Rattle.ip_wire.specs.IpHeader.{header_len_of};
 ghost use Rattle.ip_wire.specs.Packet.{header_octets};
 ghost use Rattle.control_wire.specs.Icmp.{icmpv4_octets, icmpv6_octets, message_len, message_v4, message_v6};
+ghost use Rattle.net_host.specs.Filing.{keys_of};
+ghost use Rattle.net_host.specs.Indexing.{AreFiled};
 ghost use Rattle.net_host.specs.Messages.{Copies, answer_len, echoed, if_short, mail_in, mail_len, mail_octets};
 ghost use Rattle.net_host.specs.Messages.{mail_of};
 ghost use Rattle.net_host.specs.Messages.{message_octets, with_message};
 ghost use Rattle.net_host.specs.Wire.{packet_len};
 ghost use Rattle.sock_dgram.specs.IcmpDispatch.{Counts, any_message};
 ghost use Rattle.net_host.specs.Messages.{MailCopies, len_within, sum_within, mail_v4, mail_v6, with_answer};
-ghost use Rattle.net_host.specs.Walks.{ChangesEach};
+ghost use Rattle.net_host.specs.Walks.{ChangesAt, ChangesEach};
 
+use crate::filing::icmp_key;
+use crate::find::next_under;
 use crate::slot::Slot;
+use host_index::Index;
 use smoltcp_socket::wire::{
     ChecksumCapabilities, IcmpRepr, Icmpv4Repr, Icmpv6Repr, IpProtocol, IpRepr, Ipv4Repr, Ipv6Repr,
 };
@@ -89,16 +94,61 @@ fn copy<C: Context>(socket: &mut icmp::Socket<'_>, cx: &C, mail: &Mail<'_>)
     }
 }
 
-/// Each ICMP socket that accepts the message takes a copy.
-pub(crate) fn copy_to_all<C: Context, G: TsvalSource>(
-    slots: &mut Vec<Slot<'_, G>>,
-    cx: &C,
-    mail: &Mail<'_>,
-)
+// Each ICMP socket that accepts the message takes a copy: a walk through all places.
+fn copy_to_all<C: Context, G: TsvalSource>(slots: &mut Vec<Slot<'_, G>>, cx: &C, mail: &Mail<'_>)
     ensures { ChangesEach (Copies (C.facts cx.now) (mail_of mail.now)) slots.old.items slots.new.items }
 {
     for i in 0..slots.len() {
         slots[i].copy_message(cx, mail);
+    }
+}
+
+fn copy_at<C: Context, G: TsvalSource>(
+    slots: &mut Vec<Slot<'_, G>>,
+    i: usize,
+    cx: &C,
+    mail: &Mail<'_>,
+)
+    requires { i < length slots.old.items }
+    ensures { ChangesAt (Copies (C.facts cx.now) (mail_of mail.now)) slots.old.items i slots.new.items }
+{
+    slots[i].copy_message(cx, mail);
+}
+
+// The same through the places of the ICMP sockets alone, where each place is filed.
+fn copy_to_listed<C: Context, G: TsvalSource>(
+    slots: &mut Vec<Slot<'_, G>>,
+    index: &Index,
+    cx: &C,
+    mail: &Mail<'_>,
+)
+    requires { AreFiled (λ s. keys_of s) slots.old.items index.now }
+    ensures { ChangesEach (Copies (C.facts cx.now) (mail_of mail.now)) slots.old.items slots.new.items }
+{
+    let key = icmp_key();
+    let end = slots.len();
+    let mut from = 0;
+    while let Some(i) = next_under(index, key, from, end) {
+        copy_at(slots, i, cx, mail);
+        from = i + 1;
+    }
+}
+
+/// Each ICMP socket that accepts the message takes a copy. Where each place is filed, the others are not looked at.
+pub(crate) fn copy_to<C: Context, G: TsvalSource>(
+    slots: &mut Vec<Slot<'_, G>>,
+    index: &Index,
+    complete: bool,
+    cx: &C,
+    mail: &Mail<'_>,
+)
+    requires { complete ≡ true → AreFiled (λ s. keys_of s) slots.old.items index.now }
+    ensures { ChangesEach (Copies (C.facts cx.now) (mail_of mail.now)) slots.old.items slots.new.items }
+{
+    if complete {
+        copy_to_listed(slots, index, cx, mail);
+    } else {
+        copy_to_all(slots, cx, mail);
     }
 }
 

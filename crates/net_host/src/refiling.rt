@@ -1,10 +1,10 @@
 //! A place is filed under other keys.
 ghost use Rattle.std.specs.Prelude.{◌≡◌, true};
-ghost use Rattle.net_host.specs.Entries.{Keeps, entry_at};
+ghost use Rattle.host_index.specs.Entries.{Keeps, entry_at};
 ghost use Rattle.net_host.specs.Indexing.{KeepsOthers, are_filed, is_under, same_key};
 
-use crate::index::{Entry, Index};
 use crate::key::{Key, Keys};
+use host_index::{Entry, Index, Which};
 
 fn same_key(a: &Key, b: &Key) -> bool
     ensures { result ≡ same_key a.now b.now }
@@ -29,30 +29,30 @@ fn entry_at(key: &Entry, place: usize) -> Entry
 }
 
 fn unfile(index: &mut Index, place: usize, key: &Key)
-    ensures { KeepsOthers place index.old.entries.items index.new.entries.items }
+    ensures { KeepsOthers place index.old index.new }
 {
     if let Key::Under(key) = key {
         index.remove(entry_at(key, place));
     }
 }
 
-fn file(index: &mut Index, place: usize, key: &Key) -> bool
-    ensures filed { result ≡ true → is_under index.new.entries.items place key.now ≡ true }
-    ensures kept { Keeps index.old.entries.items index.new.entries.items }
+fn file(index: &mut Index, which: Which, place: usize, key: &Key) -> bool
+    ensures filed { result ≡ true → is_under index.new place key.now ≡ true }
+    ensures kept { Keeps index.old index.new }
 {
     match key {
         Key::Nothing => true,
         Key::Unknown => false,
-        Key::Under(key) => index.add(entry_at(key, place)),
+        Key::Under(key) => index.add(which, entry_at(key, place)),
     }
 }
 
 /// The place is filed under the new keys, and not under the old ones any more. Whether there was room for it; no
 /// other place is filed otherwise.
 pub(crate) fn refile(index: &mut Index, place: usize, old: &Keys, new: &Keys) -> bool
-    ensures filed { result ≡ true → are_filed index.old.entries.items place old.now ≡ true
-        → are_filed index.new.entries.items place new.now ≡ true }
-    ensures others { KeepsOthers place index.old.entries.items index.new.entries.items }
+    ensures filed { result ≡ true → are_filed index.old place old.now ≡ true
+        → are_filed index.new place new.now ≡ true }
+    ensures others { KeepsOthers place index.old index.new }
 {
     if same_key(&old.first, &new.first) && same_key(&old.second, &new.second) {
         return true;
@@ -63,10 +63,10 @@ pub(crate) fn refile(index: &mut Index, place: usize, old: &Keys, new: &Keys) ->
 }
 
 fn file_both(index: &mut Index, place: usize, keys: &Keys) -> bool
-    ensures filed { result ≡ true → are_filed index.new.entries.items place keys.now ≡ true }
-    ensures kept { Keeps index.old.entries.items index.new.entries.items }
+    ensures filed { result ≡ true → are_filed index.new place keys.now ≡ true }
+    ensures kept { Keeps index.old index.new }
 {
-    let first = file(index, place, &keys.first);
-    let second = file(index, place, &keys.second);
+    let first = file(index, Which::First, place, &keys.first);
+    let second = file(index, Which::Second, place, &keys.second);
     first && second
 }

@@ -1,13 +1,15 @@
 //! A set of sockets of all kinds.
-ghost use Rattle.std.specs.Prelude.{◌≡◌, ◌<◌, IfOk, IfErr, OnErr, IfSome, IfNone, length, option_map, Some, None};
+ghost use Rattle.std.specs.Prelude.{◌≡◌, ◌<◌, ◌↔◌, IfOk, IfErr, OnErr, IfSome, IfNone, IsTrue, length, nat_eq, false};
+ghost use Rattle.std.specs.Prelude.{option_map, Some, None};
 ghost use Rattle.std.specs.List.{All};
+ghost use Rattle.host_bounds.specs.Marking.{bit_of};
 ghost use Rattle.net_host.specs.Slots.{Empties, Fills, IsFree, handle_at, icmp_at, raw_at, socket_at, tcp_at, udp_at};
-ghost use Rattle.net_host.specs.Walks.{Finds, ChangesAt};
+ghost use Rattle.net_host.specs.Walks.{ChangesAt, Finds, FindsAmong, IsAt};
 
 use crate::filed::Filed;
-use crate::index::Index;
 use crate::slot::{Slot, SocketHandle};
-use host_bounds::Bounds;
+use host_bounds::{Bounds, Marks};
+use host_index::Index;
 use smoltcp_socket::{Socket, icmp, raw, tcp, udp};
 use sock_tcp::{Generator, TsvalSource};
 use std::alloc::{AllocError, Global};
@@ -17,12 +19,9 @@ use std::alloc::{AllocError, Global};
 /// `G` is the type of a TCP socket's source of timestamps, and is left out.
 pub type SocketSet<'a, G = Generator> = Filed<Slot<'a, G>>;
 
-// How many keys a socket has at most.
-const KEYS: usize = 2;
-
 impl<'a, G: TsvalSource> Filed<Slot<'a, G>> {
-    /// A set with room for so many sockets. Nothing is allocated afterwards. Its index and its bounds take 81 bytes a
-    /// socket.
+    /// A set with room for so many sockets. Nothing is allocated afterwards. Its index, its marks and its bounds take
+    /// 47 bytes a socket.
     pub fn new(alloc: Global, capacity: usize) -> Result<SocketSet<'a, G>, AllocError>
         ensures capacity { IfOk result (λ s. length s.slots.items ≡ capacity) }
         ensures free { IfOk result (λ s. All IsFree s.slots.items) }
@@ -31,9 +30,10 @@ impl<'a, G: TsvalSource> Filed<Slot<'a, G>> {
         for _ in 0..capacity {
             slots.push(Slot::free())?;
         }
-        let index = Index::new(alloc, capacity.saturating_mul(KEYS))?;
+        let index = Index::new(alloc, capacity)?;
+        let free = Marks::new(alloc, capacity)?;
         let bounds = Bounds::new(alloc, capacity)?;
-        Ok(Filed::of_free(slots, index, bounds))
+        Ok(Filed::of_free(slots, index, free, bounds))
     }
 
     /// How many sockets it has room for.
@@ -47,14 +47,10 @@ impl<'a, G: TsvalSource> Filed<Slot<'a, G>> {
     pub fn handle_at(&self, index: usize) -> Option<SocketHandle>
         ensures { result ≡ handle_at self.now.slots.items index }
     {
-        let slot = self.slots.get(index)?;
-        if slot.is_free() {
-            return None;
+        match self.slots.get(index) {
+            Some(slot) => slot.handle(index),
+            None => None,
         }
-        Some(SocketHandle {
-            index,
-            generation: slot.generation,
-        })
     }
 
     /// Puts the socket into the first place that is free. Where none is, it is given back.
@@ -65,12 +61,23 @@ impl<'a, G: TsvalSource> Filed<Slot<'a, G>> {
         ensures full { OnErr result (Finds IsFree self.old.slots.items None) }
         ensures same { IfErr result (λ s. (s ≡ socket.entry) × (self.new ≡ self.old)) }
     {
-        match first_free(&self.slots) {
+        match self.first_free() {
             None => Err(socket),
             Some(index) => {
                 self.lend(index);
                 Ok(fill(&mut self.slots, index, socket))
             }
+        }
+    }
+
+    // The first place that is free. The marks tell of each place but the one that was lent.
+    fn first_free(&self) -> Option<usize>
+        ensures { Finds IsFree self.now.slots.items result }
+    {
+        let found = first_marked(&self.slots, &self.free);
+        match self.lent {
+            Some(lent) => sooner(&self.slots, found, lent.place),
+            None => found,
         }
     }
 
@@ -89,11 +96,10 @@ impl<'a, G: TsvalSource> Filed<Slot<'a, G>> {
     pub fn get(&self, handle: SocketHandle) -> Option<&Socket<'a, G>>
         ensures { option_map (λ s. s.now) result ≡ socket_at self.now.slots.items handle }
     {
-        let slot = self.slots.get(handle.index)?;
-        if slot.generation != handle.generation {
-            return None;
+        match self.slots.get(handle.index) {
+            Some(slot) => slot.held(handle.generation),
+            None => None,
         }
-        slot.socket.as_ref()
     }
 
     /// The same, lent with every call of it.
@@ -151,15 +157,41 @@ impl<'a, G: TsvalSource> Filed<Slot<'a, G>> {
     }
 }
 
-fn first_free<G>(slots: &[Slot<'_, G>]) -> Option<usize>
-    ensures { Finds IsFree slots.now result }
+fn is_free_at<G>(slots: &[Slot<'_, G>], place: usize) -> bool
+    ensures { IsTrue result ↔ IsAt IsFree slots.now place }
 {
-    for (i, slot) in slots.iter().enumerate() {
-        if slot.is_free() {
-            return Some(i);
+    match slots.get(place) {
+        Some(slot) => slot.is_free(),
+        None => false,
+    }
+}
+
+// The first place that is free, of those that are marked.
+fn first_marked<G>(slots: &[Slot<'_, G>], free: &Marks) -> Option<usize>
+    ensures { FindsAmong (λ k. bit_of free.now k ≡ 1) (λ s. IsFree s) slots.now result }
+{
+    let mut place = free.next(0);
+    while place < slots.len() {
+        if is_free_at(slots, place) {
+            return Some(place);
         }
+        place = free.next(place + 1);
     }
     None
+}
+
+// This place, where it is free and before the one that was found among the others.
+fn sooner<G>(slots: &[Slot<'_, G>], found: Option<usize>, place: usize) -> Option<usize>
+    requires { FindsAmong (λ k. nat_eq k place ≡ false) (λ s. IsFree s) slots.now found }
+    ensures { Finds IsFree slots.now result }
+{
+    if !is_free_at(slots, place) {
+        return found;
+    }
+    match found {
+        Some(i) => Some(i.min(place)),
+        None => Some(place),
+    }
 }
 
 fn fill<'a, G: TsvalSource>(

@@ -1,6 +1,6 @@
 //! One place of a set of sockets.
-ghost use Rattle.std.specs.Prelude.{◌≡◌, ◌↔◌, IsTrue, IfSome, IfNone, Some, None};
-ghost use Rattle.net_host.specs.Slots.{IsFree, Fills, Empties, held};
+ghost use Rattle.std.specs.Prelude.{◌≡◌, ◌↔◌, IsTrue, IfSome, IfNone, Some, None, option_map};
+ghost use Rattle.net_host.specs.Slots.{IsFree, Fills, Empties, handle_of, held};
 
 use crate::guard::Guard;
 use smoltcp_socket::Socket;
@@ -39,6 +39,29 @@ impl<'a, G> Slot<'a, G> {
         ensures { IsTrue result ↔ IsFree self.now }
     {
         self.socket.is_none()
+    }
+
+    /// The handle of the socket that is here, at this place of its set.
+    pub(crate) fn handle(&self, index: usize) -> Option<SocketHandle>
+        ensures { result ≡ handle_of index self.now.generation self.now.socket }
+    {
+        match &self.socket {
+            Some(_) => Some(SocketHandle {
+                index,
+                generation: self.generation,
+            }),
+            None => None,
+        }
+    }
+
+    /// The socket that is here under this generation.
+    pub(crate) fn held(&self, generation: u64) -> Option<&Socket<'a, G>>
+        ensures { option_map (λ s. s.now) result ≡ held (Some self.now) generation }
+    {
+        if self.generation != generation {
+            return None;
+        }
+        self.socket.as_ref()
     }
 }
 

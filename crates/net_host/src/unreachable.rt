@@ -1,18 +1,21 @@
 //! What tells a sender that nobody takes its packet.
-ghost use Rattle.std.specs.Prelude.{◌≡◌, ◌≤◌, ◌↔◌, ◌&&◌, IsTrue, is_some, length, min, option_map};
+ghost use Rattle.std.specs.Prelude.{◌≡◌, ◌≤◌, ◌↔◌, ◌&&◌, IsTrue, is_some, length, min, option_map, true};
+ghost use Rattle.net_host.specs.Filing.{keys_of};
+ghost use Rattle.net_host.specs.Indexing.{AreFiled};
 ghost use Rattle.net_host.specs.Limits.{allows};
 ghost use Rattle.net_host.specs.Messages.{answer_len, if_short, mail_of, with_answer};
 ghost use Rattle.net_host.specs.Unreachable.{TakesRaw, TellsOf, error_of, error_v4, error_v6, header_v6};
 ghost use Rattle.net_host.specs.Unreachable.{problem_of, quoted_v4, quoted_v6};
-ghost use Rattle.net_host.specs.Walks.{Finds};
+ghost use Rattle.net_host.specs.Walks.{Finds, IsAt};
 ghost use Rattle.net_host.specs.Unreachable.{spent_for, told_within, wanted};
 
-use crate::copies::knows_none;
 use crate::filing::raw_key;
+use crate::find::next_under;
 use crate::limit::Limit;
 use crate::messages::{Mail, put_answer};
 use crate::set::SocketSet;
 use crate::slot::Slot;
+use host_index::Index;
 use smoltcp_socket::time::Instant;
 use smoltcp_socket::wire::{
     ChecksumCapabilities, Icmpv4Repr, Icmpv6Repr, IpProtocol, IpRepr, Ipv4Repr, Ipv6Repr,
@@ -142,7 +145,7 @@ impl<'a, G: TsvalSource> Slot<'a, G> {
     }
 }
 
-// The first raw socket that takes the packet.
+// The first raw socket that takes the packet: a walk through all places.
 fn walk_for_raw<G: TsvalSource>(slots: &[Slot<'_, G>], ip: &IpRepr) -> Option<usize>
     ensures { Finds (TakesRaw ip.now) slots.now result }
 {
@@ -154,16 +157,54 @@ fn walk_for_raw<G: TsvalSource>(slots: &[Slot<'_, G>], ip: &IpRepr) -> Option<us
     None
 }
 
-// The same, with no walk where no raw socket is there.
+fn takes_raw_at<G: TsvalSource>(slots: &[Slot<'_, G>], place: usize, ip: &IpRepr) -> bool
+    ensures { IsTrue result ↔ IsAt (TakesRaw ip.now) slots.now place }
+{
+    match slots.get(place) {
+        Some(slot) => slot.takes_raw(ip),
+        None => false,
+    }
+}
+
+// The same through the places of the raw sockets alone, where each place is filed.
+fn listed_raw<G: TsvalSource>(slots: &[Slot<'_, G>], index: &Index, ip: &IpRepr) -> Option<usize>
+    requires { AreFiled (λ s. keys_of s) slots.now index.now }
+    ensures { Finds (TakesRaw ip.now) slots.now result }
+{
+    let key = raw_key();
+    let end = slots.len();
+    let mut from = 0;
+    while let Some(i) = next_under(index, key, from, end) {
+        if takes_raw_at(slots, i, ip) {
+            return Some(i);
+        }
+        from = i + 1;
+    }
+    None
+}
+
+fn raw_by<G: TsvalSource>(
+    slots: &[Slot<'_, G>],
+    index: &Index,
+    complete: bool,
+    ip: &IpRepr,
+) -> Option<usize>
+    requires { complete ≡ true → AreFiled (λ s. keys_of s) slots.now index.now }
+    ensures { Finds (TakesRaw ip.now) slots.now result }
+{
+    if complete {
+        listed_raw(slots, index, ip)
+    } else {
+        walk_for_raw(slots, ip)
+    }
+}
+
 fn first_raw<G: TsvalSource>(sockets: &mut SocketSet<'_, G>, ip: &IpRepr) -> Option<usize>
     ensures slots { sockets.new.slots ≡ sockets.old.slots }
     ensures finds { Finds (TakesRaw ip.now) sockets.old.slots.items result }
 {
     sockets.settle();
-    if knows_none(sockets, raw_key()) {
-        return None;
-    }
-    walk_for_raw(&sockets.slots, ip)
+    raw_by(&sockets.slots, &sockets.index, sockets.complete, ip)
 }
 
 // The error, for a packet to an own address that no raw socket takes.

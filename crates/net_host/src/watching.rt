@@ -1,15 +1,16 @@
 //! What a guard does: it looks at its socket, and says when the socket may speak.
-ghost use Rattle.std.specs.Prelude.{◌≡◌, ◌≤◌, ◌^◌, None, false};
+ghost use Rattle.std.specs.Prelude.{◌≡◌, ◌≤◌, ◌^◌, false, true};
 ghost use Rattle.std.specs.Option.{ForSome};
 ghost use Rattle.sock_core.specs.Bounds.{IsMoment};
 ghost use Rattle.sock_tcp.specs.Polls.{earlier};
 ghost use Rattle.sock_tcp.specs.Timers.{IsLastTs, after};
 ghost use Rattle.host_guard.specs.Guarding.{not_before, taken_at};
-ghost use Rattle.net_host.specs.Guards.{end_of, ended_if, given_up, guarded_poll, has_ended, last_left, lawful_limit};
-ghost use Rattle.net_host.specs.Guards.{limit_of, may_in, moment_left, no_limits, phase_in, phase_left, phase_of};
+ghost use Rattle.net_host.specs.Guards.{end_of, ended_if, given_up, guarded_poll, has_ended, last_after, last_left};
+ghost use Rattle.net_host.specs.Guards.{lawful_limit, limit_of, may_in, moment_left, no_limits, phase_in, phase_left};
+ghost use Rattle.net_host.specs.Guards.{phase_of};
 ghost use Rattle.net_host.specs.Guards.{same_phase, since_by, since_in, stuck_by, usual, with_timeout};
+ghost use Rattle.net_host.specs.Remembered.{IsTold};
 ghost use Rattle.net_host.specs.Watching.{Asks, Looks, is_over_for, may_turn};
-ghost use Rattle.net_host.specs.declared.guard.Phase.TheVariants.{Free};
 
 use crate::guard::{Guard, GuardSettings, PACE, Phase, TURNS};
 use control_wire::TcpSeqNumber;
@@ -72,24 +73,6 @@ fn lawful(limit: Option<Duration>) -> Option<Duration>
 }
 
 impl Guard {
-    /// Of a socket that nothing is remembered of.
-    pub fn new() -> Guard
-        ensures phase { result.phase ≡ Free }
-        ensures since { result.since ≡ None }
-        ensures end { result.end ≡ None }
-        ensures last { result.last ≡ None }
-        ensures moment { result.moment ≡ None }
-    {
-        Guard {
-            phase: Phase::Free,
-            since: None,
-            end: None,
-            last: None,
-            moment: None,
-            taken: 0,
-        }
-    }
-
     /// Looks at the socket at this moment. Sets the user timeout, and ends what has lasted longer than its limit,
     /// counted from the first look that saw it, whatever has come from the peer since: a handshake without an RST, the
     /// rest by an abort. Where the time goes back, it is counted from the earlier moment.
@@ -99,7 +82,7 @@ impl Guard {
         ensures generator { socket.new.tsval_generator ≡ socket.old.tsval_generator }
     {
         let phase = phase_of(socket);
-        let since = since_in(phase, self.phase, self.since, now);
+        let since = since_in(phase, self.phase(), self.since(), now);
         let end = end_of(settings.limit_of(phase), since);
         let over = has_ended(end, now);
         set_timeout(socket, lawful(settings.timeout));
@@ -113,12 +96,13 @@ impl Guard {
         ensures { result ≡ is_over_for settings.now self.now socket.now.control_block now }
     {
         let phase = phase_of(socket);
-        let since = since_in(phase, self.phase, self.since, now);
+        let since = since_in(phase, self.phase(), self.since(), now);
         has_ended(end_of(settings.limit_of(phase), since), now)
     }
 
     fn note(&mut self, over: bool, phase: Phase, since: Option<Instant>, end: Option<Instant>)
-        requires { IsLastTs since }
+        requires since { IsLastTs since }
+        requires end { IsTold end }
         ensures phase { self.new.phase ≡ phase_left over phase }
         ensures since { self.new.since ≡ moment_left over since }
         ensures end { self.new.end ≡ moment_left over end }
@@ -127,15 +111,11 @@ impl Guard {
         ensures taken { self.new.taken ≡ self.old.taken }
     {
         if over {
-            self.phase = Phase::Free;
-            self.since = None;
-            self.end = None;
-            self.last = None;
+            self.wait(Phase::Free, None, None);
+            self.set_last(None);
         } else {
-            self.phase = phase;
-            self.since = since;
-            self.end = end;
-            self.last = last_left(phase, self.last);
+            self.wait(phase, since, end);
+            self.set_last(last_left(phase, self.last()));
         }
     }
 
@@ -144,7 +124,7 @@ impl Guard {
         requires { IsMoment now.micros }
         ensures { result ≡ may_turn self.now now }
     {
-        taken_at(self.moment, self.taken, now) < TURNS && may_in(self.phase, self.last, now)
+        taken_at(self.moment(), self.taken(), now) < TURNS && may_in(self.phase(), self.last(), now)
     }
 
     /// Whether the socket may be dispatched at this moment: at most `TURNS` times, and in FIN-WAIT-2 not within `PACE`
@@ -155,15 +135,13 @@ impl Guard {
         ensures turn { result ≡ may_turn self.old now }
         ensures asks { Asks now self.old self.new }
     {
-        let taken = taken_at(self.moment, self.taken, now);
-        let may = taken < TURNS && may_in(self.phase, self.last, now);
-        self.moment = Some(now);
-        self.taken = taken;
+        let taken = taken_at(self.moment(), self.taken(), now);
+        let may = taken < TURNS && may_in(self.phase(), self.last(), now);
         if may {
-            self.taken = taken + 1;
-            if let Phase::FinWait2 = self.phase {
-                self.last = Some(now);
-            }
+            self.count(now, taken + 1);
+            self.set_last(last_after(self.phase(), self.last(), now));
+        } else {
+            self.count(now, taken);
         }
         may
     }
@@ -173,11 +151,11 @@ impl Guard {
     pub fn poll_at(&self, asked: PollAt) -> PollAt
         ensures { result ≡ guarded_poll self.now.phase self.now.end self.now.last asked }
     {
-        let asked = match (self.phase, self.last) {
+        let asked = match (self.phase(), self.last()) {
             (Phase::FinWait2, Some(last)) => not_before(after(last, PACE), asked),
             _ => asked,
         };
-        match self.end {
+        match self.end() {
             None => asked,
             Some(end) => earlier(asked, end),
         }
@@ -258,7 +236,8 @@ fn since_by(same: bool, since: Option<Instant>, now: Instant) -> Option<Instant>
 fn end_of(limit: Option<Duration>, since: Option<Instant>) -> Option<Instant>
     requires limit { ForSome limit (λ d. d.micros ≤ 2 ^ 61) }
     requires since { IsLastTs since }
-    ensures { result ≡ end_of limit since }
+    ensures value { result ≡ end_of limit since }
+    ensures told { IsTold result }
 {
     match (limit, since) {
         (Some(limit), Some(since)) => Some(after(since, limit)),
@@ -283,6 +262,19 @@ fn last_left(phase: Phase, last: Option<Instant>) -> Option<Instant>
     match phase {
         Phase::FinWait2 => last,
         _ => None,
+    }
+}
+
+// The last dispatch in FIN-WAIT-2 once one was allowed now.
+fn last_after(phase: Phase, last: Option<Instant>, now: Instant) -> Option<Instant>
+    requires last { IsLastTs last }
+    requires moment { IsMoment now.micros }
+    ensures value { result ≡ last_after true phase last now }
+    ensures lawful { IsLastTs result }
+{
+    match phase {
+        Phase::FinWait2 => Some(now),
+        _ => last,
     }
 }
 
@@ -332,7 +324,7 @@ fn may_in(phase: Phase, last: Option<Instant>, now: Instant) -> bool
     }
 }
 
-fn taken_at(moment: Option<Instant>, taken: usize, now: Instant) -> usize
+fn taken_at(moment: Option<Instant>, taken: u8, now: Instant) -> u8
     ensures { result ≡ taken_at moment taken now }
 {
     match moment {

@@ -6,8 +6,8 @@ use Rattle.net_host.proofs.filed.Filed.lend_anew.Goals as goal
 
 pub invariant_of-self : goal.invariant_of-self
 invariant_of-self g c = record {
-  indexed = subst (λ l. IsIndexed g.T.Keyed.keys_of c.mark.new.self.complete l c.mark.new.self.slots.items c.mark.new.self.index.entries.items) (sym (c.lent_at-self.ensures ∙ ap (λ xs. lent_of g.T.Keyed.keys_of c.args.place (slice_get xs c.args.place)) c.deref.ensures.value))
-      (lent_at_place g.T.Keyed.keys_of c.mark.new.self.complete c.mark.new.self.lent c.args.place c.mark.new.self.slots.items c.mark.new.self.index.entries.items (c.mark.ensures.lent ∙ c.settle.ensures.settled) c.mark.new.self.indexed);
+  indexed = subst (λ l. IsIndexed g.T.Keyed.keys_of c.mark.new.self.complete l c.mark.new.self.slots.items c.mark.new.self.index c.mark.new.self.free) (sym (c.lent_at-self.ensures ∙ ap (λ xs. lent_of g.T.Keyed.keys_of c.args.place (slice_get xs c.args.place)) c.deref.ensures.value))
+      (lent_at_place g.T.Keyed.keys_of c.mark.new.self.complete c.mark.new.self.lent c.args.place c.mark.new.self.slots.items c.mark.new.self.index c.mark.new.self.free (c.mark.ensures.lent ∙ c.settle.ensures.settled) c.mark.new.self.indexed);
   asleep = c.mark.new.self.asleep;
   as_many = c.mark.new.self.as_many;
 }

@@ -1,9 +1,10 @@
-use Rattle.std.proofs.Common.{◌≡◌, rules, sym, subst, ap}
+use Rattle.std.proofs.Common.{◌≡◌, ◌/◌, ◌<◌, length, rules, sym, subst, ap, arith}
 use Rattle.std.specs.List.{All}
 use Rattle.std.proofs.lemmas.List.Elements.{All-push, All-weaker}
 use Rattle.net_host.specs.Filing.{keys_in, keys_of}
 use Rattle.net_host.specs.Indexing.{no_keys}
 use Rattle.net_host.specs.Slots.{IsFree}
+use Rattle.net_host.proofs.Places.{noted_on}
 use Rattle.net_host.proofs.set.Filed+Slot+G.new.Goals as goal
 
 pub loop-preserved : goal.loop-preserved
@@ -14,6 +15,11 @@ loop-preserved g c = record {
 
 pub of_free-requires-clause-free : goal.of_free-requires-clause-free
 of_free-requires-clause-free g c = All-weaker (λ s. IsFree s) (λ s. keys_of s ≡ no_keys) (λ s h. ap keys_in h) c.loop.slots.items c.loop.invariant.free
+
+pub of_free-requires-clause-noted : goal.of_free-requires-clause-noted
+of_free-requires-clause-noted g c = λ k within.
+    let room : k / 64 < length c.in_ok-free.free = omega (arith, within, c.loop.invariant.count, c.in_ok-free.ensures.room) in
+    noted_on c.in_ok-free.free k room (c.in_ok-free.ensures.marked k room)
 
 pub returns-clause-free : goal.returns-clause-free
 returns-clause-free g c = subst (λ v. All (λ s. IsFree s) v.items) (sym c.of_free.ensures) c.loop.invariant.free

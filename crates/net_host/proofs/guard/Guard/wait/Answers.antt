@@ -1,0 +1,5 @@
+use Rattle.net_host.proofs.Lawful.{lawful_told}
+use Rattle.net_host.proofs.guard.Guard.wait.Goals as goal
+
+pub micros_of-self-inside-requires : goal.micros_of-self-inside-requires
+micros_of-self-inside-requires c = lawful_told c.args.since c.requires.since
