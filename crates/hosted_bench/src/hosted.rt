@@ -37,6 +37,9 @@ struct Host<S> {
     sockets: S,
     handles: Vec<SocketHandle>,
     talks: Vec<Talk>,
+    // room for a packet that goes out, and for one that answers
+    packet: Vec<u8>,
+    reply: Vec<u8>,
     // answers that wait for the host's next turn
     replies: Vec<Vec<u8>>,
     // clients that have no conversation
@@ -88,6 +91,8 @@ fn station<'a>(
         sockets: SocketSet::new(alloc, count)?,
         handles: Vec::new(alloc),
         talks: Vec::new(alloc),
+        packet: vec![in alloc; 0u8; PACKET]?,
+        reply: vec![in alloc; 0u8; PACKET]?,
         replies: Vec::new(alloc),
         idle: Vec::with_capacity(alloc, count)?,
     })
@@ -315,21 +320,15 @@ impl Host<SocketSet<'_, Clock>> {
     ) -> Result<(), AllocError> {
         let held = wire.held();
         let empty = Vec::new(self.alloc);
-        for packet in mem::replace(&mut self.replies, empty) {
-            to.arrive(packet, now, wire, random)?;
+        for reply in mem::replace(&mut self.replies, empty) {
+            to.arrive(reply.as_slice(), now, wire, random)?;
         }
         for _ in 0..PACKETS {
-            let mut packet = [0u8; PACKET];
-            let count = self
-                .interface
-                .emit(&mut self.sockets, now, &mut packet)
-                .unwrap_or(0)
-                .min(PACKET);
+            let count = self.emit(now);
             if count == 0 {
                 break;
             }
-            let packet = Vec::from_slice(self.alloc, &packet[..count])?;
-            to.arrive(packet, now, wire, random)?;
+            to.arrive(&self.packet[..count], now, wire, random)?;
         }
         for packet in held {
             to.receive(packet.as_slice(), now)?;
@@ -337,33 +336,48 @@ impl Host<SocketSet<'_, Clock>> {
         Ok(())
     }
 
+    // Writes the next packet into the room for it, and answers its length, or 0.
+    fn emit(&mut self, now: Instant) -> usize
+        ensures { result ≤ length self.new.packet.items }
+    {
+        let room = self.packet.as_mut_slice();
+        let count = self.interface.emit(&mut self.sockets, now, room);
+        count.unwrap_or(0).min(self.packet.len())
+    }
+
     fn arrive(
         &mut self,
-        mut packet: Vec<u8>,
+        packet: &[u8],
         now: Instant,
         wire: &mut Wire,
         random: &mut Random,
     ) -> Result<(), AllocError> {
         match wire.fate(random) {
-            Fate::Lost => return Ok(()),
-            Fate::Late => return wire.hold(packet),
-            Fate::Twice => self.receive(packet.as_slice(), now)?,
-            Fate::Flipped => flip(&mut packet, random),
-            Fate::Arrives => {}
+            Fate::Lost => Ok(()),
+            Fate::Late => wire.hold(Vec::from_slice(self.alloc, packet)?),
+            Fate::Twice => {
+                self.receive(packet, now)?;
+                self.receive(packet, now)
+            }
+            Fate::Flipped => {
+                let mut packet = Vec::from_slice(self.alloc, packet)?;
+                flip(&mut packet, random);
+                self.receive(packet.as_slice(), now)
+            }
+            Fate::Arrives => self.receive(packet, now),
         }
-        self.receive(packet.as_slice(), now)
     }
 
     fn receive(&mut self, packet: &[u8], now: Instant) -> Result<(), AllocError> {
-        let mut reply = [0u8; PACKET];
+        let room = self.reply.as_mut_slice();
         let count = self
             .interface
-            .receive(&mut self.sockets, now, packet, &mut reply)
+            .receive(&mut self.sockets, now, packet, room)
             .unwrap_or(0)
-            .min(PACKET);
+            .min(self.reply.len());
         if count > 0 {
-            self.replies
-                .push(Vec::from_slice(self.alloc, &reply[..count])?)?;
+            let reply = Vec::from_slice(self.alloc, &self.reply[..count])?;
+            self.replies.push(reply)?;
         }
         Ok(())
     }
