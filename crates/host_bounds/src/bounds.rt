@@ -123,16 +123,6 @@ impl Bounds {
         requires { end ≤ length self.now }
         ensures { FindsReached self.now start end now result }
     {
-        if self.are_after(now) {
-            return None;
-        }
-        self.next_reached(start, end, now)
-    }
-
-    fn next_reached(&self, start: usize, end: usize, now: i64) -> Option<usize>
-        requires { end ≤ length self.now }
-        ensures { FindsReached self.now start end now result }
-    {
         let first = self.first(start, end, now).max(start);
         if end <= first {
             return None;
