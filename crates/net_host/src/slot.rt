@@ -9,8 +9,10 @@ use sock_tcp::{Generator, TsvalSource};
 /// Names a socket of a set. A socket that is put where another one was removed has another handle.
 #[derive(Debug, Clone, Copy, PartialEq, Eq)]
 pub struct SocketHandle {
-    pub(crate) index: usize,
-    pub(crate) generation: u64,
+    /// Its place in the set, below `capacity`.
+    pub index: usize,
+    /// How many sockets were removed from this place before, modulo 2^64.
+    pub generation: u64,
 }
 
 /// A place for a socket, and what the host remembers beside it.
