@@ -1,9 +1,10 @@
 //! An interface: what arrives goes to the sockets that it is for, and what they have to say goes out.
-ghost use Rattle.std.specs.Prelude.{◌≡◌, ◌↔◌, ◌<◌, ◌≤◌, IsTrue, IfOk, Ok, None, is_err, length, max, min, pos};
+ghost use Rattle.std.specs.Prelude.{ℕ, ◌≡◌, ◌+◌, ◌↔◌, ◌<◌, ◌≤◌, IsTrue, IfOk, Ok, None, is_err, length, max, min, pos};
 ghost use Rattle.std.specs.Prelude.{false};
 ghost use Rattle.sock_tcp.specs.Polls.{is_reached};
 ghost use Rattle.sock_tcp.specs.View.{moment_of};
 ghost use Rattle.host_groups.specs.Joining.{has_group, join_answer, joined, leave_answer, left, no_groups};
+ghost use Rattle.net_host.specs.Addresses.{source_of};
 ghost use Rattle.net_host.specs.Facts.{facts_by};
 ghost use Rattle.net_host.specs.Guards.{usual};
 ghost use Rattle.net_host.specs.HostCalls.{EmitsAt, MovesTo, ReceivesAt};
@@ -165,8 +166,20 @@ impl<W: Words> Interface<W> {
     }
 }
 
-// When to look again.
+// Words, and when to look again.
 impl<W: Words> Interface<W> {
+    /// The next random word, which no socket draws any more.
+    pub fn rand_u32(&mut self) -> u32
+        ensures word { result ≡ W.word_at self.old.inner.words 0 }
+        ensures words { (k : ℕ) → W.word_at self.new.inner.words k ≡ W.word_at self.old.inner.words (k + 1) }
+        ensures same { (self.new.inner.environment ≡ self.old.inner.environment) × (self.new.turn ≡ self.old.turn)
+            × (self.new.resets ≡ self.old.resets) × (self.new.errors ≡ self.old.errors)
+            × (self.new.counters ≡ self.old.counters) × (self.new.guards ≡ self.old.guards)
+            × (self.new.cookies ≡ self.old.cookies) × (self.new.groups ≡ self.old.groups) }
+    {
+        self.inner.words.next()
+    }
+
     /// When `emit` next has something to do: the earliest moment at which a socket is due, as its guard allows. The
     /// moment is that of the last `emit` or `receive`, and the guards are as they were left there: so ask after an
     /// `emit` that answered 0. The answer lies after its moment then, and no other socket is asked than the one that it
@@ -204,6 +217,29 @@ impl<W> Interface<W> {
             cookies: None,
             groups: Groups::none(),
         }
+    }
+
+    /// The moment of the last packet that was taken or asked for; 0 before the first.
+    pub fn now(&self) -> Instant
+        ensures { result ≡ self.now.inner.environment.now }
+    {
+        self.inner.environment.now
+    }
+
+    /// The largest IP packet, in bytes.
+    pub fn ip_mtu(&self) -> usize
+        ensures value { result ≡ self.now.inner.environment.mtu }
+        ensures within { result ≤ 65535 }
+    {
+        self.inner.environment.mtu
+    }
+
+    /// The own address from which a packet to this one is sent: of the network that has it, else the first of its
+    /// version; none where there is none. As smoltcp's.
+    pub fn get_source_address(&self, dst: &IpAddress) -> Option<IpAddress>
+        ensures { result ≡ source_of self.now.inner.environment.addresses.items dst.now }
+    {
+        self.inner.environment.source(dst)
     }
 
     /// The context of the sockets' calls.
