@@ -91,6 +91,12 @@ bind_answer (Err bind_error.Unaddressable) = error_address
 abbrev pub error_empty : ℤ
 error_empty = negsuc 10
 
+abbrev pub error_memory : ℤ
+error_memory = negsuc 11
+
+abbrev pub error_socket : ℤ
+error_socket = negsuc 12
+
 -- a packet that is copied out of a queue: how many bytes it has
 abbrev pub refused_copy : CopyError → ℤ
 refused_copy copy_error.Exhausted = error_empty

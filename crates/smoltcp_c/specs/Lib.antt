@@ -3,6 +3,7 @@ pub mod Asked
 pub mod Context
 pub mod Ends
 pub mod Heard
+pub mod Host
 pub mod Icmp
 pub mod InPlace
 pub mod Memory

@@ -32,6 +32,12 @@ pub const ERROR_RANGE: i64 = -9;
 /// No packet waits.
 pub const ERROR_EMPTY: i64 = -11;
 
+/// The heap has too little memory.
+pub const ERROR_MEMORY: i64 = -12;
+
+/// The host has no socket of this name and kind.
+pub const ERROR_SOCKET: i64 = -13;
+
 /// The packet is not for this socket.
 pub const NOT_ACCEPTED: i64 = -8;
 

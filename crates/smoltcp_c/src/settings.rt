@@ -30,8 +30,8 @@ fn flag_in(n: u8) -> bool
 // The longest length of time, in microseconds.
 const LONGEST: u64 = 1 << 61;
 
-// None where the number is below 0.
-fn micros_in(micros: i64) -> Option<Duration>
+/// None where the number is below 0.
+pub fn micros_in(micros: i64) -> Option<Duration>
     ensures { result ≡ micros_in micros }
 {
     if micros < 0 {
