@@ -210,7 +210,7 @@ int64_t smoltcp_host_remove_icmp(struct smoltcp_host *host, const struct smoltcp
 
 /* Lends the socket of this name until the next call on the host: writes where it lies into out. A socket that was lent
  * is asked by the next emit, whatever was done to it: so lend those alone that something is to be done to.
- * SMOLTCP_ERROR_SOCKET where the host has no TCP socket of this name; out is as it was then.
+ * SMOLTCP_ERROR_SOCKET where the host has no TCP socket of this name, and NULL in out, on which each call is refused.
  *
  * Errors: SMOLTCP_ERROR_SOCKET, SMOLTCP_ERROR_NULL. */
 int64_t smoltcp_host_tcp(struct smoltcp_host *host, const struct smoltcp_socket_id *id, struct smoltcp_tcp **out);

@@ -39,7 +39,7 @@ SMOLTCP_INLINE int64_t smoltcp_host_tcp(struct smoltcp_host *host, const struct 
     int64_t answer;
     if (!host || !id || !out) return SMOLTCP_ERROR_NULL;
     answer = smoltcp_host_tcp_nonnull(&h, id, &place);
-    if (answer == SMOLTCP_OK) *out = (struct smoltcp_tcp *)(void *)place.at;
+    *out = answer == SMOLTCP_OK ? (struct smoltcp_tcp *)(void *)place.at : NULL;
     return answer;
 }
 
@@ -50,7 +50,7 @@ SMOLTCP_INLINE int64_t smoltcp_host_udp(struct smoltcp_host *host, const struct 
     int64_t answer;
     if (!host || !id || !out) return SMOLTCP_ERROR_NULL;
     answer = smoltcp_host_udp_nonnull(&h, id, &place);
-    if (answer == SMOLTCP_OK) *out = (struct smoltcp_udp *)(void *)place.at;
+    *out = answer == SMOLTCP_OK ? (struct smoltcp_udp *)(void *)place.at : NULL;
     return answer;
 }
 
@@ -61,7 +61,7 @@ SMOLTCP_INLINE int64_t smoltcp_host_raw(struct smoltcp_host *host, const struct 
     int64_t answer;
     if (!host || !id || !out) return SMOLTCP_ERROR_NULL;
     answer = smoltcp_host_raw_nonnull(&h, id, &place);
-    if (answer == SMOLTCP_OK) *out = (struct smoltcp_raw *)(void *)place.at;
+    *out = answer == SMOLTCP_OK ? (struct smoltcp_raw *)(void *)place.at : NULL;
     return answer;
 }
 
@@ -72,6 +72,6 @@ SMOLTCP_INLINE int64_t smoltcp_host_icmp(struct smoltcp_host *host, const struct
     int64_t answer;
     if (!host || !id || !out) return SMOLTCP_ERROR_NULL;
     answer = smoltcp_host_icmp_nonnull(&h, id, &place);
-    if (answer == SMOLTCP_OK) *out = (struct smoltcp_icmp *)(void *)place.at;
+    *out = answer == SMOLTCP_OK ? (struct smoltcp_icmp *)(void *)place.at : NULL;
     return answer;
 }
