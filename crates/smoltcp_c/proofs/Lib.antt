@@ -10,6 +10,7 @@ mod Lent
 mod Owned
 mod RawSending
 mod Placing
+mod Pointing
 mod Reading
 mod Refused
 mod Replies

@@ -1,7 +1,7 @@
 -- A host as C holds it: what its numbers mean, and what its calls do.
 use Rattle.std.specs.Prelude.{ℕ, ℤ, pos, negsuc, ◌≡◌, ◌==◌, ◌||◌, min, Bool, true, false, List, Option, Some, None}
-use Rattle.std.specs.Prelude.{Result, Ok, Err, length, if◌then◌else◌}
-use Rattle.std.specs.List.{All, map, list_all}
+use Rattle.std.specs.Prelude.{Result, Ok, Err, length, map, if◌then◌else◌}
+use Rattle.std.specs.List.{All, list_all}
 use Rattle.std.specs.Mem.{type_size}
 use Rattle.rand_chacha.specs.ChaCha.{of_seed}
 use Rattle.ip_wire.specs.declared.address.IpAddress.{IpAddress}
@@ -103,10 +103,10 @@ init_answer true false = error_memory
 init_answer true true = pos 0
 
 -- a host with these addresses and room for so many sockets, of which it has none yet
-pub record IsMade (capacity : ℕ) (addresses : List Cidr) (key : Key) (w : Host) : Type 0 where
-  pub capacity : length (slots_of w) ≡ capacity
+pub record IsMade (n : ℕ) (as : List Cidr) (key : Key) (w : Host) : Type 0 where
+  pub capacity : length (slots_of w) ≡ n
   pub free : All IsFree (slots_of w)
-  pub addresses : w.interface.inner.environment.addresses.items ≡ map (λ c. cidr_in c) addresses
+  pub addresses : w.interface.inner.environment.addresses.items ≡ map (λ c. cidr_in c) as
   pub words : w.interface.inner.words.generator ≡ of_seed key.bytes
   pub now : w.interface.inner.environment.now.micros ≡ pos 0
   pub mtu : w.interface.inner.environment.mtu ≡ 1500
@@ -156,9 +156,9 @@ abbrev pub source_for : HostHandle → Address → Option IpAddress
 source_for h remote = source_of (interface h).inner.environment.addresses.items (address_in remote)
 
 -- at the host's moment and with its MTU, with this word, and the source of packets to the peer
-pub record IsContext (h : HostHandle) (remote : Address) (word : ℕ) (cx : Cx) : Type 0 where
+pub record IsContext (h : HostHandle) (remote : Address) (drawn : ℕ) (cx : Cx) : Type 0 where
   pub now : cx.now ≡ (interface h).inner.environment.now.micros
-  pub word : cx.word ≡ word
+  pub word : cx.word ≡ drawn
   pub ip_mtu : cx.ip_mtu ≡ (interface h).inner.environment.mtu
   pub v4 : cx.v4 ≡ v4_of (source_for h remote)
   pub v6 : cx.v6 ≡ v6_of (source_for h remote)

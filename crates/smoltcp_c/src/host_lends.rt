@@ -33,7 +33,7 @@ impl HostRoom {
     /// Puts the host there.
     pub fn fill(&mut self, host: Host)
         requires empty { self.old.made ≡ None }
-        ensures made { self.new ≡ record self.old { made = Some host.entry } }
+        ensures made { self.new ≡ record self.old { made = Some host } }
     {
         unsafe {
             (self.at as *mut Host).write(host);

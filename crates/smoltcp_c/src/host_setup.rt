@@ -1,11 +1,7 @@
 //! A host is made, and let go of.
-ghost use Rattle.std.specs.Prelude.{◌≡◌, IfOk, IfSome, false, true, is_some, length, None, pos};
-ghost use Rattle.std.specs.Mem.{type_size};
-ghost use Rattle.std.specs.List.{All, map};
-ghost use Rattle.net_host.specs.Slots.{IsFree};
-ghost use Rattle.smoltcp_c.specs.Answers.{error_address};
+ghost use Rattle.std.specs.Prelude.{◌≡◌, IfOk, IfSome, false, true, is_some, map, None, pos};
+ghost use Rattle.smoltcp_c.specs.Answers.{error_state};
 ghost use Rattle.smoltcp_c.specs.Host.{HasNone, IsMade, are_addresses, cidr_in, host_size, init_answer};
-ghost use Rattle.smoltcp_c.specs.Host.{is_address, left_by_release, release_answer};
 
 use crate::answers::{ERROR_ADDRESS, ERROR_MEMORY, ERROR_STATE, OK};
 use crate::host::{Host, HostRoom};

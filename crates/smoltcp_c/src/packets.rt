@@ -14,7 +14,7 @@ ghost use Rattle.smoltcp_c.specs.Answers.{sent_answer, error_context, error_room
 ghost use Rattle.smoltcp_c.specs.Context.{is_context};
 ghost use Rattle.smoltcp_c.specs.Packets.{size_of, written_over, outcome_in, reply_in, reset_of, Hears, DispatchesInto};
 ghost use Rattle.smoltcp_c.specs.Wire.{Writes};
-ghost use Rattle.smoltcp_c.specs.Tcp.{RefusesFor, clock, clock_at, ended, view};
+ghost use Rattle.smoltcp_c.specs.Tcp.{IsSocket, RefusesFor, clock, clock_at, ended, view};
 
 use crate::answers::{ERROR_ROOM, NOT_ACCEPTED, OK};
 use crate::clock::Clock;
@@ -113,6 +113,17 @@ fn set_clock(socket: &mut Socket<'_, Clock>, tsval: u32)
     if socket.timestamp_enabled() {
         socket.set_tsval_source(Some(Clock { tsval }));
     }
+}
+
+/// Sets the clock of the timestamps that the socket sends, where it sends any, as a context does in `process` and
+/// `dispatch`: for a socket of a host, whose calls have none. Answers 0.
+#[unsafe(no_mangle)]
+pub extern "C" fn smoltcp_tcp_set_tsval_nonnull(h: &mut TcpHandle, tsval: u32) -> i64
+    ensures answer { result ≡ pos 0 }
+    ensures clock { IsSocket h.old (view h.old) (clock_at (clock h.old) tsval) (ended h.old) h.new }
+{
+    set_clock(h.socket(), tsval);
+    OK
 }
 
 // Gives the segment to the socket, and writes the reply.
