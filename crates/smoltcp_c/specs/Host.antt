@@ -103,10 +103,10 @@ init_answer true false = error_memory
 init_answer true true = pos 0
 
 -- a host with these addresses and room for so many sockets, of which it has none yet
-pub record IsMade (n : ℕ) (as : List Cidr) (key : Key) (w : Host) : Type 0 where
+pub record IsMade (n : ℕ) (cs : List Cidr) (key : Key) (w : Host) : Type 0 where
   pub capacity : length (slots_of w) ≡ n
   pub free : All IsFree (slots_of w)
-  pub addresses : w.interface.inner.environment.addresses.items ≡ map (λ c. cidr_in c) as
+  pub addresses : w.interface.inner.environment.addresses.items ≡ map (λ c. cidr_in c) cs
   pub words : w.interface.inner.words.generator ≡ of_seed key.bytes
   pub now : w.interface.inner.environment.now.micros ≡ pos 0
   pub mtu : w.interface.inner.environment.mtu ≡ 1500

@@ -1,5 +1,5 @@
 //! The sockets of a host, lent: where each lies, and which were touched.
-ghost use Rattle.std.specs.Prelude.{◌≡◌, None, Some, length, option_map, pos};
+ghost use Rattle.std.specs.Prelude.{ℕ, ◌≡◌, ◌+◌, None, Some, length, option_map, pos};
 ghost use Rattle.host_bounds.specs.Bounding.{FindsReached, at_once, bound_at};
 ghost use Rattle.net_host.specs.Slots.{handle_at, icmp_at, raw_at, tcp_at, udp_at};
 ghost use Rattle.smoltcp_c.specs.Host.{IsContext, Tells, found_answer, id_told, interface, named, slots, source_for};
@@ -163,6 +163,8 @@ pub extern "C" fn smoltcp_host_context_nonnull(
 ) -> i64
     ensures answer { result ≡ pos 0 }
     ensures told { IsContext h.old remote.now (⟦<Secret as Words>⟧.word_at (interface h.old).inner.words 0) out.new }
+    ensures words { (k : ℕ) → ⟦<Secret as Words>⟧.word_at (interface h.new).inner.words k
+        ≡ ⟦<Secret as Words>⟧.word_at (interface h.old).inner.words (k + 1) }
     ensures environment { (interface h.new).inner.environment ≡ (interface h.old).inner.environment }
     ensures interface { ((interface h.new).turn ≡ (interface h.old).turn)
         × ((interface h.new).resets ≡ (interface h.old).resets) × ((interface h.new).errors ≡ (interface h.old).errors)
