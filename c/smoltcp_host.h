@@ -32,9 +32,13 @@
 extern "C" {
 #endif
 
-/* Memory for a host, for these calls alone; from smoltcp_host_init on it stays where it is. */
+/* Memory for a host, for these calls alone; from smoltcp_host_init on it stays where it is. It lies at a multiple of 16,
+ * as the compiler and malloc put it, since the library has numbers of 128 bits in it. */
 enum { SMOLTCP_HOST_SIZE = 1024 };
-struct smoltcp_host { uint64_t opaque[SMOLTCP_HOST_SIZE / 8]; };
+struct smoltcp_host { union { uint64_t opaque[SMOLTCP_HOST_SIZE / 8]; long double aligned; } memory; };
+#if defined(__STDC_VERSION__) && __STDC_VERSION__ >= 201112L
+_Static_assert(_Alignof(struct smoltcp_host) == 16, "a host lies at a multiple of 16");
+#endif
 
 /* An address, and how many of its first bits are those of its network: at most 32 of IPv4, and 128 of IPv6; more count
  * as so many. */
