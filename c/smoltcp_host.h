@@ -21,8 +21,8 @@
  * smoltcp_host_init made and that has not been moved, copied or written since; of one host one call runs at a time,
  * those on a socket that it lends among them; nothing moves, copies or writes what is lent.
  *
- * Timestamps (RFC 7323) are better left off in a host. The clock of a socket there stands, as no context comes with a
- * packet: at 0 from smoltcp_tcp_set_timestamps on, and at the context's where smoltcp_tcp_connect was told one. */
+ * Timestamps (RFC 7323) are better left off in a host: the clock of a socket stands there, as no context comes with a
+ * packet, until smoltcp_tcp_set_tsval sets it. */
 #ifndef SMOLTCP_HOST_H
 #define SMOLTCP_HOST_H
 

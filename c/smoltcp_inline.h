@@ -190,6 +190,12 @@ SMOLTCP_INLINE int64_t smoltcp_tcp_set_timestamps(struct smoltcp_tcp *s, uint8_t
     return smoltcp_tcp_set_timestamps_nonnull(&h, enabled);
 }
 
+SMOLTCP_INLINE int64_t smoltcp_tcp_set_tsval(struct smoltcp_tcp *s, uint32_t tsval) {
+    struct smoltcp_tcp_handle h = {SMOLTCP_AT(s)};
+    if (!s) return SMOLTCP_ERROR_NULL;
+    return smoltcp_tcp_set_tsval_nonnull(&h, tsval);
+}
+
 SMOLTCP_INLINE int64_t smoltcp_tcp_state(const struct smoltcp_tcp *s) {
     struct smoltcp_tcp_handle h = {SMOLTCP_AT(s)};
     if (!s) return SMOLTCP_ERROR_NULL;

@@ -87,6 +87,7 @@ int64_t smoltcp_tcp_set_nagle_enabled_nonnull(struct smoltcp_tcp_handle *h, uint
 int64_t smoltcp_tcp_set_rules_nonnull(struct smoltcp_tcp_handle *h, uint32_t rules);
 int64_t smoltcp_tcp_set_timeout_nonnull(struct smoltcp_tcp_handle *h, int64_t micros);
 int64_t smoltcp_tcp_set_timestamps_nonnull(struct smoltcp_tcp_handle *h, uint8_t enabled);
+int64_t smoltcp_tcp_set_tsval_nonnull(struct smoltcp_tcp_handle *h, uint32_t tsval);
 int64_t smoltcp_tcp_state_nonnull(struct smoltcp_tcp_handle *h);
 int64_t smoltcp_udp_accepts_nonnull(struct smoltcp_udp_handle *h, const struct smoltcp_context *cx,
                                     const uint8_t *packet, size_t len);

@@ -245,6 +245,12 @@ int64_t smoltcp_tcp_set_rules(struct smoltcp_tcp *s, uint32_t rules);
  * Errors: SMOLTCP_ERROR_NULL. */
 int64_t smoltcp_tcp_set_timestamps(struct smoltcp_tcp *s, uint8_t enabled);
 
+/* Sets the clock of timestamps, where the socket sends them, as the tsval of a context does in process and dispatch:
+ * for a socket of a host (smoltcp_host.h), whose packets come with no context. Set it often enough that it ticks.
+ *
+ * Errors: SMOLTCP_ERROR_NULL. */
+int64_t smoltcp_tcp_set_tsval(struct smoltcp_tcp *s, uint32_t tsval);
+
 /* The user timeout in microseconds, or -1 for none.
  *
  * Errors: SMOLTCP_ERROR_NULL. */

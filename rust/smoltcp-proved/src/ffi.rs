@@ -226,6 +226,7 @@ unsafe extern "C" {
     pub fn smoltcp_tcp_set_rules_nonnull(h: &mut TcpHandle, rules: u32) -> i64;
     pub fn smoltcp_tcp_set_timeout_nonnull(h: &mut TcpHandle, micros: i64) -> i64;
     pub fn smoltcp_tcp_set_timestamps_nonnull(h: &mut TcpHandle, enabled: u8) -> i64;
+    pub fn smoltcp_tcp_set_tsval_nonnull(h: &mut TcpHandle, tsval: u32) -> i64;
     pub fn smoltcp_tcp_state_nonnull(h: &mut TcpHandle) -> i64;
     pub fn smoltcp_udp_accepts_nonnull(h: &mut UdpHandle, cx: &Context, packet: *const u8, len: usize) -> i64;
     pub fn smoltcp_udp_ask_nonnull(h: &mut UdpHandle, what: u32) -> i64;
