@@ -75,8 +75,8 @@ struct smoltcp_counters {
 /* The size of a host that the library has, in bytes. */
 size_t smoltcp_host_size(void);
 
-/* Makes a host in the memory, with count addresses and room for capacity sockets, which takes some 800 bytes each of
- * the heap. Its moment is 0, its MTU 1500 bytes, and its guards are 30 seconds for a handshake, a minute for closing
+/* Makes a host in the memory, with count addresses and room for capacity sockets, which takes less than 800 bytes
+ * each of the heap. Its moment is 0, its MTU 1500 bytes, and its guards are 30 seconds for a handshake, a minute for closing
  * and for timeout, and two minutes for window. The key is what initial sequence numbers are made of (RFC 6528): no two
  * hosts have the same. SMOLTCP_ERROR_ADDRESS where an address is of no version,
  * SMOLTCP_ERROR_MEMORY where the heap has too little; nothing is kept then, and no host is there.
