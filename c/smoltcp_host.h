@@ -19,10 +19,11 @@
  *
  * What the caller has to keep beside what smoltcp_socket.h says, which nothing tests: a host is memory that
  * smoltcp_host_init made and that has not been moved, copied or written since; of one host one call runs at a time,
- * those on a socket that it lends among them; nothing moves, copies or writes what is lent.
+ * those on a socket that it lends among them; nothing moves, copies or writes what is lent; init and release are not
+ * called by a handler of a signal, nor in a child that a process with threads has forked.
  *
- * Timestamps (RFC 7323) are better left off in a host. The clock of a socket there stands, as no context comes with a
- * packet: at 0 from smoltcp_tcp_set_timestamps on, and at the context's where smoltcp_tcp_connect was told one. */
+ * Timestamps (RFC 7323) are better left off in a host: the clock of a socket there stands, at 0 from
+ * smoltcp_tcp_set_timestamps on, as no context comes with a packet. */
 #ifndef SMOLTCP_HOST_H
 #define SMOLTCP_HOST_H
 
