@@ -38,7 +38,8 @@ pub extern "C" fn smoltcp_host_receive_nonnull(
         → Counts result (λ n. ReceivesAt ⟦<IpAddress as PartialEq>⟧.eq ⟦<Secret as Words>⟧.word_at
         ⟦<Clock as TsvalSource>⟧.tells (record { micros = now }) packet.now (interface h.old) (slots h.old) reply.old n
         (interface h.new) (slots h.new) reply.new) }
-    ensures within { Counts result (λ n. n ≤ length reply.old) }
+    ensures within { max (interface h.old).inner.environment.mtu 100 ≤ length reply.old
+        → Counts result (λ n. n ≤ length reply.old) }
     ensures at { h.new.at ≡ h.old.at }
 {
     let host = h.host();
