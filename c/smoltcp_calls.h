@@ -22,13 +22,15 @@ SMOLTCP_INLINE const char *smoltcp_strerror(int64_t answer) {
     case SMOLTCP_ERROR_STATE: return "not in this state of the socket";
     case SMOLTCP_ERROR_ADDRESS: return "a port or an address is missing or of another version";
     case SMOLTCP_ERROR_FINISHED: return "the peer has closed, and all that it sent was read";
-    case SMOLTCP_ERROR_VERSION: return "a header of another size of socket";
+    case SMOLTCP_ERROR_VERSION: return "a header of another size of socket or host";
     case SMOLTCP_ERROR_CONTEXT: return "the context's moment or its MTU is out of range";
     case SMOLTCP_ERROR_ROOM: return "too little room for a packet";
     case SMOLTCP_ERROR_NULL: return "a pointer is null";
     case SMOLTCP_NOT_ACCEPTED: return "the packet is not for this socket";
     case SMOLTCP_ERROR_RANGE: return "a number is out of its range";
     case SMOLTCP_ERROR_EMPTY: return "no packet waits";
+    case SMOLTCP_ERROR_MEMORY: return "the heap has too little memory";
+    case SMOLTCP_ERROR_SOCKET: return "the host has no socket of this name and kind";
     default: return "no answer of any call";
     }
 }

@@ -21,13 +21,15 @@ enum {
     SMOLTCP_ERROR_STATE = -1,    /* the state of the socket does not allow the call */
     SMOLTCP_ERROR_ADDRESS = -2,  /* a port or an address is missing or of another version, also the interface's */
     SMOLTCP_ERROR_FINISHED = -3, /* the peer has closed, and all that it sent was read */
-    SMOLTCP_ERROR_VERSION = -4,  /* the program was compiled with a header of another size of socket */
+    SMOLTCP_ERROR_VERSION = -4,  /* the program was compiled with a header of another size of socket or host */
     SMOLTCP_ERROR_CONTEXT = -5,  /* the context's moment or its MTU is out of range */
     SMOLTCP_ERROR_ROOM = -6,     /* a buffer or a queue has too little room for a packet */
     SMOLTCP_ERROR_NULL = -7,     /* a pointer is null */
     SMOLTCP_NOT_ACCEPTED = -8,   /* the packet is not for this socket */
     SMOLTCP_ERROR_RANGE = -9,    /* a number is out of its range */
-    SMOLTCP_ERROR_EMPTY = -11    /* no packet waits */
+    SMOLTCP_ERROR_EMPTY = -11,   /* no packet waits */
+    SMOLTCP_ERROR_MEMORY = -12,  /* the heap has too little memory */
+    SMOLTCP_ERROR_SOCKET = -13   /* the host has no socket of this name and kind */
 };
 
 /* States, as in RFC 9293. */

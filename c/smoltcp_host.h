@@ -1,0 +1,264 @@
+/* A host of many sockets: an interface with one or several addresses, and the sockets that it speaks for. A program
+ * includes this header, which brings in smoltcp_socket.h, and links libsmoltcp_host.a in place of libsmoltcp_c.a.
+ *
+ * The host does what lies between sockets and a device that carries IP packets of version 4 and 6. It looks at each
+ * packet that arrives, gives it to the socket that it is for, and answers it: pings, and segments and datagrams for
+ * nobody. It lets the sockets speak in turn, tells when to look again, and keeps peers from holding sockets for ever.
+ *
+ * A socket of a host begins in memory of the program: its init makes it there over its buffers, and calls on it may set
+ * it up. smoltcp_host_add_tcp moves it into the host and gives it a name; the memory is the program's again then, while
+ * the buffers stay the socket's. smoltcp_host_tcp lends it for the calls of smoltcp_tcp.h, and smoltcp_host_remove_tcp
+ * moves it back into such memory, where release gives the buffers back. It is alike for the other kinds.
+ *
+ * What a pointer that was lent may be used for, until the next call on the host, whichever it is: all calls of that
+ * kind of socket but init, release, and those that the host makes itself: process, dispatch, poll_at and accepts. So
+ * only one socket of a host is lent at a time.
+ *
+ * smoltcp_host_init takes the host's tables from the heap, by the three functions of smoltcp_heap.h, and
+ * smoltcp_host_release gives them back; no other call uses the heap, keeps anything elsewhere, or calls back.
+ *
+ * What the caller has to keep beside what smoltcp_socket.h says, which nothing tests: a host is memory that
+ * smoltcp_host_init made and that has not been moved, copied or written since; of one host one call runs at a time,
+ * those on a socket that it lends among them; nothing moves, copies or writes what is lent.
+ *
+ * Timestamps (RFC 7323) are better left off in a host. The clock of a socket there stands, as no context comes with a
+ * packet: at 0 from smoltcp_tcp_set_timestamps on, and at the context's where smoltcp_tcp_connect was told one. */
+#ifndef SMOLTCP_HOST_H
+#define SMOLTCP_HOST_H
+
+#include "smoltcp_socket.h"
+
+#ifdef __cplusplus
+extern "C" {
+#endif
+
+/* Memory for a host, for these calls alone; from smoltcp_host_init on it stays where it is. */
+enum { SMOLTCP_HOST_SIZE = 1024 };
+struct smoltcp_host { uint64_t opaque[SMOLTCP_HOST_SIZE / 8]; };
+
+/* An address, and how many of its first bits are those of its network: at most 32 of IPv4, and 128 of IPv6; more count
+ * as so many. */
+struct smoltcp_cidr { struct smoltcp_address address; uint8_t prefix_len; };
+
+/* Secret bytes, drawn anew at each start of the program, from getrandom or the like. */
+struct smoltcp_key { uint8_t bytes[32]; };
+
+/* Names a socket of a host: its place, and how many sockets the place had before. So a socket that is put where another
+ * was removed has another name. */
+struct smoltcp_socket_id { size_t index; uint64_t generation; };
+
+/* How long a peer may leave a TCP connection waiting, in microseconds; below 0, as long as it likes. More than 2^60
+ * count as so many.
+ *
+ * handshake: until SYN-RECEIVED is left. It is given up without an RST, and the socket listens again.
+ * closing: each of FIN-WAIT-1, FIN-WAIT-2, CLOSING and LAST-ACK. The connection is aborted.
+ * window: a window of 0 while bytes wait to be sent, without one byte acknowledged (RFC 6429). It is aborted.
+ * timeout: the user timeout that each socket is given (RFC 9293, section 3.9.1); below 0, each keeps its own. */
+struct smoltcp_guards { int64_t handshake, closing, window, timeout; };
+
+/* How many packets were dropped, by their reasons, and what became of SYN cookies. A number that is full begins anew.
+ *
+ * malformed: no IP packet, a wrong length or header checksum, or a fragment. source: from what no single other host
+ * has. destination: to no address of the host, no broadcast and no group that it joined. protocol: of none that it
+ * speaks. segment, datagram, message: of TCP, UDP, ICMP, with a wrong header, length or checksum. busy: a SYN for a
+ * port that is served, while no socket is free. nobody: for no socket. Then SYNs that were answered without a socket,
+ * and acknowledgements of such answers that took a socket, or that answered none. */
+struct smoltcp_counters {
+    uint64_t malformed, source, destination, protocol, segment, datagram, message, busy, nobody;
+    uint64_t cookies_sent, cookies_taken, cookies_wrong;
+};
+
+/* The size of a host that the library has, in bytes. */
+size_t smoltcp_host_size(void);
+
+/* Makes a host in the memory, with count addresses and room for capacity sockets, which takes some 800 bytes each of
+ * the heap. Its moment is 0, its MTU 1500 bytes, and its guards are 30 seconds for a handshake, a minute for closing
+ * and for timeout, and two minutes for window. The key is what initial sequence numbers are made of (RFC 6528): no two
+ * hosts have the same. SMOLTCP_ERROR_ADDRESS where an address is of no version,
+ * SMOLTCP_ERROR_MEMORY where the heap has too little; nothing is kept then, and no host is there.
+ *
+ * Errors: SMOLTCP_ERROR_ADDRESS, SMOLTCP_ERROR_MEMORY, SMOLTCP_ERROR_VERSION, SMOLTCP_ERROR_NULL. */
+int64_t smoltcp_host_init(struct smoltcp_host *host, size_t capacity, const struct smoltcp_cidr *addresses,
+                          size_t count, const struct smoltcp_key *key);
+
+/* The same, told the size of the memory, which in C and C++ the macro tells for smoltcp_host_init:
+ * SMOLTCP_ERROR_VERSION where it is not the library's, with nothing changed. */
+int64_t smoltcp_host_init_sized(struct smoltcp_host *host, size_t size, size_t capacity,
+                                const struct smoltcp_cidr *addresses, size_t count, const struct smoltcp_key *key);
+#define smoltcp_host_init(host, ...) smoltcp_host_init_sized((host), sizeof *(host), __VA_ARGS__)
+
+/* Lets go of the host: its tables go back to the heap, and its memory is the program's again. SMOLTCP_ERROR_STATE, with
+ * nothing changed, where a socket is in it: remove each before.
+ *
+ * Errors: SMOLTCP_ERROR_STATE, SMOLTCP_ERROR_NULL. */
+int64_t smoltcp_host_release(struct smoltcp_host *host);
+
+/* Sets the largest IP packet, in bytes: 68 to 65535, and the nearest of these for any other. Over IPv6 less than 576
+ * counts as that.
+ *
+ * Errors: SMOLTCP_ERROR_NULL. */
+int64_t smoltcp_host_set_mtu(struct smoltcp_host *host, size_t mtu);
+
+/* Sets how long peers may leave TCP connections waiting, from the next emit on.
+ *
+ * Errors: SMOLTCP_ERROR_NULL. */
+int64_t smoltcp_host_set_guards(struct smoltcp_host *host, const struct smoltcp_guards *guards);
+
+/* From the next packet on a SYN may be answered without a socket, under this key, which is another than that of init
+ * (RFC 4987, section 3.6): so a flood of SYNs takes no socket. The sockets from the place kept_from on are kept for
+ * peers that answer: where none before it listens for a SYN, and one of these does, the SYN is answered so.
+ *
+ * Errors: SMOLTCP_ERROR_NULL. */
+int64_t smoltcp_host_set_syn_cookies(struct smoltcp_host *host, const struct smoltcp_key *key, size_t kept_from);
+
+/* No SYN is answered without a socket any more, as in a new host.
+ *
+ * Errors: SMOLTCP_ERROR_NULL. */
+int64_t smoltcp_host_stop_syn_cookies(struct smoltcp_host *host);
+
+/* Joins a group: packets to it are taken then, for UDP and raw sockets. Nobody is told of it by IGMP or MLD.
+ * SMOLTCP_ERROR_ADDRESS where the address is none of a group, SMOLTCP_ERROR_ROOM where four others were joined.
+ *
+ * Errors: SMOLTCP_ERROR_ADDRESS, SMOLTCP_ERROR_ROOM, SMOLTCP_ERROR_NULL. */
+int64_t smoltcp_host_join(struct smoltcp_host *host, const struct smoltcp_address *group);
+
+/* Leaves a group, if it was joined. SMOLTCP_ERROR_ADDRESS where the address is none of a group.
+ *
+ * Errors: SMOLTCP_ERROR_ADDRESS, SMOLTCP_ERROR_NULL. */
+int64_t smoltcp_host_leave(struct smoltcp_host *host, const struct smoltcp_address *group);
+
+/* Writes how many packets were dropped into out.
+ *
+ * Errors: SMOLTCP_ERROR_NULL. */
+int64_t smoltcp_host_counters(const struct smoltcp_host *host, struct smoltcp_counters *out);
+
+/* Takes an IP packet that arrives at this moment, in microseconds, within 2^60 of zero (one that is further away counts
+ * as the nearest of these), of a clock that never goes back. The answer is the length of the packet that answers it,
+ * which stands at the beginning of reply, or 0 for none. RSTs go out for segments, and ICMP errors for packets, that
+ * nobody takes, a hundred of each in a second at most. SMOLTCP_ERROR_ROOM where reply is shorter than the MTU, or than
+ * SMOLTCP_REPLY_ROOM bytes; nothing happens then.
+ *
+ * Errors: SMOLTCP_ERROR_ROOM, SMOLTCP_ERROR_NULL. */
+int64_t smoltcp_host_receive(struct smoltcp_host *host, int64_t now, const uint8_t *packet, size_t len, uint8_t *reply,
+                             size_t cap);
+
+/* The length of the next packet of a socket that is due at this moment, in out, or 0 where none is due. Call it until
+ * it answers 0, with one moment: that comes, as no socket has more than 64 packets at a moment. The sockets have their
+ * turns. SMOLTCP_ERROR_ROOM where out is too short for the packet: its socket offers it again.
+ *
+ * Errors: SMOLTCP_ERROR_ROOM, SMOLTCP_ERROR_NULL. */
+int64_t smoltcp_host_emit(struct smoltcp_host *host, int64_t now, uint8_t *out, size_t cap);
+
+/* The moment at which emit next has something to do, in microseconds; INT64_MAX: none before a packet comes or a socket
+ * is lent; INT64_MIN: an error. Ask after an emit that answered 0: the moment lies behind that emit's then.
+ *
+ * Errors: INT64_MIN, where a pointer is null. */
+int64_t smoltcp_host_poll_at(const struct smoltcp_host *host);
+
+/* Writes the context of smoltcp_tcp_connect to this address into out: the moment and the MTU of the host, a fresh
+ * random word, and the own address from which packets go there, zeros where there is none. Ask anew for each connect,
+ * before the socket is lent.
+ *
+ * Errors: SMOLTCP_ERROR_NULL. */
+int64_t smoltcp_host_context(struct smoltcp_host *host, const struct smoltcp_address *remote,
+                             struct smoltcp_context *out);
+
+/* Moves the socket out of the memory into the first free place of the host, and writes its name into out. The memory is
+ * the program's again, and no call may be made on it before an init made a socket there anew; the buffers stay the
+ * socket's. SMOLTCP_ERROR_ROOM where no place is free: the socket lies in the memory as before.
+ *
+ * Errors: SMOLTCP_ERROR_ROOM, SMOLTCP_ERROR_NULL. */
+int64_t smoltcp_host_add_tcp(struct smoltcp_host *host, struct smoltcp_tcp *s, struct smoltcp_socket_id *out);
+
+/* As smoltcp_host_add_tcp.
+ *
+ * Errors: SMOLTCP_ERROR_ROOM, SMOLTCP_ERROR_NULL. */
+int64_t smoltcp_host_add_udp(struct smoltcp_host *host, struct smoltcp_udp *s, struct smoltcp_socket_id *out);
+
+/* As smoltcp_host_add_tcp.
+ *
+ * Errors: SMOLTCP_ERROR_ROOM, SMOLTCP_ERROR_NULL. */
+int64_t smoltcp_host_add_raw(struct smoltcp_host *host, struct smoltcp_raw *s, struct smoltcp_socket_id *out);
+
+/* As smoltcp_host_add_tcp.
+ *
+ * Errors: SMOLTCP_ERROR_ROOM, SMOLTCP_ERROR_NULL. */
+int64_t smoltcp_host_add_icmp(struct smoltcp_host *host, struct smoltcp_icmp *s, struct smoltcp_socket_id *out);
+
+/* Moves the socket of this name out of the host into the memory, in which no socket lies, in any state: what it has to
+ * say yet, dispatch tells there. SMOLTCP_ERROR_SOCKET where the host has no TCP socket of this name, with nothing
+ * changed, the memory neither.
+ *
+ * Errors: SMOLTCP_ERROR_SOCKET, SMOLTCP_ERROR_NULL. */
+int64_t smoltcp_host_remove_tcp(struct smoltcp_host *host, const struct smoltcp_socket_id *id, struct smoltcp_tcp *s);
+
+/* As smoltcp_host_remove_tcp.
+ *
+ * Errors: SMOLTCP_ERROR_SOCKET, SMOLTCP_ERROR_NULL. */
+int64_t smoltcp_host_remove_udp(struct smoltcp_host *host, const struct smoltcp_socket_id *id, struct smoltcp_udp *s);
+
+/* As smoltcp_host_remove_tcp.
+ *
+ * Errors: SMOLTCP_ERROR_SOCKET, SMOLTCP_ERROR_NULL. */
+int64_t smoltcp_host_remove_raw(struct smoltcp_host *host, const struct smoltcp_socket_id *id, struct smoltcp_raw *s);
+
+/* As smoltcp_host_remove_tcp.
+ *
+ * Errors: SMOLTCP_ERROR_SOCKET, SMOLTCP_ERROR_NULL. */
+int64_t smoltcp_host_remove_icmp(struct smoltcp_host *host, const struct smoltcp_socket_id *id,
+                                 struct smoltcp_icmp *s);
+
+/* Lends the socket of this name until the next call on the host: writes where it lies into out. A socket that was lent
+ * is asked by the next emit, whatever was done to it: so lend those alone that something is to be done to.
+ * SMOLTCP_ERROR_SOCKET where the host has no TCP socket of this name, and NULL in out, on which each call is refused.
+ *
+ * Errors: SMOLTCP_ERROR_SOCKET, SMOLTCP_ERROR_NULL. */
+int64_t smoltcp_host_tcp(struct smoltcp_host *host, const struct smoltcp_socket_id *id, struct smoltcp_tcp **out);
+
+/* As smoltcp_host_tcp.
+ *
+ * Errors: SMOLTCP_ERROR_SOCKET, SMOLTCP_ERROR_NULL. */
+int64_t smoltcp_host_udp(struct smoltcp_host *host, const struct smoltcp_socket_id *id, struct smoltcp_udp **out);
+
+/* As smoltcp_host_tcp.
+ *
+ * Errors: SMOLTCP_ERROR_SOCKET, SMOLTCP_ERROR_NULL. */
+int64_t smoltcp_host_raw(struct smoltcp_host *host, const struct smoltcp_socket_id *id, struct smoltcp_raw **out);
+
+/* As smoltcp_host_tcp.
+ *
+ * Errors: SMOLTCP_ERROR_SOCKET, SMOLTCP_ERROR_NULL. */
+int64_t smoltcp_host_icmp(struct smoltcp_host *host, const struct smoltcp_socket_id *id, struct smoltcp_icmp **out);
+
+/* Writes the name of the socket at this place of the host into out, and answers 1; 0 where none is there, with out as
+ * it was.
+ *
+ * Errors: SMOLTCP_ERROR_NULL. */
+int64_t smoltcp_host_at(const struct smoltcp_host *host, size_t index, struct smoltcp_socket_id *out);
+
+/* Writes the first place from one on whose socket took a TCP segment, or was lent or put in, since emit last asked it,
+ * into out, and answers 1; 0 where there is none, with out as it was. So between receive and emit a program need not
+ * look at each of its connections. Datagrams and messages mark no socket; a place whose socket was removed is marked.
+ *
+ * Errors: SMOLTCP_ERROR_NULL. */
+int64_t smoltcp_host_touched(const struct smoltcp_host *host, size_t from, size_t *out);
+
+#ifdef __cplusplus
+}
+#endif
+
+#if defined(__GNUC__) && defined(__OPTIMIZE__) && !defined(SMOLTCP_NO_INLINE)
+#define SMOLTCP_INLINE extern inline __attribute__((gnu_inline))
+#include "smoltcp_host_nonnull.h"
+#ifdef __cplusplus
+extern "C" {
+#endif
+#include "smoltcp_host_calls.h"
+#include "smoltcp_host_inline.h"
+#ifdef __cplusplus
+}
+#endif
+#undef SMOLTCP_INLINE
+#endif
+
+#endif
