@@ -1,8 +1,11 @@
-/* The heap of smoltcp_heap.h over the C library's. malloc and realloc align to 16 bytes on x86-64 and AArch64, and to
- * what is asked for at least, as it is 16 at most. */
-#include <stdlib.h>
-
+/* The heap of smoltcp_heap.h over the C library's, whose malloc and realloc align to 16 bytes on x86-64 and AArch64, as
+ * far as the size does: more is never asked for. */
 #include "smoltcp_heap.h"
+
+/* As stdlib.h declares them, which is not there where this is compiled for another machine. */
+void *malloc(size_t n);
+void *realloc(void *p, size_t n);
+void free(void *p);
 
 static uint8_t nowhere;
 
