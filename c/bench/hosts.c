@@ -1,12 +1,11 @@
 /* Round trips of 100 bytes among many connections: two hosts of the library, and two of lwIP's, in one process and in
  * virtual time.
  *
- *     bench/hosts [-s STEP] [-l LIBRARY] [-r ROUNDS] [-t TURNS] [-o] [COUNT..]
+ *     bench/hosts [-s STEP] [-d DELAY] [-l LIBRARY] [-r ROUNDS] [-t TURNS] [-o] [COUNT..]
  *
- * For each count of connections, 10, 100, 1,000 and 10,000 where none is named: one client of them asks, its host's
- * packets are carried to the server's, whose application sends back what it read, and the client compares. The same
- * client asks each time, or a random one. STEP microseconds lie between a question and the next one, 100 where it is
- * left out. LIBRARY is another shared library of lwIP than the system's; -o leaves lwIP out. README.md says more. */
+ * For each count of connections, 10, 100, 1,000 and 10,000 where none is named: a client asks, the packets of its host
+ * are carried to the server's, whose application sends back what it read, and the client compares. The same client asks
+ * each time, or a random one. README.md says what is measured, and what the options change. */
 #define _GNU_SOURCE
 #include <dlfcn.h>
 #include <link.h>
@@ -29,7 +28,7 @@
 enum { CLIENT, SERVER, HOSTS };
 enum { MTU = 1500, MESSAGE = 100, WIRE = 1 << 21, PORT = 7, FIRST_PORT = 10000, MOST = 50000, MOST_TURNS = 99 };
 
-static int64_t now = 1000000, step = 100; /* microseconds */
+static int64_t now, step = 100, delay; /* microseconds; each stack has a clock of its own, which stands meanwhile */
 static int rounds = 10000, turns = 9, alone;
 static const char *library = "liblwip.so.0";
 
@@ -80,6 +79,7 @@ struct stack {
     void (*open)(int count);  /* two hosts, and connections between them */
     void (*ask)(int which);   /* the client writes the question */
     void (*turn)(int host);   /* a host takes what has come, its application acts, and it speaks */
+    int64_t *clock;
 };
 
 /* Until nobody has anything to say. */
@@ -165,6 +165,7 @@ static struct smoltcp_socket_id ours_socket(int host, uint16_t listens) {
     struct smoltcp_tcp s;
     must(smoltcp_tcp_init(&s, malloc(TCP_WND), TCP_WND, malloc(TCP_SND_BUF), TCP_SND_BUF) == 0, "no socket");
     endpoint.port = listens;
+    if (delay) must(smoltcp_tcp_set_ack_delay(&s, delay) == 0, "no delay");
     if (listens) must(smoltcp_tcp_listen(&s, &endpoint) == 0, "a socket that does not listen");
     must(smoltcp_host_add_tcp(&ours[host], &s, &id) == 0, "a host without room");
     return id;
@@ -174,6 +175,7 @@ static const struct stack our_stack;
 
 static void ours_open(int count) {
     struct smoltcp_cidr own = {{4, {10, 0, 0, 1}, {0}}, 24};
+    struct smoltcp_guards guards = {30000000, 60000000, 120000000, -1}; /* lwIP ends no connection that is idle */
     struct smoltcp_key key = {{0}};
     struct smoltcp_endpoint local = {{0, {0}, {0}}, 0}, remote = {{4, {10, 0, 0, 2}, {0}}, PORT};
     struct smoltcp_context cx;
@@ -182,6 +184,7 @@ static void ours_open(int count) {
         own.address.v4[3] = (uint8_t)(1 + host);
         key.bytes[0] = (uint8_t)(1 + host);
         must(smoltcp_host_init(&ours[host], (size_t)count, &own, 1, &key) == 0, "no host");
+        must(smoltcp_host_set_guards(&ours[host], &guards) == 0, "no guards");
     }
     for (i = 0; i < count; i++) ours_socket(SERVER, PORT);
     for (i = 0; i < count; i++) {
@@ -196,7 +199,8 @@ static void ours_open(int count) {
     }
 }
 
-static const struct stack our_stack = {ours_open, ours_ask, ours_turn};
+static int64_t our_clock = 1000000;
+static const struct stack our_stack = {ours_open, ours_ask, ours_turn, &our_clock};
 
 /* ---- lwIP: each host has a copy of the library, and so its own lists of connections and timers */
 
@@ -353,13 +357,15 @@ static void lwip_open(int count) {
     }
 }
 
-static const struct stack lwip_stack = {lwip_open, lwip_ask, lwip_turn};
+static int64_t lwip_clock = 1000000;
+static const struct stack lwip_stack = {lwip_open, lwip_ask, lwip_turn, &lwip_clock};
 
 /* ---- turns */
 
+/* Of the processor, so that what else the machine does counts less. */
 static double nanoseconds(void) {
     struct timespec t;
-    clock_gettime(CLOCK_MONOTONIC, &t);
+    clock_gettime(CLOCK_PROCESS_CPUTIME_ID, &t);
     return 1e9 * (double)t.tv_sec + (double)t.tv_nsec;
 }
 
@@ -367,10 +373,12 @@ static double nanoseconds(void) {
 static double turn_of(const struct stack *stack, int count, int random, uint64_t words) {
     double begin = nanoseconds();
     int i;
+    now = *stack->clock;
     for (i = 0; i < rounds; i++) {
         words = words * 6364136223846793005ULL + 1442695040888963407ULL;
         round_trip(stack, random ? (int)((words >> 33) % (unsigned)count) : 0);
     }
+    *stack->clock = now;
     return (nanoseconds() - begin) / rounds;
 }
 
@@ -402,14 +410,20 @@ static void row(int count, int random) {
     fflush(stdout);
 }
 
+static void open_stack(const struct stack *stack, int count) {
+    now = *stack->clock;
+    stack->open(count);
+    *stack->clock = now;
+}
+
 /* All turns of a count, in a process of its own. */
 static void measure(int count) {
     int status;
     pid_t child = fork();
     must(child >= 0, "no process");
     if (child == 0) {
-        our_stack.open(count);
-        if (!alone) lwip_stack.open(count);
+        open_stack(&our_stack, count);
+        if (!alone) open_stack(&lwip_stack, count);
         row(count, 0);
         row(count, 1);
         exit(0);
@@ -421,16 +435,18 @@ int main(int argc, char **argv) {
     static const int counts[] = {10, 100, 1000, 10000};
     int option;
     size_t i;
-    while ((option = getopt(argc, argv, "s:l:r:t:o")) != -1) {
+    while ((option = getopt(argc, argv, "s:d:l:r:t:o")) != -1) {
         if (option == 's') step = atoi(optarg);
+        else if (option == 'd') delay = atoi(optarg);
         else if (option == 'l') library = optarg;
         else if (option == 'r') rounds = atoi(optarg);
         else if (option == 't') turns = atoi(optarg);
         else if (option == 'o') alone = 1;
         else return 2;
     }
-    must(step >= 0 && rounds > 0 && turns > 0 && turns <= MOST_TURNS, "a number out of its range");
-    printf("| Connections | Who asks | `smoltcp_host` | lwIP | Ratio | Packets | lwIP |\n|---|---|---|---|---|---|---|\n");
+    must(step >= 0 && delay >= 0 && rounds > 0 && turns > 0 && turns <= MOST_TURNS, "a number out of its range");
+    printf("| Connections | Who asks | `smoltcp_host` | lwIP | Ratio | Packets | lwIP |\n");
+    printf("|---|---|---|---|---|---|---|\n");
     fflush(stdout);
     for (i = 0; optind == argc && i < sizeof counts / sizeof *counts; i++) measure(counts[i]);
     for (; optind < argc; optind++) {
