@@ -19,10 +19,11 @@
  *
  * What the caller has to keep beside what smoltcp_socket.h says, which nothing tests: a host is memory that
  * smoltcp_host_init made and that has not been moved, copied or written since; of one host one call runs at a time,
- * those on a socket that it lends among them; nothing moves, copies or writes what is lent.
+ * those on a socket that it lends among them; nothing moves, copies or writes what is lent; init and release are not
+ * called by a handler of a signal, nor in a child that a process with threads has forked.
  *
- * Timestamps (RFC 7323) are better left off in a host. The clock of a socket there stands, as no context comes with a
- * packet: at 0 from smoltcp_tcp_set_timestamps on, and at the context's where smoltcp_tcp_connect was told one. */
+ * Timestamps (RFC 7323) are better left off in a host: the clock of a socket there stands, at 0 from
+ * smoltcp_tcp_set_timestamps on, as no context comes with a packet. */
 #ifndef SMOLTCP_HOST_H
 #define SMOLTCP_HOST_H
 
@@ -32,9 +33,13 @@
 extern "C" {
 #endif
 
-/* Memory for a host, for these calls alone; from smoltcp_host_init on it stays where it is. */
+/* Memory for a host, for these calls alone; from smoltcp_host_init on it stays where it is. It lies at a multiple of
+ * 16, as the compiler and malloc put it, since the library has numbers of 128 bits in it. */
 enum { SMOLTCP_HOST_SIZE = 1024 };
-struct smoltcp_host { uint64_t opaque[SMOLTCP_HOST_SIZE / 8]; };
+struct smoltcp_host { union { uint64_t opaque[SMOLTCP_HOST_SIZE / 8]; long double aligned; } memory; };
+#if defined(__STDC_VERSION__) && __STDC_VERSION__ >= 201112L
+_Static_assert(_Alignof(struct smoltcp_host) == 16, "a host lies at a multiple of 16");
+#endif
 
 /* An address, and how many of its first bits are those of its network: at most 32 of IPv4, and 128 of IPv6; more count
  * as so many. */
@@ -71,11 +76,11 @@ struct smoltcp_counters {
 /* The size of a host that the library has, in bytes. */
 size_t smoltcp_host_size(void);
 
-/* Makes a host in the memory, with count addresses and room for capacity sockets, which takes some 800 bytes each of
- * the heap. Its moment is 0, its MTU 1500 bytes, and its guards are 30 seconds for a handshake, a minute for closing
+/* Makes a host in the memory, with count addresses and room for capacity sockets, which takes less than 800 bytes each
+ * of the heap. Its moment is 0, its MTU 1500 bytes, and its guards are 30 seconds for a handshake, a minute for closing
  * and for timeout, and two minutes for window. The key is what initial sequence numbers are made of (RFC 6528): no two
- * hosts have the same. SMOLTCP_ERROR_ADDRESS where an address is of no version,
- * SMOLTCP_ERROR_MEMORY where the heap has too little; nothing is kept then, and no host is there.
+ * hosts have the same. SMOLTCP_ERROR_ADDRESS where an address is of no version, SMOLTCP_ERROR_MEMORY where the heap has
+ * too little; nothing is kept then, and no host is there.
  *
  * Errors: SMOLTCP_ERROR_ADDRESS, SMOLTCP_ERROR_MEMORY, SMOLTCP_ERROR_VERSION, SMOLTCP_ERROR_NULL. */
 int64_t smoltcp_host_init(struct smoltcp_host *host, size_t capacity, const struct smoltcp_cidr *addresses,
@@ -236,9 +241,10 @@ int64_t smoltcp_host_icmp(struct smoltcp_host *host, const struct smoltcp_socket
  * Errors: SMOLTCP_ERROR_NULL. */
 int64_t smoltcp_host_at(const struct smoltcp_host *host, size_t index, struct smoltcp_socket_id *out);
 
-/* Writes the first place from one on whose socket took a TCP segment, or was lent or put in, since emit last asked it,
- * into out, and answers 1; 0 where there is none, with out as it was. So between receive and emit a program need not
- * look at each of its connections. Datagrams and messages mark no socket; a place whose socket was removed is marked.
+/* Writes the first place from one on whose socket may have changed since emit last asked it into out, and answers 1: it
+ * took a TCP segment, or was lent or put in. 0 where there is none, with out as it was. So between receive and emit a
+ * program need not look at each of its connections. Datagrams and messages mark no socket. All places of a new host are
+ * marked, as is one whose socket was removed.
  *
  * Errors: SMOLTCP_ERROR_NULL. */
 int64_t smoltcp_host_touched(const struct smoltcp_host *host, size_t from, size_t *out);

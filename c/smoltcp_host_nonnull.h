@@ -1,5 +1,6 @@
 /* The calls of a host, for pointers that are known not to be null: nothing tests them here. smoltcp_host.h has the
- * documented calls, which look at each pointer first. Made by c/abi from crates/smoltcp_c; not to be changed by hand. */
+ * documented calls, which look at each pointer first.
+ * Made by c/abi from crates/smoltcp_c; not to be changed by hand. */
 #ifndef SMOLTCP_HOST_NONNULL_H
 #define SMOLTCP_HOST_NONNULL_H
 

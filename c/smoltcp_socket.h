@@ -11,7 +11,8 @@
  *
  * A host looks at a packet before a socket sees it: it refuses a destination that is not its own (multicast and
  * broadcast too), and a source that is multicast, broadcast or its own; it offers a packet to the sockets that have a
- * connection first, and then to those that listen, else a repeated SYN opens a second socket.
+ * connection first, and then to those that listen, else a repeated SYN opens a second socket. smoltcp_host.h, which is
+ * not brought in here, has such a host, in a library that asks for a heap too.
  *
  * Each call is a symbol of the library. Where a compiler of the GNU kind optimises, its body is inlined, which looks
  * for null pointers and hands on to a call of smoltcp_nonnull.h; with SMOLTCP_NO_INLINE defined it is not.

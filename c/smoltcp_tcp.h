@@ -302,8 +302,8 @@ int64_t smoltcp_tcp_process(struct smoltcp_tcp *s, const struct smoltcp_context 
  *
  * Call it a limited number of times a round, 64 say: a peer that acknowledges a FIN with a window of 0 while a probe is
  * due makes FIN-WAIT-2 emit an acknowledgement at every dispatch, and poll_at answers a moment that has passed. Wait at
- * least a millisecond between rounds that only such sockets asked for, and abort one that stays in FIN-WAIT-2 for long
- * (c/echo.c: a minute).
+ * least a millisecond between rounds that only such sockets asked for, and abort one that stays in FIN-WAIT-2 for long,
+ * a minute say. A host of smoltcp_host.h does that.
  *
  * Errors: SMOLTCP_ERROR_CONTEXT, SMOLTCP_ERROR_ROOM, SMOLTCP_ERROR_NULL. */
 int64_t smoltcp_tcp_dispatch(struct smoltcp_tcp *s, const struct smoltcp_context *cx, uint8_t *out, size_t cap);
