@@ -58,7 +58,8 @@ struct smoltcp_socket_id { size_t index; uint64_t generation; };
  * handshake: until SYN-RECEIVED is left. It is given up without an RST, and the socket listens again.
  * closing: each of FIN-WAIT-1, FIN-WAIT-2, CLOSING and LAST-ACK. The connection is aborted.
  * window: a window of 0 while bytes wait to be sent, without one byte acknowledged (RFC 6429). It is aborted.
- * timeout: the user timeout that each socket is given (RFC 9293, section 3.9.1); below 0, each keeps its own. */
+ * timeout: the user timeout that each socket is given (RFC 9293, section 3.9.1); below 0, each keeps its own. It ends
+ * idle connections too, of which nothing is heard: set keep-alives of a shorter interval where they are to last. */
 struct smoltcp_guards { int64_t handshake, closing, window, timeout; };
 
 /* How many packets were dropped, by their reasons, and what became of SYN cookies. A number that is full begins anew.

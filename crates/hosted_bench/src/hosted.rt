@@ -319,9 +319,11 @@ impl Host<SocketSet<'_, Clock>> {
         random: &mut Random,
     ) -> Result<(), AllocError> {
         let held = wire.held();
-        let empty = Vec::new(self.alloc);
-        for reply in mem::replace(&mut self.replies, empty) {
-            to.arrive(reply.as_slice(), now, wire, random)?;
+        if !self.replies.is_empty() {
+            let empty = Vec::new(self.alloc);
+            for reply in mem::replace(&mut self.replies, empty) {
+                to.arrive(reply.as_slice(), now, wire, random)?;
+            }
         }
         for _ in 0..PACKETS {
             let count = self.emit(now);
