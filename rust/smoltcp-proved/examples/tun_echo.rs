@@ -260,13 +260,17 @@ impl Host<'_> {
         }
     }
 
-    /// Sends the datagrams that have come back to where they came from.
+    /// Sends the datagrams that have come back to where they came from, unless that is an echo too, or a source of
+    /// characters (RFC 864): two of them would answer each other for ever.
     fn echo_datagrams(&mut self) {
         let (mut data, mut packet) = ([0; MTU], [0; MTU]);
         for _ in 0..TURN {
             let Ok((len, meta)) = self.datagrams.recv_slice(&mut data) else {
                 return;
             };
+            if [7, 19].contains(&meta.endpoint.port) {
+                continue;
+            }
             let _ = self.datagrams.send_slice(&data[..len], meta);
             if let Ok(Some(len)) = self.datagrams.dispatch(&self.cx, &mut packet) {
                 self.device.emit(&packet[..len]);
