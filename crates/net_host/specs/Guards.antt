@@ -34,6 +34,11 @@ usual = record {
 abbrev pub no_limits : GuardSettings
 no_limits = record { handshake = None; closing = None; window = None; timeout = None }
 
+-- as it is stored: whether there is one, and its microseconds
+abbrev pub limit_from : Bool → ℕ → Option Duration
+limit_from false n = None
+limit_from true n = Some (record { micros = n })
+
 -- at most 2^60 microseconds
 abbrev pub lawful_limit : Option Duration → Option Duration
 lawful_limit None = None

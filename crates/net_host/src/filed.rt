@@ -11,6 +11,7 @@ ghost use Rattle.net_host.specs.declared.terms.Terms.{Terms};
 
 use crate::guard::GuardSettings;
 use crate::key::{Keys, Lent};
+use crate::limits::Limits;
 use crate::refiling::refile;
 use crate::terms::Terms;
 use host_bounds::{Bounds, Marks};
@@ -65,7 +66,7 @@ impl<T: Keyed> Filed<T> {
             bounds,
             terms: Terms {
                 mtu: 0,
-                guards: GuardSettings::off(),
+                guards: Limits::of(&GuardSettings::off()),
             },
         }
     }
@@ -129,7 +130,7 @@ impl<T: Keyed> Filed<T> {
     }
 
     /// The places are asked under these terms from now on: all of them at once, where the terms are others than before.
-    pub(crate) fn heed(&mut self, mtu: usize, guards: &GuardSettings)
+    pub(crate) fn heed(&mut self, mtu: usize, guards: &Limits)
         ensures slots { self.new.slots ≡ self.old.slots }
         ensures terms { self.new.terms ≡ record { mtu = mtu; guards = guards.now } }
     {
@@ -137,7 +138,7 @@ impl<T: Keyed> Filed<T> {
             self.bounds.reset();
             self.terms = Terms {
                 mtu,
-                guards: *guards,
+                guards: Limits::of(&guards.settings()),
             };
         }
     }

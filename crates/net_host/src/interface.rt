@@ -20,6 +20,7 @@ use crate::environment::Environment;
 use crate::guard::GuardSettings;
 use crate::inner::InterfaceInner;
 use crate::limit::Limit;
+use crate::limits::Limits;
 use crate::polling::earliest;
 use crate::replies::LONGEST_REPLY;
 use crate::set::SocketSet;
@@ -45,7 +46,7 @@ pub struct Interface<W> {
     // ICMP errors that go out
     pub(crate) errors: Limit,
     pub(crate) counters: Counters,
-    pub(crate) guards: GuardSettings,
+    pub(crate) guards: Limits,
     // where SYNs may be answered without a socket
     pub(crate) cookies: Option<SynCookies>,
     pub(crate) groups: Groups,
@@ -213,7 +214,7 @@ impl<W> Interface<W> {
             resets: Limit::new(),
             errors: Limit::new(),
             counters: Counters::default(),
-            guards: GuardSettings::new(),
+            guards: Limits::of(&GuardSettings::new()),
             cookies: None,
             groups: Groups::none(),
         }
@@ -265,7 +266,7 @@ impl<W> Interface<W> {
             × (self.new.counters ≡ self.old.counters) × (self.new.cookies ≡ self.old.cookies)
             × (self.new.groups ≡ self.old.groups) }
     {
-        self.guards = guards;
+        self.guards = Limits::of(&guards);
     }
 
     /// Sets whether SYNs may be answered without a socket, and how: from the next packet on. A new interface does not.

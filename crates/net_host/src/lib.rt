@@ -21,6 +21,7 @@ pub mod iter;
 pub mod key;
 pub mod lent_turns;
 pub mod limit;
+pub mod limits;
 pub mod looking;
 pub mod messages;
 pub mod passing;

@@ -77,7 +77,7 @@ fn look_at<C: Context, G: TsvalSource>(sockets: &mut SocketSet<'_, G>, i: usize,
     ensures terms { sockets.new.terms ≡ sockets.old.terms }
     ensures due { IfSome (slice_get sockets.new.slots.items i) (λ s. result ≡ is_due (C.facts cx.now) s) }
 {
-    let guards = sockets.terms.guards;
+    let guards = sockets.terms.guards.settings();
     watch_at(sockets, i, &guards, cx.now());
     note_at(sockets, i, cx)
 }

@@ -15,7 +15,8 @@ use host_context::Words;
 use smoltcp_socket::wire::IpAddress;
 use sock_tcp::TsvalSource;
 
-// The socket at this place has its turn.
+// The socket at this place has its turn: apart from `emit`, which mostly finds nobody to speak, so that it stays short.
+#[inline(never)]
 fn turn_at<G: TsvalSource>(
     sockets: &mut SocketSet<'_, G>,
     i: usize,
