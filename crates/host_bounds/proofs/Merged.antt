@@ -1,11 +1,11 @@
 -- Bounds out of marks and times.
-use Rattle.std.proofs.Common.{◌≡◌, ◌∙◌, ℕ, ℤ, ◌+◌, ◌/◌, ◌<◌, ◌≤◌, Bool, true, false, List, [], ◌∷◌, length, get_or, nat_eq, nat_lt, suc, zero, refl, sym, ap, subst, arith}
+use Rattle.std.proofs.Common.{◌≡◌, ◌∙◌, ℕ, ℤ, ◌+◌, ◌/◌, ◌<◌, ◌≤◌, Bool, true, false, List, [], ◌∷◌, length, nat_eq, suc, zero, refl, sym, ap, subst, arith}
 use Rattle.std.specs.Prelude.{◌≤ℤ◌, ◌<ℤ◌, slice_set, if◌then◌else◌}
 use Rattle.std.specs.List.{All}
 use Rattle.std.proofs.lemmas.Int.{ints}
-use Rattle.std.proofs.lemmas.List.{ext_get_or, get_or_past, get_or-set_same, length-set}
+use Rattle.std.proofs.lemmas.List.{ext_get_or, get_or-set_same, length-set}
 use Rattle.std.proofs.lemmas.List.Elements.{All-from_get_or}
-use Rattle.host_bounds.specs.Bounding.{IsBelowAll, at_once, bound_at}
+use Rattle.host_bounds.specs.Bounding.{IsBelowAll, IsGreatest, at_once, bound_at}
 use Rattle.host_bounds.specs.Marking.{AllMarked, AreBounds, Clears, Sets, bit_of, merged}
 use Rattle.host_bounds.proofs.Layers.{set_elsewhere}
 
@@ -106,3 +106,6 @@ pub below_times : (ws : List ℕ) (ts : List ℤ) (m : ℤ) → ((k : ℕ) → k
 below_times ws ts m unmarked below k within =
     let there : k < length ts = subst (λ n. k < n) (merged_len 0 ws ts) within in
     subst (λ b. m ≤ℤ b) (sym (timed_is ws ts k (unmarked k there))) (below k there)
+
+pub greatest_times : (ws : List ℕ) (ts : List ℤ) (m : ℤ) → ((k : ℕ) → k < length ts → bit_of ws k ≡ 0) → IsGreatest m ts → IsGreatest m (merged 0 ws ts)
+greatest_times ws ts m unmarked greatest n most below = greatest n most (λ k there. subst (λ b. n ≤ℤ b) (timed_is ws ts k (unmarked k there)) (below k (subst (λ i. k < i) (sym (merged_len 0 ws ts)) there)))

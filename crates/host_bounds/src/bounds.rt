@@ -1,7 +1,7 @@
 //! Lower bounds of the moments at which places want to be asked.
 ghost use Rattle.std.specs.Prelude.{ℕ, ◌≡◌, ◌≤◌, ◌<◌, ◌<ℤ◌, IfOk, length, slice_set, true};
 ghost use Rattle.std.specs.List.{All};
-ghost use Rattle.host_bounds.specs.Bounding.{FindsReached, IsBelowAll, at_once, bound_at};
+ghost use Rattle.host_bounds.specs.Bounding.{FindsReached, IsBelowAll, IsGreatest, at_once, bound_at};
 
 use crate::marks::Marks;
 use crate::times::Times;
@@ -61,6 +61,15 @@ impl Bounds {
         }
     }
 
+    /// Sets the bound of a place to the least, which says that it is to be asked at once; of none where it is not there.
+    pub fn put_at_once(&mut self, place: usize)
+        ensures { self.new ≡ slice_set self.old place at_once }
+    {
+        if place < self.len() {
+            self.mark(place);
+        }
+    }
+
     fn mark(&mut self, place: usize)
         requires { place < length self.old }
         ensures { self.new ≡ slice_set self.old place at_once }
@@ -109,9 +118,6 @@ impl Bounds {
         ensures before { (k : ℕ) → start ≤ k → k < result → now <ℤ bound_at self.now k }
     {
         let near = self.marks.next(start).min(end);
-        if now < self.times.least() {
-            return near;
-        }
         match self.times.next(start, near, now) {
             Some(place) => place,
             None => near,
@@ -120,6 +126,27 @@ impl Bounds {
 
     /// The first place that may want to be asked by now, from one on and before another.
     pub fn next(&self, start: usize, end: usize, now: i64) -> Option<usize>
+        requires { end ≤ length self.now }
+        ensures { FindsReached self.now start end now result }
+    {
+        if end <= start {
+            return None;
+        }
+        if now < self.times.least() {
+            let near = self.marks.next(start);
+            if end <= near {
+                return None;
+            }
+            if self.marks.is_on(near) {
+                return Some(near);
+            }
+        }
+        self.search(start, end, now)
+    }
+
+    // The same where a time may be reached: apart from `next`, so that it saves few registers.
+    #[inline(never)]
+    fn search(&self, start: usize, end: usize, now: i64) -> Option<usize>
         requires { end ≤ length self.now }
         ensures { FindsReached self.now start end now result }
     {
@@ -142,9 +169,11 @@ impl Bounds {
         None
     }
 
-    /// A moment before which no place need be asked.
+    /// The first moment at which a place wants to be asked: the latest where there is no place, and the least where one
+    /// may want to be asked at once.
     pub fn least(&self) -> i64
-        ensures { IsBelowAll result self.now }
+        ensures below { IsBelowAll result self.now }
+        ensures greatest { at_once <ℤ result → IsGreatest result self.now }
     {
         if self.marks.next(0) < self.len() {
             return i64::MIN;

@@ -1,7 +1,8 @@
 //! Bounds of 32 places each, above those of the places.
-ghost use Rattle.std.specs.Prelude.{ℕ, ◌≡◌, ◌≤◌, ◌≤ℤ◌, ◌<◌, ◌/◌, IfOk, length};
+ghost use Rattle.std.specs.Prelude.{ℤ, ◌≡◌, ◌≤◌, ◌≤ℤ◌, ◌<◌, ◌/◌, IfOk, length};
 ghost use Rattle.std.specs.List.{All};
-ghost use Rattle.host_bounds.specs.Bounding.{Covers, CoversBut, FindsReached, IsBelow, KeepsBut, Reaches, at_once, bound_at};
+ghost use Rattle.host_bounds.specs.Bounding.{Covers, CoversBut, FindsReached, IsBelow, IsBelowIn, IsGreatestOf, KeepsBut};
+ghost use Rattle.host_bounds.specs.Bounding.{Nears, NearsBut, Reaches, at_once, bound_at, latest};
 
 use std::alloc::{AllocError, Global};
 
@@ -24,7 +25,8 @@ pub(crate) fn least_bounds(alloc: Global, count: usize) -> Result<Vec<i64>, Allo
 pub(crate) fn least_between(bounds: &[i64], start: usize, end: usize) -> i64
     requires order { start ≤ end }
     requires within { end ≤ length bounds.now }
-    ensures { IsBelow result bounds.now start end }
+    ensures below { IsBelow result bounds.now start end }
+    ensures greatest { IsGreatestOf result bounds.now start end }
 {
     let mut least = i64::MAX;
     for bound in &bounds[start..end] {
@@ -52,7 +54,8 @@ pub(crate) fn first_between(bounds: &[i64], start: usize, end: usize, now: i64) 
 // The least bound of the 32 places that this one is among.
 fn least_beside(bounds: &[i64], place: usize) -> i64
     requires { place < length bounds.now }
-    ensures { (k : ℕ) → k < length bounds.now → k / 32 ≡ place / 32 → result ≤ℤ bound_at bounds.now k }
+    ensures below { IsBelowIn result bounds.now (place / 32) }
+    ensures greatest { (n : ℤ) → n ≤ℤ latest → IsBelowIn n bounds.now (place / 32) → n ≤ℤ result }
 {
     let start = place - place % FAN_OUT;
     let end = bounds.len().min(start + FAN_OUT);
@@ -64,7 +67,11 @@ pub(crate) fn mend(low: &[i64], high: &mut Vec<i64>, place: usize, was: i64) -> 
     requires within { place < length low.now }
     requires reaches { Reaches low.now high.old.items }
     requires others { CoversBut place low.now high.old.items }
+    requires was { bound_at high.old.items (place / 32) ≤ℤ was }
+    requires near { NearsBut place was low.now high.old.items }
+    ensures result { result ≡ bound_at high.old.items (place / 32) }
     ensures covers { Covers low.now high.new.items }
+    ensures near { Nears low.now high.new.items }
     ensures kept { KeepsBut (place / 32) high.old.items high.new.items }
 {
     let above = place / FAN_OUT;

@@ -1,7 +1,7 @@
 //! The same where no place wants to be asked at once: levels of bounds.
 ghost use Rattle.std.specs.Prelude.{ℕ, ◌≡◌, ◌≤◌, ◌<◌, ◌/◌, ◌<ℤ◌, ◌≤ℤ◌, IfOk, length, slice_set, true};
 ghost use Rattle.std.specs.List.{All};
-ghost use Rattle.host_bounds.specs.Bounding.{Covers, FindsReached, IsBelowAll, IsLayered, at_once, bound_at};
+ghost use Rattle.host_bounds.specs.Bounding.{Covers, FindsReached, IsBelowAll, IsGreatest, IsLayered, at_once, bound_at, first_top};
 
 use crate::levels::{FAN_OUT, first_between, least_between, least_bounds, mend};
 use std::alloc::{AllocError, Global};
@@ -41,7 +41,7 @@ impl Times {
             places: least_bounds(alloc, count)?,
             blocks: least_bounds(alloc, blocks)?,
             groups: least_bounds(alloc, blocks.div_ceil(FAN_OUT))?,
-            top: i64::MIN,
+            top: first_top(count),
         })
     }
 
@@ -121,12 +121,20 @@ impl Times {
         None
     }
 
-    /// A moment before which no place need be asked.
+    /// The first moment at which a place wants to be asked; the latest where there is none.
     pub(crate) fn least(&self) -> i64
-        ensures { IsBelowAll result self.now }
+        ensures below { IsBelowAll result self.now }
+        ensures greatest { IsGreatest result self.now }
     {
         self.top
     }
+}
+
+// The first of so many moments, all the least.
+fn first_top(count: usize) -> i64
+    ensures { result ≡ first_top count }
+{
+    if count == 0 { i64::MAX } else { i64::MIN }
 }
 
 // Where the next block of this place's group begins whose bound is reached by now, or the next group.

@@ -1,6 +1,6 @@
 -- When a socket wants to be asked, and what its guard has seen.
 use Rattle.std.proofs.Common.{◌≡◌, ◌∙◌, ℕ, ℤ, Bool, true, false, not, nat_eq, Option, Some, None, refl, sym, subst, ap, arith}
-use Rattle.std.specs.Prelude.{pos, IfSome, slice_get, int_le, int_lt, ◌<ℤ◌, ◌≤ℤ◌, ◌&&◌, ◌||◌, ◌==◌, if◌then◌else◌, List}
+use Rattle.std.specs.Prelude.{pos, IfSome, slice_get, int_lt, ◌<ℤ◌, ◌≤ℤ◌, ◌&&◌, ◌||◌, ◌==◌, if◌then◌else◌, List}
 use Rattle.std.proofs.lemmas.Bool.{and_parts}
 use Rattle.std.proofs.lemmas.Option.{slice_get_within}
 use Rattle.std.proofs.lemmas.Int.{ints}
@@ -66,17 +66,18 @@ asks_under s f mtu e = asked_by s.guard.phase s.guard.end s.guard.last s.socket 
 -- ---- bounds
 
 pub bounds_it : (p : PollAt) → is_bound (bound_of p) p ≡ true
-bounds_it poll.Now = refl
-bounds_it (poll.Time t) = go (int_lt t.micros never) refl
-  where
-    go : (b : Bool) → int_lt t.micros never ≡ b → is_bound (if b then t.micros else pos 9223372036854775806) (poll.Time t) ≡ true
-    go true e = grind (arith, ints, e)
-    go false e = grind (arith, ints, e)
-bounds_it poll.Ingress = refl
+bounds_it p = grind (arith, ints)
 
-not_yet : (b now : ℤ) (p : PollAt) → at_once ≤ℤ now → now <ℤ b → is_bound b p ≡ true → is_reached p (record { micros = now }) ≡ false
+pub bound_is : (b : ℤ) (p : PollAt) → is_bound b p ≡ true → b ≡ bound_of p
+bound_is b p h = grind (arith, ints, h)
+
+not_yet : (b now : ℤ) (p : PollAt) → at_once ≤ℤ now → now <ℤ b → b ≡ bound_of p → is_reached p (record { micros = now }) ≡ false
 not_yet b now poll.Now from below h = absurd (grind (arith, ints, from, below, h))
-not_yet b now (poll.Time t) from below h = let q = and_parts (int_le b t.micros) (int_lt b never) h in grind (arith, ints, below, q.0)
+not_yet b now (poll.Time t) from below h = go (int_lt t.micros never) refl h
+  where
+    go : (d : Bool) → int_lt t.micros never ≡ d → b ≡ (if d then t.micros else pos 9223372036854775806) → is_reached (poll.Time t) (record { micros = now }) ≡ false
+    go true e is = grind (arith, ints, below, is)
+    go false e is = grind (arith, ints, below, is, e)
 not_yet b now poll.Ingress from below h = refl
 
 not_delayed : (may : Bool) (now : Instant) (p : PollAt) → is_reached p now ≡ false → is_reached (delayed may now p) now ≡ false
@@ -87,7 +88,7 @@ pub not_due : {G : Type 0} (f : Facts) (mtu : ℕ) (b : ℤ) (s : Slot G) → Is
 not_due f mtu b s lawful same below h =
     let from : at_once ≤ℤ f.now = grind (arith, ints, lawful.0) in
     not_delayed (may_speak s (moment_of f)) (moment_of f) (asked_of s.guard.phase s.guard.end s.guard.last s.socket f)
-    (subst (λ p. is_reached p (moment_of f) ≡ false) (sym (asks_under s f mtu same)) (not_yet b f.now (asked_under mtu s) from below h))
+    (subst (λ p. is_reached p (moment_of f) ≡ false) (sym (asks_under s f mtu same)) (not_yet b f.now (asked_under mtu s) from below (bound_is b (asked_under mtu s) h)))
 
 resting : (a b : Bool) → a ≡ false → b ≡ true → (not a && b) ≡ true
 resting false b h k = k

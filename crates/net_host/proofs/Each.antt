@@ -1,6 +1,6 @@
 -- A walk that changes one element after the other.
-use Rattle.std.proofs.Common.{◌≡◌, ◌∙◌, ℕ, ◌+◌, ◌<◌, ◌≤◌, List, [], ◌∷◌, length, Bool, true, false, nat_eq, suc, zero, Some, refl, sym, subst, ap, arith}
-use Rattle.std.specs.Prelude.{slice_get, slice_set}
+use Rattle.std.proofs.Common.{◌≡◌, ◌∙◌, ℕ, ◌+◌, ◌<◌, ◌≤◌, List, [], ◌∷◌, length, Bool, true, false, nat_eq, suc, zero, Option, Some, None, refl, sym, subst, ap, arith}
+use Rattle.std.specs.Prelude.{IfSome, slice_get, slice_set}
 use Rattle.std.proofs.lemmas.Option.{slice_get_within}
 use Rattle.net_host.specs.Walks.{Both, ChangesAt}
 
@@ -20,6 +20,18 @@ pub set_len : {X : Type 0} (xs : List X) (i : ℕ) (x : X) → length (slice_set
 set_len [] i x = refl
 set_len (y ∷ ys) zero x = refl
 set_len (y ∷ ys) (suc i) x = ap suc (set_len ys i x)
+
+pub of_some : {X : Type 0} (P Q : X → Type 0) (o : Option X) → ((x : X) → P x → Q x) → IfSome o P → IfSome o Q
+of_some P Q None f h = tt
+of_some P Q (Some x) f h = f x h
+
+-- an element that stays is changed so
+pub changes_nothing : {X : Type 0} (R : X → X → Type 0) (xs : List X) (i : ℕ) → i < length xs → IfSome (slice_get xs i) (λ x. R x x) → ChangesAt R xs i xs
+changes_nothing R [] i h r = absurd (omega (arith, h))
+changes_nothing R (x ∷ xs) zero h r = record { before = x; after = x; was = refl; changed = r; now = refl }
+changes_nothing R (x ∷ xs) (suc i) h r =
+    let c = changes_nothing R xs i (omega (arith, h)) r in
+    record { before = c.before; after = c.after; was = c.was; changed = c.changed; now = ap (λ ys. x ∷ ys) c.now }
 
 module _ {X : Type 0} (R : X → X → Type 0) (xs ys zs : List X) (i : ℕ) (c : ChangesAt R ys i zs) where
   pub step_len : length ys ≡ length xs → length zs ≡ length xs

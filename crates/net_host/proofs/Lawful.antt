@@ -1,6 +1,6 @@
 -- A lawful moment is not the least number.
-use Rattle.std.proofs.Common.{◌≡◌, Option, Some, ap, subst, sym, arith}
-use Rattle.std.specs.Prelude.{negsuc, pos, ◌+ℤ◌, ◌<ℤ◌, ◌≤ℤ◌}
+use Rattle.std.proofs.Common.{◌≡◌, Option, Some, subst, arith}
+use Rattle.std.specs.Prelude.{negsuc, ◌<ℤ◌}
 use Rattle.std.proofs.lemmas.Int.{ints}
 use Rattle.net_base.specs.declared.time.Duration.{Duration}
 use Rattle.net_base.specs.declared.time.Instant.{Instant}

@@ -1,3 +1,4 @@
+pub mod Idle
 pub mod Changes
 pub mod Sleepers
 pub mod Sources

@@ -1,9 +1,9 @@
 -- The places under a key, one after the other.
-use Rattle.std.proofs.Common.{◌≡◌, ◌∙◌, ℕ, ◌+◌, ◌*◌, ◌^◌, ◌<◌, ◌≤◌, List, length, get_or, Bool, true, false, nat_lt, nat_eq, Option, Some, None, refl, sym, subst, ap, arith}
+use Rattle.std.proofs.Common.{◌≡◌, ◌∙◌, ℕ, ◌+◌, ◌^◌, ◌<◌, ◌≤◌, List, length, get_or, Bool, true, false, nat_lt, nat_eq, Option, Some, None, refl, sym, subst, ap, arith}
 use Rattle.std.specs.Prelude.{if◌then◌else◌}
 use Rattle.host_index.specs.declared.entry.Entry.{Entry}
 use Rattle.host_index.specs.Entries.{IsSortedByRank, Splits, entry_at, has, nothing, rank, rank_at}
-use Rattle.net_host.specs.Entries.{FindsUnder, IsNextUnder}
+use Rattle.net_host.specs.Entries.{FindsUnder}
 use Rattle.host_index.proofs.Entered.{IsIn, find_in, has_in, same_entry}
 
 not_less : (es : List Entry) → IsSortedByRank es → (i j : ℕ) → i ≤ j → j < length es → rank_at es i ≤ rank_at es j

@@ -67,16 +67,14 @@ is_seen st s = seen_in st s.socket s.guard
 abbrev pub never : ℤ
 never = pos 9223372036854775807
 
--- a moment before which it does not
+-- that moment as a number
 abbrev pub bound_of : PollAt → ℤ
 bound_of poll.Now = at_once
 bound_of (poll.Time t) = if int_lt t.micros never then t.micros else pos 9223372036854775806
 bound_of poll.Ingress = never
 
 abbrev pub is_bound : ℤ → PollAt → Bool
-is_bound b poll.Now = int_le b at_once
-is_bound b (poll.Time t) = int_le b t.micros && int_lt b never
-is_bound b poll.Ingress = true
+is_bound b p = int_eq b (bound_of p)
 
 -- an answer that is not after a moment, and not at once
 abbrev pub is_at_most : PollAt → ℤ → Bool
@@ -100,7 +98,7 @@ facts_under mtu = record {
 abbrev pub asked_under : {G : Type 0} → ℕ → Slot G → PollAt
 asked_under mtu s = asked_of s.guard.phase s.guard.end s.guard.last s.socket (facts_under mtu)
 
--- its guard has looked at it, and it need not be asked before this moment
+-- its guard has looked at it, and it asks for this moment
 abbrev pub sleeps : {G : Type 0} → Terms → ℤ → Slot G → Bool
 sleeps t b s = is_bound b (asked_under t.mtu s) && is_seen t.guards s
 

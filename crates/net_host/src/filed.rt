@@ -108,6 +108,7 @@ impl<T: Keyed> Filed<T> {
         }
     }
 
+    #[inline(never)]
     fn lend_anew(&mut self, place: usize)
         ensures slots { self.new.slots ≡ self.old.slots }
         ensures lent { IsLentAt place (slice_get self.new.slots.items place) self.new.lent }
@@ -126,7 +127,7 @@ impl<T: Keyed> Filed<T> {
         ensures marked { bound_at self.new.bounds place ≡ at_once }
         ensures terms { self.new.terms ≡ self.old.terms }
     {
-        self.bounds.set(place, i64::MIN);
+        self.bounds.put_at_once(place);
     }
 
     /// The places are asked under these terms from now on: all of them at once, where the terms are others than before.

@@ -1,8 +1,9 @@
 //! Limits that a host sets its TCP connections, so that no peer keeps it busy for ever or keeps its sockets taken.
-ghost use Rattle.std.specs.Prelude.{◌≡◌, Some};
+ghost use Rattle.std.specs.Prelude.{◌≡◌, Some, None, true};
 ghost use Rattle.sock_core.specs.Bounds.{IsMoment};
 ghost use Rattle.sock_tcp.specs.Timers.{IsLastTs};
 ghost use Rattle.net_host.specs.Remembered.{IsTold, moment_from, nothing, phase_from};
+ghost use Rattle.net_host.specs.declared.guard.Phase.TheVariants.{Free};
 
 use control_wire::TcpSeqNumber;
 use net_base::time::{Duration, Instant};
@@ -206,6 +207,19 @@ impl Guard {
         ensures { result ≡ self.now.taken }
     {
         self.taken
+    }
+
+    // Whether nothing is waited for, and nothing is remembered but turns; where the answer is no, it says nothing.
+    pub(crate) fn waits_for_nothing(&self) -> bool
+        ensures phase { result ≡ true → self.now.phase ≡ Free }
+        ensures since { result ≡ true → self.now.since ≡ None }
+        ensures end { result ≡ true → self.now.end ≡ None }
+        ensures last { result ≡ true → self.now.last ≡ None }
+    {
+        matches!(self.kind, Kind::Free)
+            && self.since == NO_MOMENT
+            && self.end == NO_MOMENT
+            && self.last == NO_MOMENT
     }
 
     // The peer is waited for.

@@ -89,6 +89,13 @@ impl Limits {
         }
     }
 
+    /// The user timeout.
+    pub(crate) fn timeout(&self) -> Option<Duration>
+        ensures { result ≡ self.now.timeout }
+    {
+        limit_from(self.has_timeout, self.timeout)
+    }
+
     // Whether the numbers are the same; they may differ where there is no limit.
     pub(crate) fn are(&self, other: &Limits) -> bool
         ensures { result ≡ true → self.now ≡ other.now }

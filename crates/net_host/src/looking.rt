@@ -1,15 +1,18 @@
 //! Guards look at sockets that may want to be asked by now, up to the first that is due.
 ghost use Rattle.std.specs.Prelude.{◌≡◌, ◌<◌, ◌≤◌, IfSome, length, slice_get, true};
 ghost use Rattle.host_bounds.specs.Bounding.{at_once};
+ghost use Rattle.sock_core.specs.Bounds.{IsMoment};
 ghost use Rattle.sock_tcp.specs.View.{moment_of};
 ghost use Rattle.net_host.specs.Looking.{LooksIn, LooksNext, bound_of, is_seen};
 ghost use Rattle.net_host.specs.Turns.{Watches, asked_of, is_due};
 ghost use Rattle.net_host.specs.Walks.{ChangesAt};
 
 use crate::lent_turns::watch_at;
+use crate::limits::Limits;
 use crate::set::SocketSet;
 use crate::slot::Slot;
 use crate::turn::{delayed, is_reached};
+use smoltcp_socket::time::Instant;
 use smoltcp_socket::{Context, PollAt};
 use sock_tcp::TsvalSource;
 
@@ -68,7 +71,31 @@ fn note_at<C: Context, G: TsvalSource>(sockets: &mut SocketSet<'_, G>, i: usize,
     due
 }
 
-// The guard at this place looks. Whether its socket is due then.
+fn is_idle_at<G: TsvalSource>(slots: &[Slot<'_, G>], i: usize, limits: &Limits) -> bool
+    requires { i < length slots.now }
+    ensures looked { result ≡ true → IfSome (slice_get slots.now i) (λ s. (now : Instant) → Watches limits.now now s s) }
+    ensures seen { result ≡ true → IfSome (slice_get slots.now i) (λ s. is_seen limits.now s ≡ true) }
+{
+    slots[i].is_idle(limits)
+}
+
+// The guard at this place looks, where that may change something.
+fn watch_unless_idle<G: TsvalSource>(sockets: &mut SocketSet<'_, G>, i: usize, now: Instant)
+    requires within { i < length sockets.old.slots.items }
+    requires moment { IsMoment now.micros }
+    ensures looked { ChangesAt (Watches sockets.old.terms.guards now) sockets.old.slots.items i sockets.new.slots.items }
+    ensures terms { sockets.new.terms ≡ sockets.old.terms }
+    ensures seen { IfSome (slice_get sockets.new.slots.items i) (λ s. is_seen sockets.old.terms.guards s ≡ true) }
+{
+    if !is_idle_at(&sockets.slots, i, &sockets.terms.guards) {
+        let guards = sockets.terms.guards.settings();
+        watch_at(sockets, i, &guards, now);
+    }
+}
+
+// The guard at this place looks. Whether its socket is due then. Not inlined, so that a search that finds nobody saves
+// few registers.
+#[inline(never)]
 fn look_at<C: Context, G: TsvalSource>(sockets: &mut SocketSet<'_, G>, i: usize, cx: &C) -> bool
     requires within { i < length sockets.old.slots.items }
     requires mtu { sockets.old.terms.mtu ≡ (C.facts cx.now).mtu }
@@ -77,8 +104,7 @@ fn look_at<C: Context, G: TsvalSource>(sockets: &mut SocketSet<'_, G>, i: usize,
     ensures terms { sockets.new.terms ≡ sockets.old.terms }
     ensures due { IfSome (slice_get sockets.new.slots.items i) (λ s. result ≡ is_due (C.facts cx.now) s) }
 {
-    let guards = sockets.terms.guards.settings();
-    watch_at(sockets, i, &guards, cx.now());
+    watch_unless_idle(sockets, i, cx.now());
     note_at(sockets, i, cx)
 }
 

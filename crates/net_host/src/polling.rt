@@ -8,6 +8,7 @@ ghost use Rattle.net_host.specs.Turns.{slot_poll};
 
 use crate::set::SocketSet;
 use crate::slot::Slot;
+use smoltcp_socket::time::Instant;
 use smoltcp_socket::{Context, PollAt};
 use sock_tcp::TsvalSource;
 
@@ -21,13 +22,17 @@ pub(crate) fn earliest<C: Context, G: TsvalSource>(sockets: &SocketSet<'_, G>, c
     }
 }
 
-// What a socket with the least bound asks for, where that is the bound itself: none asks for an earlier moment.
+// The least bound, where it is still to come: a socket asks for it, and none for an earlier moment. Else what a socket
+// with the least bound asks for.
 fn by_bounds<C: Context, G: TsvalSource>(sockets: &SocketSet<'_, G>, cx: &C) -> Option<PollAt>
     ensures { IfSome result (λ p. p ≡ earliest (C.facts cx.now) sockets.now.slots.items) }
 {
     let least = sockets.bounds.least();
     if least == i64::MIN || sockets.terms.mtu != cx.ip_mtu() {
         return None;
+    }
+    if cx.now().micros < least && least < i64::MAX - 1 {
+        return Some(PollAt::Time(Instant { micros: least }));
     }
     let i = sockets.bounds.next(0, sockets.bounds.len(), least)?;
     at_bound(sockets, i, least, cx)

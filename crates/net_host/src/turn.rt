@@ -1,13 +1,16 @@
 //! What a host does with one socket and its guard: looks at it, asks when it wants to speak, and lets it speak.
-ghost use Rattle.std.specs.Prelude.{◌≡◌, ◌≤◌, length};
+ghost use Rattle.std.specs.Prelude.{◌≡◌, ◌≤◌, length, true};
 ghost use Rattle.sock_core.specs.Bounds.{IsMoment};
 ghost use Rattle.net_host.specs.Facts.{facts_by};
+ghost use Rattle.net_host.specs.Looking.{is_seen};
+ghost use Rattle.net_base.specs.declared.time.Instant.{Instant};
 ghost use Rattle.sock_tcp.specs.Polls.{is_reached};
 ghost use Rattle.net_host.specs.Turns.{SlotEmits, TakesTurn, Watches, asked_of, delayed, slot_poll};
 
 use crate::emission::{emit_icmp, emit_raw, emit_tcp, emit_udp};
 use crate::environment::Environment;
 use crate::guard::GuardSettings;
+use crate::limits::Limits;
 use crate::slot::Slot;
 use crate::watching::not_before;
 use crate::wire::TooShort;
@@ -28,6 +31,17 @@ impl<'a, G: TsvalSource> Slot<'a, G> {
         match &mut self.socket {
             Some(Socket::Tcp(tcp)) => self.guard.watch(settings, tcp, now),
             _ => {}
+        }
+    }
+
+    /// Whether that changes nothing, at any moment; where the answer is no, it says nothing.
+    pub(crate) fn is_idle(&self, limits: &Limits) -> bool
+        ensures looked { result ≡ true → (now : Instant) → Watches limits.now now self.now self.now }
+        ensures seen { result ≡ true → is_seen limits.now self.now ≡ true }
+    {
+        match &self.socket {
+            Some(Socket::Tcp(tcp)) => self.guard.is_idle(limits, tcp),
+            _ => true,
         }
     }
 

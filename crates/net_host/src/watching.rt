@@ -9,10 +9,14 @@ ghost use Rattle.net_host.specs.Guards.{end_of, ended_if, given_up, guarded_poll
 ghost use Rattle.net_host.specs.Guards.{lawful_limit, limit_of, may_in, moment_left, no_limits, phase_in, phase_left};
 ghost use Rattle.net_host.specs.Guards.{phase_of};
 ghost use Rattle.net_host.specs.Guards.{same_phase, since_by, since_in, stuck_by, usual, with_timeout};
+ghost use Rattle.net_host.specs.Looking.{has_timeout, seen_with};
 ghost use Rattle.net_host.specs.Remembered.{IsTold};
+ghost use Rattle.net_host.specs.declared.guard.Phase.TheVariants.{Free};
+ghost use Rattle.net_base.specs.declared.time.Instant.{Instant};
 ghost use Rattle.net_host.specs.Watching.{Asks, Looks, is_over_for, may_turn};
 
 use crate::guard::{Guard, GuardSettings, PACE, Phase, TURNS};
+use crate::limits::Limits;
 use control_wire::TcpSeqNumber;
 use net_base::time::{Duration, Instant};
 use smoltcp_socket::PollAt;
@@ -88,6 +92,21 @@ impl Guard {
         set_timeout(socket, lawful(settings.timeout));
         end_if(over, phase, socket);
         self.note(over, phase, since, end);
+    }
+
+    /// Whether `watch` changes nothing, at any moment: nothing is waited for, now and when the guard looked last, and the
+    /// socket has the user timeout that is set. Most sockets that are looked at are such, and are spared the rest. Where
+    /// the answer is no, it says nothing.
+    #[tactic(auto, using(crate::proofs::Idle::looks, crate::proofs::Idle::seen))]
+    pub(crate) fn is_idle<G>(&self, limits: &Limits, socket: &Socket<'_, G>) -> bool
+        ensures looked { result ≡ true → (now : Instant)
+            → Looks limits.now now socket.now.control_block self.now self.now socket.now.control_block }
+        ensures seen { result ≡ true → seen_with limits.now self.now.phase self.now.since self.now.end
+            socket.now.control_block ≡ true }
+    {
+        self.waits_for_nothing()
+            && is_free(phase_of(socket))
+            && has_timeout(limits.timeout(), socket.timeout())
     }
 
     /// Whether `watch` would end what the socket has lasted in.
@@ -183,6 +202,23 @@ fn phase_in(state: State, shut: bool, empty: bool, una: TcpSeqNumber) -> Phase
         State::LastAck => Phase::LastAck,
         State::Established | State::CloseWait => stuck_by(shut, empty, una),
         _ => Phase::Free,
+    }
+}
+
+fn is_free(phase: Phase) -> bool
+    ensures { result ≡ true → phase ≡ Free }
+{
+    matches!(phase, Phase::Free)
+}
+
+// Whether a socket has the user timeout that is set, if one is.
+fn has_timeout(limit: Option<Duration>, timeout: Option<Duration>) -> bool
+    ensures { result ≡ has_timeout (lawful_limit limit) timeout }
+{
+    match (lawful(limit), timeout) {
+        (None, _) => true,
+        (Some(limit), Some(timeout)) => limit.micros == timeout.micros,
+        (Some(_), None) => false,
     }
 }
 

@@ -1,4 +1,4 @@
-use Rattle.std.proofs.Common.{◌≡◌, ◌∙◌, ◌<◌, length, get_or, refl, true, false, arith}
+use Rattle.std.proofs.Common.{◌≡◌, ◌<◌, length, get_or, refl, true, false, arith}
 use Rattle.host_index.specs.Entries.{nothing}
 use Rattle.net_host.specs.Datagrams.{TakesDatagram}
 use Rattle.net_host.proofs.Runs.{at_end, before_key, behind_key, here_first, not_there, passes}

@@ -1,4 +1,4 @@
-use Rattle.std.proofs.Common.{◌≡◌, ◌∙◌, ◌<◌, length, get_or, refl, true, false, arith}
+use Rattle.std.proofs.Common.{◌≡◌, ◌<◌, length, get_or, refl, true, false, arith}
 use Rattle.host_index.specs.Entries.{nothing}
 use Rattle.control_wire.specs.Segment.{segment_of}
 use Rattle.net_host.specs.Finding.{Fits}

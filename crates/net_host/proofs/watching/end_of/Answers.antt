@@ -1,4 +1,4 @@
-use Rattle.std.proofs.Common.{rules, Some, subst, sym, ap}
+use Rattle.std.proofs.Common.{rules, Some, subst, sym}
 use Rattle.sock_core.specs.Bounds.{IsMoment}
 use Rattle.net_host.specs.Remembered.{IsTold}
 use Rattle.net_host.proofs.Lawful.{after_told}

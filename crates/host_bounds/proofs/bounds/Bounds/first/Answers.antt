@@ -1,19 +1,9 @@
 use Rattle.std.proofs.Common.{rules, ℕ, ◌≡◌, ◌≤◌, ◌<◌, length, arith, subst, sym}
-use Rattle.std.specs.Prelude.{◌≤ℤ◌, ◌<ℤ◌}
-use Rattle.std.proofs.lemmas.Int.{ints}
+use Rattle.std.specs.Prelude.{◌<ℤ◌}
 use Rattle.host_bounds.specs.Bounding.{bound_at}
 use Rattle.host_bounds.specs.Marking.{bit_of}
 use Rattle.host_bounds.proofs.Merged.{merged_len, none_asked}
 use Rattle.host_bounds.proofs.bounds.Bounds.first.Goals as goal
-
-pub returns-then-now-least-clause-before : goal.returns-then-now-least-clause-before
-returns-then-now-least-clause-before c =
-    let many : length c.self.inside.times ≡ length c.args.self.now = subst (λ l. length c.self.inside.times ≡ length l) c.self.view_is (sym (merged_len 0 c.self.inside.marks c.self.inside.times)) in
-    let within : c.min-near.result ≤ length c.args.self.now = search rules in
-    let unmarked : (k : ℕ) → c.args.start ≤ k → k < c.min-near.result → bit_of c.self.inside.marks k ≡ 0 = search rules in
-    let least : c.args.now <ℤ c.least.result = search rules in
-    let after : (k : ℕ) → c.args.start ≤ k → k < c.min-near.result → c.args.now <ℤ bound_at c.self.inside.times k = λ k from to. (let p : c.least.result ≤ℤ bound_at c.self.inside.times k = c.least.ensures k (omega (arith, to, within, many)) in grind (arith, ints, p, least)) in
-    subst (λ ps. (k : ℕ) → c.args.start ≤ k → k < c.min-near.result → c.args.now <ℤ bound_at ps k) c.self.view_is (none_asked c.self.inside.marks c.self.inside.times c.args.start c.min-near.result c.args.now unmarked after)
 
 pub next-requires-2 : goal.next-requires-2
 next-requires-2 c =

@@ -8,9 +8,9 @@ use Rattle.net_host.proofs.filed.Filed.mark.Goals as goal
 pub invariant_of-self : goal.invariant_of-self
 invariant_of-self g c = record {
   indexed = c.args.self.now.indexed;
-  asleep = subst (λ bs. AreAsleep g.T.Keyed.sleeps c.args.self.now.terms bs c.args.self.now.slots.items) (sym c.set.ensures) (marked_set g.T.Keyed.sleeps c.args.self.now.terms c.args.self.now.bounds c.args.self.now.slots.items c.args.place c.args.self.now.asleep);
-  as_many = ap length c.set.ensures ∙ length-set c.args.self.now.bounds c.args.place at_once ∙ c.args.self.now.as_many;
+  asleep = subst (λ bs. AreAsleep g.T.Keyed.sleeps c.args.self.now.terms bs c.args.self.now.slots.items) (sym c.put_at_once.ensures) (marked_set g.T.Keyed.sleeps c.args.self.now.terms c.args.self.now.bounds c.args.self.now.slots.items c.args.place c.args.self.now.asleep);
+  as_many = ap length c.put_at_once.ensures ∙ length-set c.args.self.now.bounds c.args.place at_once ∙ c.args.self.now.as_many;
 }
 
 pub returns-clause-marked : goal.returns-clause-marked
-returns-clause-marked g c = ap (λ bs. bound_at bs c.args.place) c.set.ensures ∙ marked_there c.args.self.now.bounds c.args.place
+returns-clause-marked g c = ap (λ bs. bound_at bs c.args.place) c.put_at_once.ensures ∙ marked_there c.args.self.now.bounds c.args.place

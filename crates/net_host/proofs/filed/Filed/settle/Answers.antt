@@ -1,4 +1,4 @@
-use Rattle.std.proofs.Common.{◌≡◌, ◌/◌, ◌<◌, length, true, Some, None, sym, subst}
+use Rattle.std.proofs.Common.{◌≡◌, true, None, sym, subst}
 use Rattle.std.specs.Prelude.{slice_get}
 use Rattle.net_host.specs.Indexing.{IsIndexed, are_filed, is_filed, is_noted, is_noted_of}
 use Rattle.net_host.proofs.Places.{lent_room, settled}
