@@ -1,13 +1,11 @@
 -- A host as C holds it: what its numbers mean, and what its calls do.
-use Rattle.std.specs.Prelude.{ℕ, ℤ, pos, negsuc, ◌≡◌, ◌==◌, ◌||◌, min, Bool, true, false, List, Option, Some, None}
-use Rattle.std.specs.Prelude.{Result, Ok, Err, length, map, if◌then◌else◌}
+use Rattle.std.specs.Prelude.{ℕ, ℤ, pos, negsuc, ◌≡◌, ◌==◌, ◌||◌, Bool, true, false, List, Option, Some, None}
+use Rattle.std.specs.Prelude.{Result, Ok, Err, length, map}
 use Rattle.std.specs.List.{All, list_all}
 use Rattle.std.specs.Mem.{type_size}
 use Rattle.rand_chacha.specs.ChaCha.{of_seed}
 use Rattle.ip_wire.specs.declared.address.IpAddress.{IpAddress}
 use Rattle.ip_wire.specs.declared.address.IpAddress.TheVariants as address
-use Rattle.ip_wire.specs.declared.address.Ipv4Address.{Ipv4Address}
-use Rattle.ip_wire.specs.declared.address.Ipv6Address.{Ipv6Address}
 use Rattle.host_groups.specs.Joining.{no_groups}
 use Rattle.host_groups.specs.declared.joining.MulticastError.{MulticastError}
 use Rattle.host_groups.specs.declared.joining.MulticastError.TheVariants as group
