@@ -33,8 +33,8 @@ macro_rules! lend {
 }
 
 /// Lends the TCP socket of this name: writes where it lies into `out`, and answers 0; `ERROR_SOCKET` where the host has
-/// no such socket of this kind, with `out` as it was. Until the next call of the host, calls of a TCP socket may be made
-/// on what lies there; the host sees then what they did.
+/// no such socket of this kind, with `out` as it was. Until the next call of the host, calls of a TCP socket may be
+/// made on what lies there; the host sees then what they did.
 #[unsafe(no_mangle)]
 pub extern "C" fn smoltcp_host_tcp_nonnull(
     h: &mut HostHandle,
@@ -52,8 +52,8 @@ pub extern "C" fn smoltcp_host_tcp_nonnull(
 }
 
 /// Lends the UDP socket of this name: writes where it lies into `out`, and answers 0; `ERROR_SOCKET` where the host has
-/// no such socket of this kind, with `out` as it was. Until the next call of the host, calls of a UDP socket may be made
-/// on what lies there; the host sees then what they did.
+/// no such socket of this kind, with `out` as it was. Until the next call of the host, calls of a UDP socket may be
+/// made on what lies there; the host sees then what they did.
 #[unsafe(no_mangle)]
 pub extern "C" fn smoltcp_host_udp_nonnull(
     h: &mut HostHandle,
@@ -70,9 +70,9 @@ pub extern "C" fn smoltcp_host_udp_nonnull(
     lend!(h, id, out, Socket::Udp, udp_place)
 }
 
-/// Lends the ICMP socket of this name: writes where it lies into `out`, and answers 0; `ERROR_SOCKET` where the host has
-/// no such socket of this kind, with `out` as it was. Until the next call of the host, calls of a ICMP socket may be made
-/// on what lies there; the host sees then what they did.
+/// Lends the ICMP socket of this name: writes where it lies into `out`, and answers 0; `ERROR_SOCKET` where the host
+/// has no such socket of this kind, with `out` as it was. Until the next call of the host, calls of an ICMP socket may
+/// be made on what lies there; the host sees then what they did.
 #[unsafe(no_mangle)]
 pub extern "C" fn smoltcp_host_icmp_nonnull(
     h: &mut HostHandle,
@@ -90,8 +90,8 @@ pub extern "C" fn smoltcp_host_icmp_nonnull(
 }
 
 /// Lends the raw socket of this name: writes where it lies into `out`, and answers 0; `ERROR_SOCKET` where the host has
-/// no such socket of this kind, with `out` as it was. Until the next call of the host, calls of a raw socket may be made
-/// on what lies there; the host sees then what they did.
+/// no such socket of this kind, with `out` as it was. Until the next call of the host, calls of a raw socket may be
+/// made on what lies there; the host sees then what they did.
 #[unsafe(no_mangle)]
 pub extern "C" fn smoltcp_host_raw_nonnull(
     h: &mut HostHandle,

@@ -100,8 +100,8 @@ fn group_answer(answer: Result<(), MulticastError>) -> i64
     }
 }
 
-/// Joins a group: packets to it are taken then, for UDP and raw sockets. 0, or `ERROR_ADDRESS` where the address is none
-/// of a group, `ERROR_ROOM` where four others were joined.
+/// Joins a group: packets to it are taken then, for UDP and raw sockets. 0, or `ERROR_ADDRESS` where the address is
+/// none of a group, `ERROR_ROOM` where four others were joined.
 #[unsafe(no_mangle)]
 pub extern "C" fn smoltcp_host_join_nonnull(h: &mut HostHandle, group: &Address) -> i64
     ensures answer { result ≡ group_answer (join_answer ⟦<IpAddress as PartialEq>⟧.eq (interface h.old).groups

@@ -45,8 +45,8 @@ macro_rules! remove {
     }};
 }
 
-/// Moves the TCP socket out of the room into the first place of the host that is free, and writes its name into `out`. 0;
-/// `ERROR_ROOM` where no place is free, with nothing changed.
+/// Moves the TCP socket out of the room into the first place of the host that is free, and writes its name into `out`.
+/// 0; `ERROR_ROOM` where no place is free, with nothing changed.
 #[unsafe(no_mangle)]
 pub extern "C" fn smoltcp_host_add_tcp_nonnull(
     h: &mut HostHandle,
@@ -87,8 +87,8 @@ pub extern "C" fn smoltcp_host_remove_tcp_nonnull(
     remove!(h, id, room, Socket::Tcp)
 }
 
-/// Moves the UDP socket out of the room into the first place of the host that is free, and writes its name into `out`. 0;
-/// `ERROR_ROOM` where no place is free, with nothing changed.
+/// Moves the UDP socket out of the room into the first place of the host that is free, and writes its name into `out`.
+/// 0; `ERROR_ROOM` where no place is free, with nothing changed.
 #[unsafe(no_mangle)]
 pub extern "C" fn smoltcp_host_add_udp_nonnull(
     h: &mut HostHandle,
@@ -129,8 +129,8 @@ pub extern "C" fn smoltcp_host_remove_udp_nonnull(
     remove!(h, id, room, Socket::Udp)
 }
 
-/// Moves the ICMP socket out of the room into the first place of the host that is free, and writes its name into `out`. 0;
-/// `ERROR_ROOM` where no place is free, with nothing changed.
+/// Moves the ICMP socket out of the room into the first place of the host that is free, and writes its name into `out`.
+/// 0; `ERROR_ROOM` where no place is free, with nothing changed.
 #[unsafe(no_mangle)]
 pub extern "C" fn smoltcp_host_add_icmp_nonnull(
     h: &mut HostHandle,
@@ -151,8 +151,8 @@ pub extern "C" fn smoltcp_host_add_icmp_nonnull(
     add!(h, room, out, Socket::Icmp)
 }
 
-/// Moves the ICMP socket of this name out of the host into the room. 0; `ERROR_SOCKET` where the host has no such socket
-/// of this kind, with nothing changed.
+/// Moves the ICMP socket of this name out of the host into the room. 0; `ERROR_SOCKET` where the host has no such
+/// socket of this kind, with nothing changed.
 #[unsafe(no_mangle)]
 pub extern "C" fn smoltcp_host_remove_icmp_nonnull(
     h: &mut HostHandle,
@@ -171,8 +171,8 @@ pub extern "C" fn smoltcp_host_remove_icmp_nonnull(
     remove!(h, id, room, Socket::Icmp)
 }
 
-/// Moves the raw socket out of the room into the first place of the host that is free, and writes its name into `out`. 0;
-/// `ERROR_ROOM` where no place is free, with nothing changed.
+/// Moves the raw socket out of the room into the first place of the host that is free, and writes its name into `out`.
+/// 0; `ERROR_ROOM` where no place is free, with nothing changed.
 #[unsafe(no_mangle)]
 pub extern "C" fn smoltcp_host_add_raw_nonnull(
     h: &mut HostHandle,
