@@ -98,7 +98,8 @@ fn packet_of(host: &Host, trace: bool, ip: &IpRepr, repr: &TcpRepr) -> Vec<u8> {
     if trace {
         let (now, last, len) = (host.now, host.last, repr.payload.len());
         let ack = repr.ack_number.map(|ack| ack.0);
-        println!("{now} {last} {:?} seq {} ack {ack:?} len {len} sack {:?}", repr.control, repr.seq_number.0, repr.sack_ranges);
+        let (control, number, sack) = (repr.control, repr.seq_number.0, repr.sack_ranges);
+        println!("{now} {last} {control:?} seq {number} ack {ack:?} len {len} sack {sack:?}");
     }
     let mut bytes = vec![0; ip.header_len() + ip.payload_len()];
     segment_wire::packet::emit_tcp(ip, repr, &mut bytes, &host.checksum_caps());

@@ -1,6 +1,6 @@
-/* 200,000 RSTs and SYNs of a stranger who knows the addresses and ports of a connection, and not its numbers, on a socket
- * with the RFCs' rules: it lives, the challenges keep to one a second (RFC 5961, sections 3, 4 and 7), and bytes still
- * come. */
+/* 200,000 RSTs and SYNs of a stranger who knows the addresses and ports of a connection, and not its numbers, on a
+ * socket with the RFCs' rules: it lives, the challenges keep to one a second (RFC 5961, sections 3, 4 and 7), and bytes
+ * still come. */
 #include <stdio.h>
 #include <string.h>
 
@@ -98,8 +98,8 @@ static void open_both(int rules) {
     want("open", smoltcp_tcp_state(&s[1]), SMOLTCP_ESTABLISHED);
 }
 
-/* A packet each 10 microseconds: RSTs and SYNs by turns with numbers at random, or RSTs alone, two in each 65,536 numbers.
- * How many were answered. */
+/* A packet each 10 microseconds: RSTs and SYNs by turns with numbers at random, or RSTs alone, two in each 65,536
+ * numbers. How many were answered. */
 static int attack(int syns) {
     uint8_t packet[HEADERS], reply[SMOLTCP_REPLY_ROOM];
     int i, answers = 0;

@@ -91,7 +91,8 @@ static void open_both(void) {
     want("open", smoltcp_tcp_state(&s[0]), SMOLTCP_ESTABLISHED);
 }
 
-/* Both SYNs have MSS 1460 (an MTU of 1500 less two headers of 20), a scale of 0 and SACK permitted, and no timestamp. */
+/* Both SYNs have MSS 1460 (an MTU of 1500 less two headers of 20), a scale of 0 and SACK permitted, and no timestamp.
+ */
 static void agreed(void) {
     struct smoltcp_negotiated n;
     begin();

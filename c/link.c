@@ -1,8 +1,8 @@
-/* A link that loses and delays packets, between two TUN devices that it makes: for live/rate. It says `up` when both are
- * there, and ends after SECONDS.
+/* A link that loses and delays packets, between two TUN devices that it makes: for live/rate. It says `up` when both
+ * are there, and ends after SECONDS.
  *     link DEVICE DEVICE LOST DELAY SEED SECONDS
- * LOST of a thousand packets are lost each way, whatever they carry; each other one arrives DELAY microseconds later, in
- * its order. */
+ * LOST of a thousand packets are lost each way, whatever they carry; each other one arrives DELAY microseconds later,
+ * in its order. */
 #define _GNU_SOURCE
 #include <fcntl.h>
 #include <linux/if_tun.h>

@@ -1,6 +1,6 @@
-/* A socket of the library beside lwIP in one process, in virtual time: lwIP echoes what the socket sends over a link that
- * loses, repeats and reorders packets, and each byte that comes back is looked at. `lwip SEED`, over Debian's liblwip-dev.
- * The socket has the RFCs' rules. live/lwip runs many seeds. */
+/* A socket of the library beside lwIP in one process, in virtual time: lwIP echoes what the socket sends over a link
+ * that loses, repeats and reorders packets, and each byte that comes back is looked at. `lwip SEED`, over Debian's
+ * liblwip-dev. The socket has the RFCs' rules. live/lwip runs many seeds. */
 #include <stdio.h>
 #include <stdlib.h>
 #include <string.h>
@@ -92,7 +92,8 @@ static void lwip_take(const uint8_t *bytes, size_t len) {
 static err_t lwip_echo(struct tcp_pcb *pcb) {
     while (queue) {
         struct pbuf *head = queue;
-        if (head->len > tcp_sndbuf(pcb) || tcp_write(pcb, head->payload, head->len, TCP_WRITE_FLAG_COPY) != ERR_OK) break;
+        if (head->len > tcp_sndbuf(pcb)) break;
+        if (tcp_write(pcb, head->payload, head->len, TCP_WRITE_FLAG_COPY) != ERR_OK) break;
         tcp_recved(pcb, head->len);
         queue = head->next;
         if (queue) pbuf_ref(queue);

@@ -14,8 +14,8 @@ extern "C" {
 int64_t smoltcp_raw_ask(const struct smoltcp_raw *s, uint32_t what);
 
 /* Makes a raw socket in the memory, for the packets of the filter, over the two buffers, of at most 2^30 places and
- * 2^30 bytes each (else SMOLTCP_ERROR_RANGE, as for a version that is not 0, 4 or 6, with nothing changed). All of it is
- * the socket's until smoltcp_raw_release.
+ * 2^30 bytes each (else SMOLTCP_ERROR_RANGE, as for a version that is not 0, 4 or 6, with nothing changed). All of it
+ * is the socket's until smoltcp_raw_release.
  *
  * Errors: SMOLTCP_ERROR_RANGE, SMOLTCP_ERROR_VERSION, SMOLTCP_ERROR_NULL. */
 int64_t smoltcp_raw_init(struct smoltcp_raw *s, const struct smoltcp_raw_filter *filter, struct smoltcp_raw_buffer rx,

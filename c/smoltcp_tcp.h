@@ -190,9 +190,9 @@ int64_t smoltcp_tcp_remote_endpoint(const struct smoltcp_tcp *s, struct smoltcp_
  * Errors: SMOLTCP_ERROR_NULL. */
 int64_t smoltcp_tcp_listen_endpoint(const struct smoltcp_tcp *s, struct smoltcp_endpoint *out);
 
-/* Ends a connection from which nothing was heard for so long, in microseconds, at most 2^61; below 0: never, as in a new
- * socket (RFC 9293, section 3.9.1). An idle one ends too, unless keep-alives of a shorter interval ask its peer. Without
- * a timeout a connection can wait for ever: docs/STALLS.md.
+/* Ends a connection from which nothing was heard for so long, in microseconds, at most 2^61; below 0: never, as in a
+ * new socket (RFC 9293, section 3.9.1). An idle one ends too, unless keep-alives of a shorter interval ask its peer.
+ * Without a timeout a connection can wait for ever: docs/STALLS.md.
  *
  * Errors: SMOLTCP_ERROR_RANGE, SMOLTCP_ERROR_NULL. */
 int64_t smoltcp_tcp_set_timeout(struct smoltcp_tcp *s, int64_t micros);

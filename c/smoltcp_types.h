@@ -51,7 +51,8 @@ enum { SMOLTCP_CONGESTION_NONE = 0, SMOLTCP_CONGESTION_RENO = 1 };
 
 /* Rules of a TCP socket: smoltcp's, or the RFCs' where they differ (docs/RULES.md). By these the FIN of a peer is taken
  * that sends old bytes with it, a peer is heard that counts the byte of its probe, losses of one window cost a round
- * trip and not a second, by SACK where the peer tells, and RSTs and SYNs that a stranger may have sent are challenged. */
+ * trip and not a second, by SACK where the peer tells, and RSTs and SYNs that a stranger may have sent are challenged.
+ */
 enum { SMOLTCP_RULES_SMOLTCP = 0, SMOLTCP_RULES_RFC = 1 };
 
 /* An address: none where version is 0, v4 where it is 4, v6 where it is 6. In network order. */

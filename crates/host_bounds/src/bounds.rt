@@ -61,7 +61,8 @@ impl Bounds {
         }
     }
 
-    /// Sets the bound of a place to the least, which says that it is to be asked at once; of none where it is not there.
+    /// Sets the bound of a place to the least, which says that it is to be asked at once; of none where it is not
+    /// there.
     pub fn put_at_once(&mut self, place: usize)
         ensures { self.new ≡ slice_set self.old place at_once }
     {

@@ -1,7 +1,8 @@
 //! Bounds of 32 places each, above those of the places.
 ghost use Rattle.std.specs.Prelude.{ℤ, ◌≡◌, ◌≤◌, ◌≤ℤ◌, ◌<◌, ◌/◌, IfOk, length};
 ghost use Rattle.std.specs.List.{All};
-ghost use Rattle.host_bounds.specs.Bounding.{Covers, CoversBut, FindsReached, IsBelow, IsBelowIn, IsGreatestOf, KeepsBut};
+ghost use Rattle.host_bounds.specs.Bounding.{Covers, CoversBut, FindsReached, IsBelow, IsBelowIn, IsGreatestOf};
+ghost use Rattle.host_bounds.specs.Bounding.{KeepsBut};
 ghost use Rattle.host_bounds.specs.Bounding.{Nears, NearsBut, Reaches, at_once, bound_at, latest};
 
 use std::alloc::{AllocError, Global};

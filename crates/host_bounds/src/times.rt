@@ -1,7 +1,8 @@
 //! The same where no place wants to be asked at once: levels of bounds.
 ghost use Rattle.std.specs.Prelude.{ℕ, ◌≡◌, ◌≤◌, ◌<◌, ◌/◌, ◌<ℤ◌, ◌≤ℤ◌, IfOk, length, slice_set, true};
 ghost use Rattle.std.specs.List.{All};
-ghost use Rattle.host_bounds.specs.Bounding.{Covers, FindsReached, IsBelowAll, IsGreatest, IsLayered, at_once, bound_at, first_top};
+ghost use Rattle.host_bounds.specs.Bounding.{Covers, FindsReached, IsBelowAll, IsGreatest, IsLayered, at_once};
+ghost use Rattle.host_bounds.specs.Bounding.{bound_at, first_top};
 
 use crate::levels::{FAN_OUT, first_between, least_between, least_bounds, mend};
 use std::alloc::{AllocError, Global};

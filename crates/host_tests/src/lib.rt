@@ -7,3 +7,5 @@ mod cookies;
 mod devices;
 #[cfg(test)]
 mod hosts;
+#[cfg(test)]
+mod sizes;

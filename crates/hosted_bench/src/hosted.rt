@@ -289,8 +289,8 @@ impl Host<SocketSet<'_, Clock>> {
     }
 }
 
-// The application writes until it has no more to say, or nothing is taken: it is asked again only once its socket took a
-// segment.
+// The application writes until it has no more to say, or nothing is taken: it is asked again only once its socket took
+// a segment.
 fn serve_whole(
     talk: &mut Talk,
     socket: &mut tcp::Socket<'_, Clock>,

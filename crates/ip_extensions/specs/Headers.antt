@@ -1,5 +1,6 @@
 -- What stands behind the extension headers of a packet (RFC 8200, section 4).
-use Rattle.std.specs.Prelude.{ℕ, zero, suc, ◌+◌, ◌*◌, ◌==◌, ◌||◌, ◌&&◌, not, nat_le, Bool, if◌then◌else◌, List, drop, length}
+use Rattle.std.specs.Prelude.{ℕ, zero, suc, ◌+◌, ◌*◌, ◌==◌, ◌||◌, ◌&&◌, not, nat_le, Bool, if◌then◌else◌, List, drop}
+use Rattle.std.specs.Prelude.{length}
 use Rattle.std.specs.Prelude.{slice_index, Option, Some, None}
 use Rattle.ip_extensions.specs.declared.behind.Behind.{Behind}
 use Rattle.ip_extensions.specs.declared.behind.Behind.TheVariants as behind

@@ -258,8 +258,8 @@ impl LiveHost<'_> {
         }
     }
 
-    // Sends a datagram back that came to an address of the host alone (RFC 1122, section 3.2.1.3: no other is a source),
-    // unless it came from a port of such a service: two of them would answer each other for ever.
+    // Sends a datagram back that came to an address of the host alone (RFC 1122, section 3.2.1.3: no other is a
+    // source), unless it came from a port of such a service: two of them would answer each other for ever.
     fn echo_datagram(&mut self) {
         if !self.has_datagram() {
             return;

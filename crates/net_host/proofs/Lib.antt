@@ -29,3 +29,4 @@ pub mod CookieAnswers
 pub mod Believed
 pub mod Lawful
 pub mod Polled
+pub mod Touching

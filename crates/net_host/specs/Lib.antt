@@ -29,6 +29,7 @@ pub mod Sides
 pub mod Sleeping
 pub mod Slots
 pub mod Speaking
+pub mod Touching
 pub mod Turns
 pub mod Unreachable
 pub mod Unsent

@@ -9,7 +9,8 @@ use Rattle.net_host.specs.declared.slot.Slot.{Slot}
 use Rattle.net_host.specs.declared.slot.SocketHandle.{SocketHandle}
 
 -- from the place i on, the next socket: its handle, and itself; then the walk goes on behind it
-pub record IsNextListed {G : Type 0} (ss : List (Slot G)) (i : ℕ) (h : SocketHandle) (s : Socket G) (j : ℕ) : Type 0 where
+pub record IsNextListed {G : Type 0} (ss : List (Slot G)) (i : ℕ) (h : SocketHandle) (s : Socket G) (j : ℕ)
+    : Type 0 where
   pub behind : i ≤ h.index
   pub there : handle_at ss h.index ≡ Some h
   pub socket : IfSome (slice_get ss h.index) (λ x. x.socket ≡ Some s)

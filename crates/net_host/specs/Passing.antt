@@ -10,7 +10,10 @@ use Rattle.segment_wire.specs.Packet.{Carried}
 -- the header names what is carried, and counts it alone
 abbrev pub passed_v6 : Ipv6Repr → Stands → Option Carried
 passed_v6 h (Carries n octets) =
-    Some (record { ip = header.Ipv6 (record h { next_header = protocol_of n; payload_len = length octets }); octets = octets })
+    Some (record {
+      ip = header.Ipv6 (record h { next_header = protocol_of n; payload_len = length octets });
+      octets = octets;
+    })
 passed_v6 h _ = None
 
 abbrev pub passed_by : IpRepr → List ℕ → Option Carried

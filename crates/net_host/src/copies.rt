@@ -3,6 +3,7 @@ ghost use Rattle.std.specs.Prelude.{◌≡◌, None};
 ghost use Rattle.net_host.specs.Datagrams.{HeardBy, TakesDatagram};
 ghost use Rattle.net_host.specs.Messages.{Copies, mail_of};
 ghost use Rattle.net_host.specs.RawCopies.{CopiesPacket};
+ghost use Rattle.net_host.specs.Touching.{Touches};
 ghost use Rattle.net_host.specs.Walks.{ChangesEach, Finds};
 
 use crate::datagrams::{first_for_datagram, first_under, hear_found};
@@ -21,7 +22,9 @@ pub(crate) fn copy_packet<C: Context, G: TsvalSource>(
     ip: &IpRepr,
     payload: &[u8],
 )
-    ensures { ChangesEach (CopiesPacket (C.facts cx.now) ip.now payload.now) sockets.old.slots.items
+    ensures copied { ChangesEach (CopiesPacket (C.facts cx.now) ip.now payload.now) sockets.old.slots.items
+        sockets.new.slots.items }
+    ensures touched { Touches sockets.old.bounds sockets.old.slots.items sockets.new.bounds
         sockets.new.slots.items }
 {
     sockets.settle();
@@ -42,7 +45,9 @@ pub(crate) fn copy_mail<C: Context, G: TsvalSource>(
     cx: &C,
     mail: &Mail<'_>,
 )
-    ensures { ChangesEach (Copies (C.facts cx.now) (mail_of mail.now)) sockets.old.slots.items
+    ensures copied { ChangesEach (Copies (C.facts cx.now) (mail_of mail.now)) sockets.old.slots.items
+        sockets.new.slots.items }
+    ensures touched { Touches sockets.old.bounds sockets.old.slots.items sockets.new.bounds
         sockets.new.slots.items }
 {
     sockets.settle();
@@ -78,6 +83,8 @@ pub(crate) fn hear_datagram_of<C: Context, G: TsvalSource>(
 ) -> Option<usize>
     ensures finds { Finds (TakesDatagram (C.facts cx.now) ip.now repr.now) sockets.old.slots.items result }
     ensures heard { HeardBy result sockets.old.slots.items ip.now repr.now payload.now sockets.new.slots.items }
+    ensures touched { Touches sockets.old.bounds sockets.old.slots.items sockets.new.bounds
+        sockets.new.slots.items }
 {
     sockets.settle();
     let found = datagram_taker(sockets, cx, ip, repr);

@@ -1,6 +1,6 @@
 //! Places that are filed in an index under their keys.
 ghost use Rattle.std.specs.Prelude.{ℕ, ℤ, Bool, ◌≡◌, ◌&&◌, ◌<◌, ◌/◌, IfSome, IsSome, length, get_or, slice_get, true};
-ghost use Rattle.std.specs.Prelude.{None};
+ghost use Rattle.std.specs.Prelude.{None, slice_set};
 ghost use Rattle.std.specs.List.{All};
 ghost use Rattle.net_host.specs.Indexing.{IsIndexed, IsLentAt, KeepsMarks, KeepsOthers, are_filed, is_filed, is_noted};
 ghost use Rattle.net_host.specs.Indexing.{is_noted_of, lent_of, no_keys};
@@ -76,6 +76,7 @@ impl<T: Keyed> Filed<T> {
         ensures slots { self.new.slots ≡ self.old.slots }
         ensures settled { self.new.lent ≡ None }
         ensures terms { self.new.terms ≡ self.old.terms }
+        ensures bounds { self.new.bounds ≡ self.old.bounds }
     {
         if let Some(lent) = self.lent {
             let filed = refile_lent(&self.slots, &mut self.index, &mut self.free, &lent);
@@ -90,6 +91,7 @@ impl<T: Keyed> Filed<T> {
         ensures lent { IsLentAt place (slice_get self.new.slots.items place) self.new.lent }
         ensures marked { bound_at self.new.bounds place ≡ at_once }
         ensures terms { self.new.terms ≡ self.old.terms }
+        ensures bounds { self.new.bounds ≡ slice_set self.old.bounds place at_once }
     {
         if self.is_lent(place) {
             self.mark(place);
@@ -114,6 +116,7 @@ impl<T: Keyed> Filed<T> {
         ensures lent { IsLentAt place (slice_get self.new.slots.items place) self.new.lent }
         ensures marked { bound_at self.new.bounds place ≡ at_once }
         ensures terms { self.new.terms ≡ self.old.terms }
+        ensures bounds { self.new.bounds ≡ slice_set self.old.bounds place at_once }
     {
         self.settle();
         self.mark(place);
@@ -126,6 +129,7 @@ impl<T: Keyed> Filed<T> {
         ensures lent { self.new.lent ≡ self.old.lent }
         ensures marked { bound_at self.new.bounds place ≡ at_once }
         ensures terms { self.new.terms ≡ self.old.terms }
+        ensures bounds { self.new.bounds ≡ slice_set self.old.bounds place at_once }
     {
         self.bounds.put_at_once(place);
     }

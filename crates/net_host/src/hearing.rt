@@ -8,6 +8,7 @@ ghost use Rattle.net_host.specs.Cookies.{AnswersSegment, BelievedBy, HearsBoth, 
 ghost use Rattle.net_host.specs.Cookies.{course_of, syn_before};
 ghost use Rattle.net_host.specs.Resting.{Rests, anew, is_opening};
 ghost use Rattle.net_host.specs.Segments.{IsTaker, TakesSegment, as_is};
+ghost use Rattle.net_host.specs.Touching.{Touches};
 
 use crate::cookies::{Course, Told, answer_of, course_of, room_at, syn_before};
 use crate::limit::Limit;
@@ -63,6 +64,7 @@ fn who_opens<C: Context, G: TsvalSource>(
 
 // The socket at this place hears the SYN, and draws this number. Its SYN|ACK has gone out: that it has told its window,
 // and so takes what the peer sends right behind its acknowledgement, the socket learns by a dispatch into nothing.
+#[tactic(auto, using(crate::proofs::Touching::touches_then))]
 fn open_with<C: Context, G: TsvalSource>(
     sockets: &mut SocketSet<'_, G>,
     i: usize,
@@ -77,6 +79,8 @@ fn open_with<C: Context, G: TsvalSource>(
     ensures len { length sockets.new.slots.items ≡ length sockets.old.slots.items }
     ensures heard { HearsSyn C.facts C.word_at G.tells as_is sockets.old.slots.items i cx.now number ip.now
         (segment_of syn.now) sockets.new.slots.items }
+    ensures touched { Touches sockets.old.bounds sockets.old.slots.items sockets.new.bounds
+        sockets.new.slots.items }
 {
     let mut told = Told { cx, word: number };
     hear_at(sockets, i, &mut told, true, ip, syn);
@@ -84,6 +88,7 @@ fn open_with<C: Context, G: TsvalSource>(
 }
 
 // The same of a socket in TIME-WAIT, which listens again.
+#[tactic(auto, using(crate::proofs::Touching::touches_then))]
 fn open_anew_with<C: Context, G: TsvalSource>(
     sockets: &mut SocketSet<'_, G>,
     i: usize,
@@ -99,6 +104,8 @@ fn open_anew_with<C: Context, G: TsvalSource>(
     ensures len { length sockets.new.slots.items ≡ length sockets.old.slots.items }
     ensures heard { HearsSyn C.facts C.word_at G.tells anew sockets.old.slots.items i cx.now number ip.now
         (segment_of syn.now) sockets.new.slots.items }
+    ensures touched { Touches sockets.old.bounds sockets.old.slots.items sockets.new.bounds
+        sockets.new.slots.items }
 {
     let mut told = Told { cx, word: number };
     hear_anew_at(sockets, i, &mut told, ip, syn);
@@ -121,6 +128,7 @@ fn takes_there<C: Context, G: TsvalSource>(
 }
 
 // The socket at this place hears the segment, if it takes it.
+#[tactic(auto, using(crate::proofs::Touching::touches_none))]
 fn hear_if<C: Context, G: TsvalSource>(
     sockets: &mut SocketSet<'_, G>,
     i: usize,
@@ -134,6 +142,8 @@ fn hear_if<C: Context, G: TsvalSource>(
         result sockets.new.slots.items cx.new }
     ensures bare { ForSome result (λ r. r.1.payload.now ≡ []) }
     ensures fits { ForSome (option_map reply_of result) (λ r. FitsPacket r.0 r.1) }
+    ensures touched { Touches sockets.old.bounds sockets.old.slots.items sockets.new.bounds
+        sockets.new.slots.items }
 {
     if takes_there(&sockets.slots, i, cx, ip, repr) {
         hear_at(sockets, i, cx, false, ip, repr)
@@ -143,6 +153,7 @@ fn hear_if<C: Context, G: TsvalSource>(
 }
 
 // The socket at this place hears the SYN before the segment, and then the segment.
+#[tactic(auto, using(crate::proofs::Touching::touches_then))]
 fn hear_both<C: Context, G: TsvalSource>(
     sockets: &mut SocketSet<'_, G>,
     i: usize,
@@ -160,6 +171,8 @@ fn hear_both<C: Context, G: TsvalSource>(
         (segment_of repr.now) result sockets.new.slots.items cx.new }
     ensures bare { ForSome result (λ r. r.1.payload.now ≡ []) }
     ensures fits { ForSome (option_map reply_of result) (λ r. FitsPacket r.0 r.1) }
+    ensures touched { Touches sockets.old.bounds sockets.old.slots.items sockets.new.bounds
+        sockets.new.slots.items }
 {
     let syn = syn_before(repr, class);
     open_with(sockets, i, cx, number, ip, &syn);
@@ -167,6 +180,7 @@ fn hear_both<C: Context, G: TsvalSource>(
 }
 
 // The same of a socket in TIME-WAIT, which listens again.
+#[tactic(auto, using(crate::proofs::Touching::touches_then))]
 fn hear_both_anew<C: Context, G: TsvalSource>(
     sockets: &mut SocketSet<'_, G>,
     i: usize,
@@ -184,6 +198,8 @@ fn hear_both_anew<C: Context, G: TsvalSource>(
         (segment_of repr.now) result sockets.new.slots.items cx.new }
     ensures bare { ForSome result (λ r. r.1.payload.now ≡ []) }
     ensures fits { ForSome (option_map reply_of result) (λ r. FitsPacket r.0 r.1) }
+    ensures touched { Touches sockets.old.bounds sockets.old.slots.items sockets.new.bounds
+        sockets.new.slots.items }
 {
     let syn = syn_before(repr, class);
     open_anew_with(sockets, i, cx, number, ip, &syn);
@@ -191,6 +207,7 @@ fn hear_both_anew<C: Context, G: TsvalSource>(
 }
 
 // An acknowledgement is believed.
+#[tactic(auto, using(crate::proofs::Touching::touches_none))]
 fn believe<C: Context, G: TsvalSource>(
     sockets: &mut SocketSet<'_, G>,
     cx: &mut C,
@@ -206,6 +223,8 @@ fn believe<C: Context, G: TsvalSource>(
         (segment_of repr.now) result sockets.new.slots.items cx.new }
     ensures bare { ForSome result (λ r. r.1.payload.now ≡ []) }
     ensures fits { ForSome (option_map reply_of result) (λ r. FitsPacket r.0 r.1) }
+    ensures touched { Touches sockets.old.bounds sockets.old.slots.items sockets.new.bounds
+        sockets.new.slots.items }
 {
     match again {
         Taker::Listener(i) => hear_both(sockets, i, cx, class, number, ip, repr),
@@ -215,6 +234,7 @@ fn believe<C: Context, G: TsvalSource>(
 }
 
 // The segment goes to its taker, is answered or believed.
+#[tactic(auto, using(crate::proofs::Touching::touches_none))]
 fn take_heard<C: Context, G: TsvalSource>(
     sockets: &mut SocketSet<'_, G>,
     cx: &mut C,
@@ -231,6 +251,8 @@ fn take_heard<C: Context, G: TsvalSource>(
         limit.new }
     ensures bare { ForSome result (λ r. r.1.payload.now ≡ []) }
     ensures fits { ForSome (option_map reply_of result) (λ r. FitsPacket r.0 r.1) }
+    ensures touched { Touches sockets.old.bounds sockets.old.slots.items sockets.new.bounds
+        sockets.new.slots.items }
 {
     match heard.course {
         Course::Plain | Course::Doubted => {
@@ -290,6 +312,8 @@ pub(crate) fn hear_segment<C: Context, G: TsvalSource>(
     ensures heard { AnswersSegment C.facts C.word_at G.tells result.0.course result.0.taker result.0.again
         sockets.old.slots.items cx.old limit.old ip.now (segment_of repr.now) out.old result.1 sockets.new.slots.items
         cx.new limit.new out.new }
+    ensures touched { Touches sockets.old.bounds sockets.old.slots.items sockets.new.bounds
+        sockets.new.slots.items }
 {
     let caps = cx.checksum_caps();
     sockets.settle();

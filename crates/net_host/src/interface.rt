@@ -10,6 +10,7 @@ ghost use Rattle.net_host.specs.Guards.{usual};
 ghost use Rattle.net_host.specs.HostCalls.{EmitsAt, MovesTo, ReceivesAt};
 ghost use Rattle.net_host.specs.Looking.{Unseen};
 ghost use Rattle.net_host.specs.Speaking.{Due, earliest};
+ghost use Rattle.net_host.specs.Touching.{Touches};
 ghost use Rattle.net_host.specs.Walks.{Nowhere};
 ghost use Rattle.ip_wire.specs.Checksum.{all_checksums};
 ghost use Rattle.ip_wire.specs.declared.checksum.Checksum.TheVariants.{Both};
@@ -74,8 +75,11 @@ impl<W: Words> Interface<W> {
     /// Of an ICMP message each ICMP socket that accepts it takes a copy, and an echo request is answered (RFC 792; RFC
     /// 4443, section 4.2), by at most as many bytes as the MTU. No other socket changes.
     ///
+    /// A TCP socket whose place is not `touched` afterwards is as it was, and was not touched before.
+    ///
     /// `TooShort` where `reply` is shorter than the MTU, or than the 100 bytes of the longest reply of a TCP socket;
     /// nothing happens then.
+    #[tactic(auto, using(crate::proofs::Touching::touches_none))]
     pub fn receive<G: TsvalSource>(
         &mut self,
         sockets: &mut SocketSet<'_, G>,
@@ -89,6 +93,8 @@ impl<W: Words> Interface<W> {
         ensures within { IfOk result (λ n. n ≤ length reply.old) }
         ensures taken { IfOk result (λ n. ReceivesAt ⟦<IpAddress as PartialEq>⟧.eq W.word_at G.tells now packet.now
             self.old sockets.old.slots.items reply.old n self.new sockets.new.slots.items reply.new) }
+        ensures touched { Touches sockets.old.bounds sockets.old.slots.items sockets.new.bounds
+            sockets.new.slots.items }
     {
         if reply.len() < self.inner.environment.mtu.max(LONGEST_REPLY) {
             return Err(TooShort);
@@ -108,6 +114,8 @@ impl<W: Words> Interface<W> {
         ensures table { ReceivesAt ⟦<IpAddress as PartialEq>⟧.eq W.word_at G.tells now packet.now self.old
             sockets.old.slots.items
             reply.old result self.new sockets.new.slots.items reply.new }
+        ensures touched { Touches sockets.old.bounds sockets.old.slots.items sockets.new.bounds
+            sockets.new.slots.items }
     {
         self.set_now(now);
         self.take_packet(sockets, packet, reply)

@@ -73,7 +73,8 @@ fn note_at<C: Context, G: TsvalSource>(sockets: &mut SocketSet<'_, G>, i: usize,
 
 fn is_idle_at<G: TsvalSource>(slots: &[Slot<'_, G>], i: usize, limits: &Limits) -> bool
     requires { i < length slots.now }
-    ensures looked { result ≡ true → IfSome (slice_get slots.now i) (λ s. (now : Instant) → Watches limits.now now s s) }
+    ensures looked { result ≡ true
+        → IfSome (slice_get slots.now i) (λ s. (now : Instant) → Watches limits.now now s s) }
     ensures seen { result ≡ true → IfSome (slice_get slots.now i) (λ s. is_seen limits.now s ≡ true) }
 {
     slots[i].is_idle(limits)
@@ -83,7 +84,8 @@ fn is_idle_at<G: TsvalSource>(slots: &[Slot<'_, G>], i: usize, limits: &Limits) 
 fn watch_unless_idle<G: TsvalSource>(sockets: &mut SocketSet<'_, G>, i: usize, now: Instant)
     requires within { i < length sockets.old.slots.items }
     requires moment { IsMoment now.micros }
-    ensures looked { ChangesAt (Watches sockets.old.terms.guards now) sockets.old.slots.items i sockets.new.slots.items }
+    ensures looked { ChangesAt (Watches sockets.old.terms.guards now) sockets.old.slots.items i
+        sockets.new.slots.items }
     ensures terms { sockets.new.terms ≡ sockets.old.terms }
     ensures seen { IfSome (slice_get sockets.new.slots.items i) (λ s. is_seen sockets.old.terms.guards s ≡ true) }
 {

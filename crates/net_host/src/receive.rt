@@ -13,6 +13,7 @@ ghost use Rattle.net_host.specs.Receiving.{counted_again, counted_for, counted_i
 ghost use Rattle.net_host.specs.Messages.{mail_of};
 ghost use Rattle.net_host.specs.Arrivals.{refusal};
 ghost use Rattle.net_host.specs.Facts.{facts_by};
+ghost use Rattle.net_host.specs.Touching.{Touches};
 
 use crate::arrival::{Kind, kind_in, refusal};
 use crate::cookies::Course;
@@ -34,6 +35,7 @@ use sock_tcp::TsvalSource;
 
 impl<W: Words> Interface<W> {
     // The first row that fits.
+    #[tactic(auto, using(crate::proofs::Touching::touches_none))]
     pub(crate) fn take_packet<G: TsvalSource>(
         &mut self,
         sockets: &mut SocketSet<'_, G>,
@@ -46,6 +48,8 @@ impl<W: Words> Interface<W> {
             sockets.old.slots.items
             out.old
             result self.new sockets.new.slots.items out.new }
+        ensures touched { Touches sockets.old.bounds sockets.old.slots.items sockets.new.bounds
+            sockets.new.slots.items }
     {
         let caps = self.inner.checksum_caps();
         match carried(packet, &caps) {
@@ -55,6 +59,7 @@ impl<W: Words> Interface<W> {
     }
 
     // Behind its extension headers.
+    #[tactic(auto, using(crate::proofs::Touching::touches_none))]
     fn take_whole<G: TsvalSource>(
         &mut self,
         sockets: &mut SocketSet<'_, G>,
@@ -66,6 +71,8 @@ impl<W: Words> Interface<W> {
         ensures within { result ≤ length out.old }
         ensures table { ByPassed ⟦<IpAddress as PartialEq>⟧.eq W.word_at G.tells (passed ip.now bytes.now) self.old
             sockets.old.slots.items out.old result self.new sockets.new.slots.items out.new }
+        ensures touched { Touches sockets.old.bounds sockets.old.slots.items sockets.new.bounds
+            sockets.new.slots.items }
     {
         match passed(ip, bytes) {
             None => self.drop_packet(Reason::Malformed),
@@ -88,6 +95,7 @@ impl<W: Words> Interface<W> {
         self.groups.has(&ip.dst_addr())
     }
 
+    #[tactic(auto, using(crate::proofs::Touching::touches_none))]
     fn take_carried<G: TsvalSource>(
         &mut self,
         sockets: &mut SocketSet<'_, G>,
@@ -101,6 +109,8 @@ impl<W: Words> Interface<W> {
             (refusal (facts_by ⟦<IpAddress as PartialEq>⟧.eq self.old.inner.environment)
             (has_group ⟦<IpAddress as PartialEq>⟧.eq self.old.groups (dst_addr_of ip.now)) ip.now) ip.now bytes.now
             self.old sockets.old.slots.items out.old result self.new sockets.new.slots.items out.new }
+        ensures touched { Touches sockets.old.bounds sockets.old.slots.items sockets.new.bounds
+            sockets.new.slots.items }
     {
         let joined = self.has_joined(ip);
         match refusal(&self.inner, joined, ip) {
@@ -109,6 +119,7 @@ impl<W: Words> Interface<W> {
         }
     }
 
+    #[tactic(auto, using(crate::proofs::Touching::touches_then))]
     fn take_looked_at<G: TsvalSource>(
         &mut self,
         sockets: &mut SocketSet<'_, G>,
@@ -120,12 +131,15 @@ impl<W: Words> Interface<W> {
         ensures within { result ≤ length out.old }
         ensures table { TakesCarried ⟦<IpAddress as PartialEq>⟧.eq W.word_at G.tells ip.now bytes.now self.old
             sockets.old.slots.items out.old result self.new sockets.new.slots.items out.new }
+        ensures touched { Touches sockets.old.bounds sockets.old.slots.items sockets.new.bounds
+            sockets.new.slots.items }
     {
         copy_packet(sockets, &self.inner, ip, bytes);
         let kind = kind_in(&self.inner, ip);
         self.take_kind(sockets, kind, ip, bytes, out)
     }
 
+    #[tactic(auto, using(crate::proofs::Touching::touches_none))]
     fn take_kind<G: TsvalSource>(
         &mut self,
         sockets: &mut SocketSet<'_, G>,
@@ -138,6 +152,8 @@ impl<W: Words> Interface<W> {
         ensures within { result ≤ length out.old }
         ensures table { ByKind ⟦<IpAddress as PartialEq>⟧.eq W.word_at G.tells kind ip.now bytes.now self.old
             sockets.old.slots.items out.old result self.new sockets.new.slots.items out.new }
+        ensures touched { Touches sockets.old.bounds sockets.old.slots.items sockets.new.bounds
+            sockets.new.slots.items }
     {
         match kind {
             Kind::Tcp => self.take_tcp(sockets, ip, bytes, out),
@@ -148,6 +164,7 @@ impl<W: Words> Interface<W> {
         }
     }
 
+    #[tactic(auto, using(crate::proofs::Touching::touches_none))]
     fn take_other<G: TsvalSource>(
         &mut self,
         sockets: &mut SocketSet<'_, G>,
@@ -158,6 +175,8 @@ impl<W: Words> Interface<W> {
         ensures within { result ≤ length out.old }
         ensures table { TakesOther ⟦<IpAddress as PartialEq>⟧.eq W.word_at G.tells ip.now bytes.now self.old
             sockets.old.slots.items out.old result self.new sockets.new.slots.items out.new }
+        ensures touched { Touches sockets.old.bounds sockets.old.slots.items sockets.new.bounds
+            sockets.new.slots.items }
     {
         self.counters.count(Reason::Protocol);
         tell_sender(
@@ -171,6 +190,7 @@ impl<W: Words> Interface<W> {
         )
     }
 
+    #[tactic(auto, using(crate::proofs::Touching::touches_none))]
     fn take_udp<G: TsvalSource>(
         &mut self,
         sockets: &mut SocketSet<'_, G>,
@@ -181,6 +201,8 @@ impl<W: Words> Interface<W> {
         ensures within { result ≤ length out.old }
         ensures table { TakesUdp ⟦<IpAddress as PartialEq>⟧.eq W.word_at G.tells ip.now bytes.now self.old
             sockets.old.slots.items out.old result self.new sockets.new.slots.items out.new }
+        ensures touched { Touches sockets.old.bounds sockets.old.slots.items sockets.new.bounds
+            sockets.new.slots.items }
     {
         let caps = self.inner.checksum_caps();
         match datagram_in(&caps, ip, bytes) {
@@ -189,6 +211,7 @@ impl<W: Words> Interface<W> {
         }
     }
 
+    #[tactic(auto, using(crate::proofs::Touching::touches_none, crate::proofs::Touching::touches_then))]
     fn take_datagram<G: TsvalSource>(
         &mut self,
         sockets: &mut SocketSet<'_, G>,
@@ -202,6 +225,8 @@ impl<W: Words> Interface<W> {
         ensures table { TakesDatagramOf ⟦<IpAddress as PartialEq>⟧.eq W.word_at G.tells ip.now bytes.now
             (record { header = repr.now; payload = payload.now }) self.old sockets.old.slots.items out.old result
             self.new sockets.new.slots.items out.new }
+        ensures touched { Touches sockets.old.bounds sockets.old.slots.items sockets.new.bounds
+            sockets.new.slots.items }
     {
         let found = hear_datagram_of(sockets, &self.inner, ip, repr, payload);
         count_found(&mut self.counters, found);
@@ -223,6 +248,7 @@ impl<W: Words> Interface<W> {
             (facts_by ⟦<IpAddress as PartialEq>⟧.eq self.old.inner.environment) ip.now bytes.now
             sockets.old.slots.items self.old.errors out.old result self.new.errors out.new }
         ensures interface { self.new ≡ record self.old { errors = self.new.errors } }
+        ensures bounds { sockets.new.bounds ≡ sockets.old.bounds }
     {
         match found {
             Some(_) => 0,
@@ -238,6 +264,7 @@ impl<W: Words> Interface<W> {
         }
     }
 
+    #[tactic(auto, using(crate::proofs::Touching::touches_none))]
     fn take_icmp<G: TsvalSource>(
         &mut self,
         sockets: &mut SocketSet<'_, G>,
@@ -248,6 +275,8 @@ impl<W: Words> Interface<W> {
         ensures within { result ≤ length out.old }
         ensures table { TakesIcmp ⟦<IpAddress as PartialEq>⟧.eq W.word_at G.tells ip.now bytes.now self.old
             sockets.old.slots.items out.old result self.new sockets.new.slots.items out.new }
+        ensures touched { Touches sockets.old.bounds sockets.old.slots.items sockets.new.bounds
+            sockets.new.slots.items }
     {
         let caps = self.inner.checksum_caps();
         match mail_in(&caps, ip, bytes) {
@@ -265,6 +294,8 @@ impl<W: Words> Interface<W> {
         ensures within { result ≤ length out.old }
         ensures table { TakesMail ⟦<IpAddress as PartialEq>⟧.eq W.word_at G.tells (mail_of mail.now) self.now
             sockets.old.slots.items out.old result self.now sockets.new.slots.items out.new }
+        ensures touched { Touches sockets.old.bounds sockets.old.slots.items sockets.new.bounds
+            sockets.new.slots.items }
     {
         copy_mail(sockets, &self.inner, mail);
         let answer = echoed(mail);
@@ -272,6 +303,7 @@ impl<W: Words> Interface<W> {
         put_answer(&answer, self.inner.ip_mtu(), out, &caps)
     }
 
+    #[tactic(auto, using(crate::proofs::Touching::touches_none))]
     fn take_tcp<G: TsvalSource>(
         &mut self,
         sockets: &mut SocketSet<'_, G>,
@@ -284,6 +316,8 @@ impl<W: Words> Interface<W> {
         ensures table { TakesTcp ⟦<IpAddress as PartialEq>⟧.eq W.word_at G.tells ip.now bytes.now self.old
             sockets.old.slots.items
             out.old result self.new sockets.new.slots.items out.new }
+        ensures touched { Touches sockets.old.bounds sockets.old.slots.items sockets.new.bounds
+            sockets.new.slots.items }
     {
         let caps = self.inner.checksum_caps();
         match tcp::parse(bytes, &ip.src_addr(), &ip.dst_addr(), &caps) {
@@ -292,6 +326,7 @@ impl<W: Words> Interface<W> {
         }
     }
 
+    #[tactic(auto, using(crate::proofs::Touching::touches_none))]
     fn take_short<G: TsvalSource>(
         &mut self,
         sockets: &mut SocketSet<'_, G>,
@@ -305,6 +340,8 @@ impl<W: Words> Interface<W> {
             65535)
             ip.now (segment_of repr.now) self.old sockets.old.slots.items out.old result self.new
             sockets.new.slots.items out.new }
+        ensures touched { Touches sockets.old.bounds sockets.old.slots.items sockets.new.bounds
+            sockets.new.slots.items }
     {
         if repr.payload.len() <= 65535 {
             self.take_segment(sockets, ip, repr, out)
@@ -326,6 +363,8 @@ impl<W: Words> Interface<W> {
         ensures table { TakesSegment ⟦<IpAddress as PartialEq>⟧.eq W.word_at G.tells ip.now (segment_of repr.now)
             self.old
             sockets.old.slots.items out.old result self.new sockets.new.slots.items out.new }
+        ensures touched { Touches sockets.old.bounds sockets.old.slots.items sockets.new.bounds
+            sockets.new.slots.items }
     {
         let (heard, len) = hear_segment(
             sockets,

@@ -8,6 +8,7 @@ ghost use Rattle.sock_tcp.specs.Process.{reply_of};
 ghost use Rattle.net_host.specs.Resting.{Rests, anew, is_opening};
 ghost use Rattle.net_host.specs.Segments.{Hears, HearsAt, IsTaker, NoneTakes, Refuses, TakenBy};
 ghost use Rattle.net_host.specs.Segments.{TakesSegment, as_is};
+ghost use Rattle.net_host.specs.Touching.{Touches};
 ghost use Rattle.net_host.specs.Walks.{Finds, Nowhere};
 
 use crate::filing::{connection_key, listener_key};
@@ -298,6 +299,8 @@ pub(crate) fn hear_at<C: Context, G: TsvalSource>(
         sockets.new.slots.items cx.new }
     ensures bare { ForSome result (λ r. r.1.payload.now ≡ []) }
     ensures fits { ForSome (option_map reply_of result) (λ r. FitsPacket r.0 r.1) }
+    ensures touched { Touches sockets.old.bounds sockets.old.slots.items sockets.new.bounds
+        sockets.new.slots.items }
 {
     sockets.lend(i);
     hear_there(&mut sockets.slots, i, cx, listening, ip, repr)
@@ -320,6 +323,8 @@ pub(crate) fn hear_anew_at<C: Context, G: TsvalSource>(
         sockets.new.slots.items cx.new }
     ensures bare { ForSome result (λ r. r.1.payload.now ≡ []) }
     ensures fits { ForSome (option_map reply_of result) (λ r. FitsPacket r.0 r.1) }
+    ensures touched { Touches sockets.old.bounds sockets.old.slots.items sockets.new.bounds
+        sockets.new.slots.items }
 {
     sockets.lend(i);
     hear_anew_there(&mut sockets.slots, i, cx, ip, repr)
@@ -339,6 +344,7 @@ fn refuse(limit: &mut Limit, now: Instant, ip: &IpRepr, repr: &TcpRepr<'_>) -> O
 }
 
 /// The segment goes to its taker, or is refused.
+#[tactic(auto, using(crate::proofs::Touching::touches_none))]
 pub(crate) fn take_segment<C: Context, G: TsvalSource>(
     sockets: &mut SocketSet<'_, G>,
     cx: &mut C,
@@ -353,6 +359,8 @@ pub(crate) fn take_segment<C: Context, G: TsvalSource>(
         (segment_of repr.now) result sockets.new.slots.items cx.new limit.new }
     ensures bare { ForSome result (λ r. r.1.payload.now ≡ []) }
     ensures fits { ForSome (option_map reply_of result) (λ r. FitsPacket r.0 r.1) }
+    ensures touched { Touches sockets.old.bounds sockets.old.slots.items sockets.new.bounds
+        sockets.new.slots.items }
 {
     match taker {
         Taker::Connection(i) => hear_at(sockets, i, cx, false, ip, repr),

@@ -1,7 +1,8 @@
 //! A set of sockets of all kinds.
 ghost use Rattle.std.specs.Prelude.{◌≡◌, ◌<◌, ◌↔◌, IfOk, IfErr, OnErr, IfSome, IfNone, IsTrue, length, nat_eq, false};
-ghost use Rattle.std.specs.Prelude.{option_map, Some, None};
+ghost use Rattle.std.specs.Prelude.{option_map, slice_set, Some, None};
 ghost use Rattle.std.specs.List.{All};
+ghost use Rattle.host_bounds.specs.Bounding.{at_once};
 ghost use Rattle.host_bounds.specs.Marking.{bit_of};
 ghost use Rattle.net_host.specs.Slots.{Empties, Fills, IsFree, handle_at, icmp_at, raw_at, socket_at, tcp_at, udp_at};
 ghost use Rattle.net_host.specs.Walks.{ChangesAt, Finds, FindsAmong, IsAt};
@@ -60,6 +61,7 @@ impl<'a, G: TsvalSource> Filed<Slot<'a, G>> {
             (λ h. ChangesAt (Fills socket.entry h) self.old.slots.items h.index self.new.slots.items) }
         ensures full { OnErr result (Finds IsFree self.old.slots.items None) }
         ensures same { IfErr result (λ s. (s ≡ socket.entry) × (self.new ≡ self.old)) }
+        ensures touched { IfOk result (λ h. self.new.bounds ≡ slice_set self.old.bounds h.index at_once) }
     {
         match self.first_free() {
             None => Err(socket),
@@ -87,6 +89,7 @@ impl<'a, G: TsvalSource> Filed<Slot<'a, G>> {
         ensures emptied { IfSome result
             (λ s. ChangesAt (Empties s) self.old.slots.items handle.index self.new.slots.items) }
         ensures stale { IfNone result (self.new.slots.items ≡ self.old.slots.items) }
+        ensures touched { self.new.bounds ≡ slice_set self.old.bounds handle.index at_once }
     {
         self.lend(handle.index);
         take_at(&mut self.slots, handle)

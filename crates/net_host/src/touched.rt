@@ -5,8 +5,9 @@ ghost use Rattle.host_bounds.specs.Bounding.{FindsReached, at_once};
 use crate::filed::{Filed, Keyed};
 
 impl<T: Keyed> Filed<T> {
-    /// The first place from one on whose socket took a TCP segment or was lent since `emit` last asked it; none behind
-    /// the last of them. So between `receive` and `emit` a program need not look at each of its connections.
+    /// The first place from one on whose socket took a TCP segment, was lent or was put there since `emit` last asked
+    /// it; none behind the last of them. So between `receive` and `emit` a program need not look at each of its
+    /// connections: a packet leaves each TCP socket that is not touched as it was.
     pub fn touched(&self, from: usize) -> Option<usize>
         ensures { FindsReached self.now.bounds from (length self.now.bounds) at_once result }
     {

@@ -202,6 +202,7 @@ fn raw_by<G: TsvalSource>(
 fn first_raw<G: TsvalSource>(sockets: &mut SocketSet<'_, G>, ip: &IpRepr) -> Option<usize>
     ensures slots { sockets.new.slots ≡ sockets.old.slots }
     ensures finds { Finds (TakesRaw ip.now) sockets.old.slots.items result }
+    ensures bounds { sockets.new.bounds ≡ sockets.old.bounds }
 {
     sockets.settle();
     raw_by(&sockets.slots, &sockets.index, sockets.complete, ip)
@@ -249,6 +250,7 @@ pub(crate) fn tell_sender<C: Context, G: TsvalSource>(
     ensures within { result ≤ length out.old }
     ensures told { TellsOf (C.facts cx.now) unmet ip.now bytes.now sockets.old.slots.items limit.old out.old result
         limit.new out.new }
+    ensures bounds { sockets.new.bounds ≡ sockets.old.bounds }
 {
     let mtu = cx.ip_mtu();
     let own = cx.has_ip_addr(ip.dst_addr());

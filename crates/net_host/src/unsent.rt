@@ -1,6 +1,7 @@
 //! A socket dispatches into nothing what its host has sent for it.
 ghost use Rattle.std.specs.Prelude.{◌≡◌, ◌<◌, length};
 ghost use Rattle.sock_tcp.specs.Dispatch.{Dispatches};
+ghost use Rattle.net_host.specs.Touching.{Touches};
 ghost use Rattle.net_host.specs.Unsent.{Passes, PassesAt, Swallows, swallowing};
 
 use crate::set::SocketSet;
@@ -58,6 +59,8 @@ pub(crate) fn pass_at<C: Context, G: TsvalSource>(
     requires { i < length sockets.old.slots.items }
     ensures passed { PassesAt C.facts G.tells sockets.old.slots.items i cx.old result sockets.new.slots.items cx.new }
     ensures len { length sockets.new.slots.items ≡ length sockets.old.slots.items }
+    ensures touched { Touches sockets.old.bounds sockets.old.slots.items sockets.new.bounds
+        sockets.new.slots.items }
 {
     sockets.lend(i);
     pass_there(&mut sockets.slots, i, cx)

@@ -94,9 +94,9 @@ impl Guard {
         self.note(over, phase, since, end);
     }
 
-    /// Whether `watch` changes nothing, at any moment: nothing is waited for, now and when the guard looked last, and the
-    /// socket has the user timeout that is set. Most sockets that are looked at are such, and are spared the rest. Where
-    /// the answer is no, it says nothing.
+    /// Whether `watch` changes nothing, at any moment: nothing is waited for, now and when the guard looked last, and
+    /// the socket has the user timeout that is set. Most sockets that are looked at are such, and are spared the rest.
+    /// Where the answer is no, it says nothing.
     #[tactic(auto, using(crate::proofs::Idle::looks, crate::proofs::Idle::seen))]
     pub(crate) fn is_idle<G>(&self, limits: &Limits, socket: &Socket<'_, G>) -> bool
         ensures looked { result ≡ true → (now : Instant)

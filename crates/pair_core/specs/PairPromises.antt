@@ -84,11 +84,13 @@ pub record Complete {G : Type 0} (e : Event) (p : PairView G) (o : Outcome) (q :
 -- the state table for a segment inside the window in which it is taken
 abbrev pub table_for : View → Instant → ℕ → IpRepr → Segment → Advance
 table_for v now word ip s =
-    advanced (record v { local_rx_last_seq = Some s.seq_number }) (counted_control s.control (accepted_window v.rules v) s.seq_number (length s.payload)) (arrival now (tuple_of ip s) word s) (acked_of v s.control s.ack_number)
+    advanced (record v { local_rx_last_seq = Some s.seq_number })
+    (counted_control s.control (accepted_window v.rules v) s.seq_number (length s.payload))
+    (arrival now (tuple_of ip s) word s) (acked_of v s.control s.ack_number)
 
 -- The segment s is in order for the socket v: the state has a receive window, the acknowledgement passes, the segment
--- lies inside the one in which the socket takes segments by its rules, the state table goes on with it, as it counts, and it starts at RCV.NXT, the next number
--- expected, or before it
+-- lies inside the one in which the socket takes segments by its rules, the state table goes on with it, as it counts,
+-- and it starts at RCV.NXT, the next number expected, or before it
 pub record IsInOrder (v : View) (now : Instant) (word : ℕ) (ip : IpRepr) (s : Segment) : Type 0 where
   pub window : has_window v.state ≡ true
   pub passes : verdict_by v.rules v now s ≡ verdicts.Pass

@@ -1,5 +1,6 @@
 -- A sender that was closed with bytes to send, and how they and its FIN come over.
-use Rattle.std.specs.Prelude.{ℕ, ◌≡◌, ◌⊎◌, ◌<◌, ◌^◌, ◌≤◌, List, [], ◌++◌, length, drop, replicate, Option, None, Err, true}
+use Rattle.std.specs.Prelude.{ℕ, ◌≡◌, ◌⊎◌, ◌<◌, ◌^◌, ◌≤◌, List, [], ◌++◌, length, drop, replicate, Option, None, Err}
+use Rattle.std.specs.Prelude.{true}
 use Rattle.net_base.specs.declared.time.Duration.{Duration}
 use Rattle.net_base.specs.declared.time.Instant.{Instant}
 use Rattle.control_wire.specs.Seq.{seq_add, seq_sub}

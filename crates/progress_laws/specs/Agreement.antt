@@ -1,6 +1,7 @@
 -- Two sockets of one connection that agree on their numbers, whatever waits in their queues, is held out of order, is
 -- in flight or was lost; and how the bytes and the FIN of the one come over.
-use Rattle.std.specs.Prelude.{ℕ, ◌≡◌, ◌⊎◌, ◌+◌, ◌<◌, ◌≤◌, ◌≤ℤ◌, List, ◌++◌, length, drop, slice_get, Option, Some, None, Err, true}
+use Rattle.std.specs.Prelude.{ℕ, ◌≡◌, ◌⊎◌, ◌+◌, ◌<◌, ◌≤◌, ◌≤ℤ◌, List, ◌++◌, length, drop, slice_get, Option, Some}
+use Rattle.std.specs.Prelude.{None, Err, true}
 use Rattle.net_base.specs.declared.time.Duration.{Duration}
 use Rattle.net_base.specs.declared.time.Instant.{Instant}
 use Rattle.control_wire.specs.Segment.{Segment}

@@ -1,5 +1,6 @@
 -- Two sockets in ESTABLISHED that both have bytes to send, and what they can do in turn.
-use Rattle.std.specs.Prelude.{ℕ, ◌≡◌, ◌+◌, ◌*◌, ◌^◌, ◌<◌, ◌≤◌, ◌≤ℤ◌, List, [], ◌++◌, length, drop, replicate, Option, Some, None, Result, Err, true}
+use Rattle.std.specs.Prelude.{ℕ, ◌≡◌, ◌+◌, ◌*◌, ◌^◌, ◌<◌, ◌≤◌, ◌≤ℤ◌, List, [], ◌++◌, length, drop, replicate, Option}
+use Rattle.std.specs.Prelude.{Some, None, Result, Err, true}
 use Rattle.net_base.specs.declared.time.Duration.{Duration}
 use Rattle.net_base.specs.declared.time.Instant.{Instant}
 use Rattle.control_wire.specs.Seq.{seq_add, seq_sub}

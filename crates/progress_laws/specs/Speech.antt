@@ -1,5 +1,6 @@
 -- What a socket says of what is not acknowledged, once its timer is over.
-use Rattle.std.specs.Prelude.{ℕ, zero, suc, ◌≡◌, ◌<◌, ◌⊎◌, List, [], ◌∷◌, length, Option, Some, None, is_some, true, false}
+use Rattle.std.specs.Prelude.{ℕ, zero, suc, ◌≡◌, ◌<◌, ◌⊎◌, List, [], ◌∷◌, length, Option, Some, None, is_some, true}
+use Rattle.std.specs.Prelude.{false}
 use Rattle.net_base.specs.declared.time.Duration.{Duration}
 use Rattle.control_wire.specs.Segment.{segment_len}
 use Rattle.control_wire.specs.Seq.{seq_minus}

@@ -16,8 +16,8 @@ use sock_tcp::TsvalSource;
 
 /// What the scoreboard of a side says that the other side has, the other side has: the byte joined its receive queue,
 /// or is held there behind a gap (RFC 2018, section 8: it is not given up). And each segment that a side emitted told
-/// only of such bytes, whenever it comes. So it is of a new pair of sockets that were never opened, and each event keeps
-/// it, whatever was lost, repeated and reordered, as long as the other side is not CLOSED for good.
+/// only of such bytes, whenever it comes. So it is of a new pair of sockets that were never opened, and each event
+/// keeps it, whatever was lost, repeated and reordered, as long as the other side is not CLOSED for good.
 pub fn scoreboards_are_true<G: TsvalSource>()
     ensures begins { (v w : View) (a b : IpEndpoint) (x y : Option G) (limit : Option ℕ) → IsIdle v → IsIdle w
         → IsTold (new_pair (new_host v a x) (new_host w b y) limit) }

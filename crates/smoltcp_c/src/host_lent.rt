@@ -1,5 +1,5 @@
 //! The sockets of a host, lent: where each lies, and which were touched.
-ghost use Rattle.std.specs.Prelude.{ℕ, ◌≡◌, ◌+◌, None, Some, length, option_map, pos};
+ghost use Rattle.std.specs.Prelude.{ℕ, ◌≡◌, ◌+◌, None, Some, length, option_map, pos, slice_set};
 ghost use Rattle.host_bounds.specs.Bounding.{FindsReached, at_once, bound_at};
 ghost use Rattle.net_host.specs.Slots.{handle_at, icmp_at, raw_at, tcp_at, udp_at};
 ghost use Rattle.smoltcp_c.specs.Host.{IsContext, Tells, found_answer, id_told, interface, named, slots, source_for};
@@ -45,6 +45,7 @@ pub extern "C" fn smoltcp_host_tcp_nonnull(
     ensures missing { tcp_at (slots h.old) (named id.now) ≡ None → out.new ≡ out.old }
     ensures slots { slots h.new ≡ slots h.old }
     ensures marked { bound_at h.new.host.sockets.bounds id.now.index ≡ at_once }
+    ensures bounds { h.new.host.sockets.bounds ≡ slice_set h.old.host.sockets.bounds id.now.index at_once }
     ensures interface { interface h.new ≡ interface h.old }
     ensures at { h.new.at ≡ h.old.at }
 {
@@ -64,6 +65,7 @@ pub extern "C" fn smoltcp_host_udp_nonnull(
     ensures missing { udp_at (slots h.old) (named id.now) ≡ None → out.new ≡ out.old }
     ensures slots { slots h.new ≡ slots h.old }
     ensures marked { bound_at h.new.host.sockets.bounds id.now.index ≡ at_once }
+    ensures bounds { h.new.host.sockets.bounds ≡ slice_set h.old.host.sockets.bounds id.now.index at_once }
     ensures interface { interface h.new ≡ interface h.old }
     ensures at { h.new.at ≡ h.old.at }
 {
@@ -83,6 +85,7 @@ pub extern "C" fn smoltcp_host_icmp_nonnull(
     ensures missing { icmp_at (slots h.old) (named id.now) ≡ None → out.new ≡ out.old }
     ensures slots { slots h.new ≡ slots h.old }
     ensures marked { bound_at h.new.host.sockets.bounds id.now.index ≡ at_once }
+    ensures bounds { h.new.host.sockets.bounds ≡ slice_set h.old.host.sockets.bounds id.now.index at_once }
     ensures interface { interface h.new ≡ interface h.old }
     ensures at { h.new.at ≡ h.old.at }
 {
@@ -102,6 +105,7 @@ pub extern "C" fn smoltcp_host_raw_nonnull(
     ensures missing { raw_at (slots h.old) (named id.now) ≡ None → out.new ≡ out.old }
     ensures slots { slots h.new ≡ slots h.old }
     ensures marked { bound_at h.new.host.sockets.bounds id.now.index ≡ at_once }
+    ensures bounds { h.new.host.sockets.bounds ≡ slice_set h.old.host.sockets.bounds id.now.index at_once }
     ensures interface { interface h.new ≡ interface h.old }
     ensures at { h.new.at ≡ h.old.at }
 {

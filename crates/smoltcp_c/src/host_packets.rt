@@ -6,6 +6,7 @@ ghost use Rattle.net_host.specs.Facts.{facts_by};
 ghost use Rattle.net_host.specs.HostCalls.{EmitsAt, ReceivesAt};
 ghost use Rattle.net_host.specs.Looking.{Unseen};
 ghost use Rattle.net_host.specs.Speaking.{Due, earliest};
+ghost use Rattle.net_host.specs.Touching.{Touches};
 ghost use Rattle.net_host.specs.Walks.{Nowhere};
 ghost use Rattle.smoltcp_c.specs.Answers.{error_room};
 ghost use Rattle.smoltcp_c.specs.Host.{Counts, interface, length_answer, slots};
@@ -40,6 +41,7 @@ pub extern "C" fn smoltcp_host_receive_nonnull(
         (interface h.new) (slots h.new) reply.new) }
     ensures within { max (interface h.old).inner.environment.mtu 100 ≤ length reply.old
         → Counts result (λ n. n ≤ length reply.old) }
+    ensures touched { Touches h.old.host.sockets.bounds (slots h.old) h.new.host.sockets.bounds (slots h.new) }
     ensures at { h.new.at ≡ h.old.at }
 {
     let host = h.host();

@@ -115,9 +115,9 @@ abbrev pub is_awaited : Option StampTiming → ℕ → Bool
 is_awaited None t = false
 is_awaited (Some s) t = t == s.stamp
 
--- something new is acknowledged, with the echo t: of the timestamp that is waited for, it ends with a sample; of a later
--- one, what was sent with it is acknowledged, or was sent again since, and it ends without; of an earlier one, what was
--- sent before it is acknowledged, and it is waited for on
+-- something new is acknowledged, with the echo t: of the timestamp that is waited for, it ends with a sample; of a
+-- later one, what was sent with it is acknowledged, or was sent again since, and it ends without; of an earlier one,
+-- what was sent before it is acknowledged, and it is waited for on
 abbrev pub echoed_at : Option StampTiming → Estimator → Instant → ℕ → Estimator
 echoed_at None e now t = e
 echoed_at (Some s) e now t =

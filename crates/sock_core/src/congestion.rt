@@ -2,7 +2,8 @@
 ghost use Rattle.std.specs.Prelude.{◌≡◌, ℕ, ◌-◌, ◌^◌, ◌<◌, ◌≤◌, Bool, List};
 ghost use Rattle.sock_core.specs.Reno.{RenoNumbers};
 ghost use Rattle.sock_core.specs.Congestion.{fresh_reno, reno_acked};
-ghost use Rattle.sock_core.specs.Congestion.{bytes_acked, congestion_window, acked, dup_acked, lost, opened, restarted, timed_out};
+ghost use Rattle.sock_core.specs.Congestion.{bytes_acked, congestion_window, acked, dup_acked, lost, opened};
+ghost use Rattle.sock_core.specs.Congestion.{restarted, timed_out};
 ghost use Rattle.sock_core.specs.Congestion.{partially_acked, pre_transmitted, post_transmitted, recovery_window};
 ghost use Rattle.sock_core.specs.Estimator.{Estimator};
 ghost use Rattle.net_base.specs.declared.time.Instant.{Instant};

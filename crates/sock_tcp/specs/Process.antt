@@ -74,12 +74,12 @@ Accepts v ip s = AcceptsIn v.state v ip s
 -- ---- process
 -- Each definition stands below those that it names, so the rules are read from the end, in this order: `processed`
 -- asks for the verdict, which is by the socket's rules (`Rfc/Checks.antt`), and which window the segment tells by these
--- (`Rfc/Windows.antt`); `by_verdict` drops, resets, challenges or
--- lets pass; `tested` tests the window in which a segment is taken by these rules, in a state that has one, and `recovered_by` (`Rfc/Recovery.antt`) does
--- by the socket's rules what is done of loss then; `cut_inside` cuts what lies inside, and `refused`
--- (`Rfc/Refused.antt`) does by the socket's rules what is done outside. The rest stands in `Inside.antt`: `outside`
--- answers a segment; `processed_inside` goes through the state table; `after_advance` stops, challenges or hears the
--- acknowledgement; `bytes_taken` takes the bytes and answers a gap.
+-- (`Rfc/Windows.antt`); `by_verdict` drops, resets, challenges or lets pass; `tested` tests the window in which a
+-- segment is taken by these rules, in a state that has one, and `recovered_by` (`Rfc/Recovery.antt`) does by the
+-- socket's rules what is done of loss then; `cut_inside` cuts what lies inside, and `refused` (`Rfc/Refused.antt`) does
+-- by the socket's rules what is done outside. The rest stands in `Inside.antt`: `outside` answers a segment;
+-- `processed_inside` goes through the state table; `after_advance` stops, challenges or hears the acknowledgement;
+-- `bytes_taken` takes the bytes and answers a gap.
 
 -- a segment inside the window is cut to it, and its number is remembered
 abbrev pub cut_inside : Window → Cut → View → Arrival → Outcome

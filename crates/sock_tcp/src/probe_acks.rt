@@ -1,7 +1,8 @@
 //! What the acknowledgement of a tail-loss probe says of a loss (RFC 8985, section 7.4.2).
 ghost use Rattle.std.specs.Prelude.{◌≡◌, ◌≤◌, not, length};
 ghost use Rattle.control_wire.specs.Segment.{segment_of};
-ghost use Rattle.sock_tcp.specs.Rfc.Recovery.{came_twice, is_bare_repeat, is_duplicate_of, is_repaired_in, told_repaired};
+ghost use Rattle.sock_tcp.specs.Rfc.Recovery.{came_twice, is_bare_repeat, is_duplicate_of, is_repaired_in};
+ghost use Rattle.sock_tcp.specs.Rfc.Recovery.{told_repaired};
 ghost use Rattle.sock_tcp.specs.Rfc.Recovery.{unless_twice};
 ghost use Rattle.sock_tcp.specs.Steps.{is_window_changed};
 

@@ -3,7 +3,8 @@ ghost use Rattle.std.specs.Prelude.{◌≡◌, ◌≤◌, ◌<◌, ◌^◌, ◌&
 ghost use Rattle.control_wire.specs.Segment.{segment_of};
 ghost use Rattle.sock_tcp.specs.Content.{again_from, next_hole};
 ghost use Rattle.sock_tcp.specs.Rfc.Recovery.{is_partial, is_sent_again, is_telling, lets_out, sacked_after, sacked_by};
-ghost use Rattle.sock_tcp.specs.Rfc.Recovery.{again, again_by, has_hole, is_lost_again, is_lost_in, only_tells, sent_of};
+ghost use Rattle.sock_tcp.specs.Rfc.Recovery.{again, again_by, has_hole, is_lost_again, is_lost_in, only_tells};
+ghost use Rattle.sock_tcp.specs.Rfc.Recovery.{sent_of};
 ghost use Rattle.sock_tcp.specs.Rfc.Recovery.{shows_hole};
 ghost use Rattle.sock_tcp.specs.Sent.{resent_by};
 

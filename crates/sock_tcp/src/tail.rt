@@ -3,7 +3,8 @@ ghost use Rattle.std.specs.Prelude.{◌≡◌, ◌≤◌};
 ghost use Rattle.sock_core.specs.Bounds.{IsMoment};
 ghost use Rattle.sock_tcp.specs.Rfc.Recovery.{is_probe_told, is_told_to_end, waits_tail};
 ghost use Rattle.sock_tcp.specs.Rfc.TailLoss.{is_alone, is_calm, last_len, margin_of, may_probe, may_probe_by};
-ghost use Rattle.sock_tcp.specs.Rfc.TailLoss.{probe_of, sooner, tail_armed, tail_from, tail_probed, tail_set, tail_wait};
+ghost use Rattle.sock_tcp.specs.Rfc.TailLoss.{probe_of, sooner, tail_armed, tail_from, tail_probed, tail_set};
+ghost use Rattle.sock_tcp.specs.Rfc.TailLoss.{tail_wait};
 ghost use Rattle.sock_tcp.specs.Rfc.TailLoss.{tail_waits};
 ghost use Rattle.sock_tcp.specs.Timers.{IsTimer};
 

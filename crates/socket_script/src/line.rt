@@ -1,7 +1,7 @@
 //! The line of an event, as it is written.
 //!
-//! A form is a text with a `%` for each part that stands in it. Where memory runs out the line is cut: nothing is written
-//! behind that, and `is_cut` says so, so what writes need not look at each answer.
+//! A form is a text with a `%` for each part that stands in it. Where memory runs out the line is cut: nothing is
+//! written behind that, and `is_cut` says so, so what writes need not look at each answer.
 
 use crate::shown::Address;
 use ip_wire::{IpAddress, IpEndpoint, IpListenEndpoint};

@@ -9,8 +9,9 @@ use Rattle.sock_tcp.specs.declared.state.State.{State}
 use Rattle.sock_tcp.specs.declared.state.State.TheVariants as state
 use Rattle.sock_tcp.specs.declared.tuple.Tuple.{Tuple}
 
--- The segment lies inside the window in which these rules take it, and the bytes of it that lie there come at their offset from RCV.NXT: the
--- receive queue is appended to, and no byte of it changes; what was held stays so until it joins or is replaced
+-- The segment lies inside the window in which these rules take it, and the bytes of it that lie there come at their
+-- offset from RCV.NXT: the receive queue is appended to, and no byte of it changes; what was held stays so until it
+-- joins or is replaced
 pub record TakesSegment (r : Rules) (v : View) (s : Segment) (w : View) : Type 0 where
   pub inside : is_inside (accepted_window r v) s.seq_number (length s.payload) ≡ true
   pub takes : TakesIn v.rx_buffer w.rx_buffer (cut_of (accepted_window r v) s.seq_number (length s.payload)).offset

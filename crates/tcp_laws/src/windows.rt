@@ -11,9 +11,9 @@ pub fn right_edge_stays()
 {}
 
 /// Whatever window was told once is honored (RFC 7323, section 2.4): after any such list, and any further calls on the
-/// same connection, the right edge that was told before them, if by a keep-alive, does not lie behind that of the window
-/// in which a segment is taken, and each number from RCV.NXT on, and before that edge, lies inside: also where the right
-/// edge that is told has gone back since.
+/// same connection, the right edge that was told before them, if by a keep-alive, does not lie behind that of the
+/// window in which a segment is taken, and each number from RCV.NXT on, and before that edge, lies inside: also where
+/// the right edge that is told has gone back since.
 pub fn told_windows_are_honored()
     ensures { ToldWindowsAreHonored }
 {}

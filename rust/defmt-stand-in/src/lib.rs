@@ -1,5 +1,5 @@
-//! Not defmt, but what `src/logged.rs` of the crate asks of it, with the same names and types: `live/rust` compiles that
-//! file over it, as no registry is asked. It writes text, where defmt writes numbers that a host makes text of.
+//! Not defmt, but what `src/logged.rs` of the crate asks of it, with the same names and types: `live/rust` compiles
+//! that file over it, as no registry is asked. It writes text, where defmt writes numbers that a host makes text of.
 use std::cell::RefCell;
 use std::fmt;
 

@@ -194,8 +194,8 @@ impl<'f, T> Run<'f, T> {
     }
 }
 
-/// A task that writes more than the buffers hold, and one that reads to the end: each is polled only where it was woken,
-/// so that a waker that is not woken leaves the transfer unfinished.
+/// A task that writes more than the buffers hold, and one that reads to the end: each is polled only where it was
+/// woken, so that a waker that is not woken leaves the transfer unfinished.
 #[test]
 fn tasks_wait_for_each_other() {
     let (mut memory, mut bytes) = ([Memory::new(), Memory::new()], [[0; 64]; 4]);

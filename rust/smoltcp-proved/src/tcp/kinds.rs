@@ -132,9 +132,9 @@ pub enum Rules {
     /// smoltcp's: a new socket has these.
     Smoltcp = 0,
     /// The RFCs' where they differ (docs/RULES.md of the repository): the FIN of a peer is taken that sends old bytes
-    /// with it, and a peer is heard that counts the byte of its probe (RFC 9293, sections 3.4 and 3.10.7.4); losses of one
-    /// window cost a round trip and not a second (RFC 6582, RFC 6675); RSTs and SYNs that a stranger may have sent are
-    /// challenged (RFC 5961), and old timestamps are not taken (RFC 7323).
+    /// with it, and a peer is heard that counts the byte of its probe (RFC 9293, sections 3.4 and 3.10.7.4); losses of
+    /// one window cost a round trip and not a second (RFC 6582, RFC 6675); RSTs and SYNs that a stranger may have sent
+    /// are challenged (RFC 5961), and old timestamps are not taken (RFC 7323).
     Rfc = 1,
 }
 

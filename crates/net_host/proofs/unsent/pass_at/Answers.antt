@@ -1,8 +1,9 @@
-use Rattle.std.proofs.Common.{◌∙◌, sym}
+use Rattle.std.proofs.Common.{◌∙◌, ap, sym}
 use Rattle.net_host.specs.Filing.{keys_of}
 use Rattle.net_host.specs.Looking.{sleeps}
 use Rattle.net_host.proofs.Places.{lent_changed}
 use Rattle.net_host.proofs.Sleepers.{changed_len, marked_changes}
+use Rattle.net_host.proofs.Touching.{touches_lent}
 use Rattle.net_host.proofs.unsent.pass_at.Goals as goal
 
 pub invariant_of-sockets : goal.invariant_of-sockets
@@ -11,3 +12,6 @@ invariant_of-sockets g c = record {
   asleep = marked_changes (λ u b s. sleeps u b s) _ c.lend.new.self.terms c.lend.new.self.bounds c.lend.new.self.slots.items c.pass_there.new.slots.items c.args.i c.lend.ensures.marked c.pass_there.ensures c.lend.new.self.asleep;
   as_many = c.lend.new.self.as_many ∙ sym (changed_len _ c.lend.new.self.slots.items c.pass_there.new.slots.items c.args.i c.pass_there.ensures);
 }
+
+pub returns-clause-touched : goal.returns-clause-touched
+returns-clause-touched g c = touches_lent _ c.args.sockets.now.bounds c.args.sockets.now.slots.items c.lend.new.self.bounds c.lend.new.self.slots.items c.pass_there.new.slots.items c.args.i c.lend.ensures.bounds (ap (λ v. v.items) c.lend.ensures.slots) c.pass_there.ensures
