@@ -6,9 +6,6 @@ use std::mem::size_of;
 const HOST_SIZE: usize = 1184;
 
 #[test]
-fn a_host_takes_what_c_asks_for() {
-    assert_eq!(
-        size_of::<(Interface<Secret>, SocketSet<'static>)>(),
-        HOST_SIZE
-    );
+fn a_host_takes_what_c_asks_for(rt: HostRuntime) {
+    assert!(rt; size_of::<(Interface<Secret>, SocketSet<'static>)>() == HOST_SIZE);
 }
