@@ -1,5 +1,5 @@
 -- Marks of places, as bits in words of 64.
-use Rattle.std.specs.Prelude.{ℕ, ℤ, ◌≡◌, ◌/◌, ◌%◌, ◌<◌, ◌≤ℤ◌, nat_eq, suc, false, List, [], ◌∷◌, length, get_or}
+use Rattle.std.specs.Prelude.{ℕ, ℤ, ◌≡◌, ◌/◌, ◌%◌, ◌<◌, ◌≤ℤ◌, nat_eq, suc, Bool, true, false, List, [], ◌∷◌, length, get_or}
 use Rattle.std.specs.Prelude.{if◌then◌else◌}
 use Rattle.std.specs.Int.{bit_at}
 use Rattle.std.specs.List.{All}
@@ -35,6 +35,11 @@ pub record AreNoted (marks words : List ℕ) : Type 0 where
   pub reach : (k : ℕ) → k < length marks → k / 64 < length words
   pub busy : IsBusy marks words
 
+-- of so many places none is marked before the first, and where it is alone none behind it
+pub record IsFirstMark (marks : List ℕ) (count first : ℕ) (alone : Bool) : Type 0 where
+  pub before : (k : ℕ) → k < first → k < count → bit_of marks k ≡ 0
+  pub behind : alone ≡ true → (k : ℕ) → first < k → k < count → bit_of marks k ≡ 0
+
 -- ---- bounds: a place that is marked is to be asked at once, another one at its time
 
 unfoldable pub merged : ℕ → List ℕ → List ℤ → List ℤ
@@ -44,3 +49,7 @@ merged i ws (t ∷ ts) = (if nat_eq (bit_of ws i) 1 then at_once else t) ∷ mer
 pub record AreBounds (marks : List ℕ) (times : List ℤ) : Type 0 where
   pub reach : (k : ℕ) → k < length times → k / 64 < length marks
   pub floor : (k : ℕ) → at_once ≤ℤ bound_at times k
+
+pub record AreKept (marks : List ℕ) (times : List ℤ) (first : ℕ) (alone : Bool) : Type 0 where
+  pub bounds : AreBounds marks times
+  pub first_mark : IsFirstMark marks (length times) first alone

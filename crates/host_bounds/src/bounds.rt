@@ -3,6 +3,7 @@ ghost use Rattle.std.specs.Prelude.{ℕ, ◌≡◌, ◌≤◌, ◌<◌, ◌<ℤ�
 ghost use Rattle.std.specs.List.{All};
 ghost use Rattle.host_bounds.specs.Bounding.{FindsReached, IsBelowAll, IsGreatest, at_once, bound_at};
 
+use crate::first_mark::FirstMark;
 use crate::marks::Marks;
 use crate::times::Times;
 use std::alloc::{AllocError, Global};
@@ -16,17 +17,18 @@ pub struct Bounds {
     marks: Marks,
     // of each place what its bound was last, when it was not the least
     times: Times,
+    first: FirstMark,
 }
 
 impl Model for Bounds {
     ghost use Rattle.std.specs.Prelude.{ℤ, List};
-    ghost use Rattle.host_bounds.specs.Marking.{AreBounds, merged};
+    ghost use Rattle.host_bounds.specs.Marking.{AreKept, merged};
 
     ghost Value = { List ℤ };
 
     ghost view = { λ b. merged 0 b.marks b.times };
 
-    ghost invariant = { λ b. AreBounds b.marks b.times };
+    ghost invariant = { λ b. AreKept b.marks b.times b.first.place b.first.alone };
 }
 
 impl Bounds {
@@ -38,6 +40,7 @@ impl Bounds {
         Ok(Bounds {
             marks: Marks::new(alloc, count)?,
             times: Times::new(alloc, count)?,
+            first: FirstMark::of_any(),
         })
     }
 
@@ -49,6 +52,7 @@ impl Bounds {
     }
 
     /// Sets the bound of a place; of none where it is not there.
+    #[inline(always)]
     pub fn set(&mut self, place: usize, bound: i64)
         ensures { self.new ≡ slice_set self.old place bound }
     {
@@ -76,6 +80,7 @@ impl Bounds {
         ensures { self.new ≡ slice_set self.old place at_once }
     {
         self.marks.put_on(place);
+        self.first.put_on(place, self.times.len());
     }
 
     fn time(&mut self, place: usize, bound: i64)
@@ -84,6 +89,7 @@ impl Bounds {
         ensures { self.new ≡ slice_set self.old place bound }
     {
         self.marks.take_off(place);
+        self.first.take_off(&self.marks, place, self.times.len());
         self.times.set(place, bound);
     }
 
@@ -93,6 +99,7 @@ impl Bounds {
         ensures least { All (λ m. m ≡ at_once) self.new }
     {
         self.marks.reset();
+        self.first = FirstMark::of_any();
     }
 
     /// The bound of a place; the least where it is not there.
@@ -118,7 +125,7 @@ impl Bounds {
         ensures within { result ≤ end }
         ensures before { (k : ℕ) → start ≤ k → k < result → now <ℤ bound_at self.now k }
     {
-        let near = self.marks.next(start).min(end);
+        let near = self.first.next(&self.marks, start).min(end);
         match self.times.next(start, near, now) {
             Some(place) => place,
             None => near,
@@ -134,7 +141,7 @@ impl Bounds {
             return None;
         }
         if now < self.times.least() {
-            let near = self.marks.next(start);
+            let near = self.first.next(&self.marks, start);
             if end <= near {
                 return None;
             }
@@ -176,7 +183,7 @@ impl Bounds {
         ensures below { IsBelowAll result self.now }
         ensures greatest { at_once <ℤ result → IsGreatest result self.now }
     {
-        if self.marks.next(0) < self.len() {
+        if self.first.place < self.len() {
             return i64::MIN;
         }
         self.times.least()

@@ -2,6 +2,7 @@
 #![tactic(auto)]
 
 pub mod bounds;
+pub mod first_mark;
 pub mod levels;
 pub mod marks;
 pub mod times;

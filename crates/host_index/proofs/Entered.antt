@@ -1,11 +1,11 @@
 -- Entries in order, with one more or one fewer.
 use Rattle.std.proofs.Common.{◌≡◌, ◌∙◌, ℕ, ◌+◌, ◌-◌, ◌<◌, ◌≤◌, List, [], ◌∷◌, length, get_or, Bool, true, false, nat_lt, nat_eq, suc, zero, refl, sym, subst, ap, arith}
-use Rattle.std.specs.Prelude.{◌||◌, if◌then◌else◌}
+use Rattle.std.specs.Prelude.{◌&&◌, ◌||◌, if◌then◌else◌}
 use Rattle.std.specs.List.{insert, remove}
 use Rattle.std.proofs.lemmas.List.{get_or_default}
 use Rattle.std.proofs.lemmas.List.Edits.{get_or-insert_above, get_or-insert_at, get_or-insert_below, get_or-remove_above, get_or-remove_below, length-insert, length-remove}
 use Rattle.host_index.specs.declared.entry.Entry.{Entry}
-use Rattle.host_index.specs.Entries.{Keeps, KeepsBut, Splits, has, is_entry, nothing, rank}
+use Rattle.host_index.specs.Entries.{IsSortedByRank, Keeps, KeepsBut, Splits, entry_at, has, is_entry, nothing, rank}
 
 pub same_entry : (a b : Entry) → is_entry a b ≡ true → a ≡ b
 same_entry a b h = grind (arith, h)
@@ -100,3 +100,30 @@ module _ (es fs : List Entry) (e : Entry) (p : ℕ) (s : Splits es (rank e) p) w
   pub put_keeps : (b : Bool) → fs ≡ (if b then insert es p e else es) → Keeps es fs
   put_keeps true is = subst (Keeps es) (sym is) (insert_keeps es e p s)
   put_keeps false is = subst (Keeps es) (sym is) (λ x h. h)
+
+-- ---- a key in front of all
+
+-- the first is less than none, and so none has a key in front of it
+pub none_under : (es : List Entry) (key first : Entry) → IsSortedByRank es → (0 < length es → get_or es 0 nothing ≡ first) → (nat_lt key.major first.major || (nat_eq key.major first.major && nat_lt key.minor first.minor)) ≡ true → key.minor < 18446744073709551616 → (k : ℕ) → k < 18446744073709551616 → has es (entry_at key k) ≡ false
+none_under es key first sorted is less small k few = go (has es (entry_at key k)) refl
+  where
+    in_front : rank (entry_at key k) < rank first
+    in_front = grind (arith, less, small, few)
+
+    never : IsIn es (entry_at key k) → ⊥
+    never i = at i.place i.within i.is
+      where
+        at : (j : ℕ) → j < length es → get_or es j nothing ≡ entry_at key k → ⊥
+        at zero within here =
+            let same : first ≡ entry_at key k = sym (is within) ∙ here in
+            let rest : rank first ≡ rank (entry_at key k) = ap rank same in
+            absurd (omega (arith, in_front, rest))
+        at (suc j) within here =
+            let order : rank (get_or es 0 nothing) ≤ rank (get_or es (suc j) nothing) = sorted 0 (suc j) (omega arith) within in
+            let rest : rank (get_or es (suc j) nothing) ≡ rank (entry_at key k) = ap rank here in
+            let from : rank (get_or es 0 nothing) ≡ rank first = ap rank (is (omega (arith, within))) in
+            absurd (omega (arith, in_front, order, rest, from))
+
+    go : (b : Bool) → has es (entry_at key k) ≡ b → b ≡ false
+    go false e = refl
+    go true e = absurd (never (find_in es (entry_at key k) e))

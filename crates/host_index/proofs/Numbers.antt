@@ -1,6 +1,6 @@
 -- The entries of numbers in order.
 use Rattle.std.proofs.Common.{◌≡◌, ◌∙◌, ℕ, ◌+◌, ◌-◌, ◌<◌, ◌≤◌, List, [], ◌∷◌, ◌++◌, take, drop, length, get_or, Bool, true, false, nat_lt, nat_eq, suc, zero, refl, sym, subst, ap, arith}
-use Rattle.std.specs.Prelude.{if◌then◌else◌}
+use Rattle.std.specs.Prelude.{Some, None, if◌then◌else◌, slice_get}
 use Rattle.std.specs.List.{insert, remove}
 use mathlib.Core.List.{map}
 use Rattle.std.proofs.lemmas.List.{get_or-map, length-map, map-append, take-map, drop-map}
@@ -8,7 +8,7 @@ use Rattle.host_index.specs.declared.columns.Columns.{Columns}
 use Rattle.host_index.specs.declared.entry.Entry.{Entry}
 use Rattle.std.proofs.lemmas.List.Edits.{get_or-insert_above, get_or-insert_at, get_or-insert_below, get_or-remove_above, get_or-remove_below, length-insert, length-remove}
 use Rattle.host_index.specs.Columns.{Frees, Puts, entry_in, is_free}
-use Rattle.host_index.specs.Entries.{IsSortedByRank, Splits, nothing, rank, rank_at}
+use Rattle.host_index.specs.Entries.{IsSortedByRank, Splits, has, nothing, rank, rank_at}
 use Rattle.host_index.specs.Indexing.{IsIndex, IsOrdered, entries_in, number_at}
 
 pub entry_of : (c : Columns) (os : List ℕ) (k : ℕ) → k < length os → get_or (entries_in c os) k nothing ≡ entry_in c (number_at os k)
@@ -48,6 +48,27 @@ first_splits c os n ordered first = splits c os n 0 (omega arith) (λ k h. absur
         let p : n ≤ rank (entry_in c (number_at os 0)) = first (omega (arith, within)) in
         let q : rank (entry_in c (number_at os 0)) < rank (entry_in c (number_at os (suc k))) = ordered 0 (suc k) (omega arith) within in
         omega (arith, p, q)
+
+-- the first of the entries, or none
+pub first_is : (c : Columns) (os : List ℕ) (n : ℕ) (e : Entry) → slice_get os 0 ≡ Some n → e ≡ entry_in c n → get_or (entries_in c os) 0 nothing ≡ e
+first_is c [] n e at is = cc
+first_is c (o ∷ os) n e at is = ap (entry_in c) (out at) ∙ sym is
+  where
+    out : Some o ≡ Some n → o ≡ n
+    out h = cc
+
+pub none_in : (c : Columns) (os : List ℕ) (x : Entry) → slice_get os 0 ≡ None → has (entries_in c os) x ≡ false
+unfolding has
+none_in c [] x at = refl
+none_in c (o ∷ os) x at = cc
+
+-- none stands before the least key
+pub least_splits : (es : List Entry) → Splits es (rank nothing) 0
+least_splits es = record {
+  within = omega arith;
+  below = λ k h. absurd (omega (arith, h));
+  above = λ k h inside. omega arith;
+}
 
 -- ---- a binary search
 

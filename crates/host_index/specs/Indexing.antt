@@ -2,7 +2,7 @@
 use Rattle.std.specs.Prelude.{ℕ, ◌≡◌, ◌<◌, false, List, length, get_or}
 use mathlib.Core.List.{map}
 use Rattle.host_index.specs.Columns.{AreAsMany, entry_in, is_free}
-use Rattle.host_index.specs.Entries.{rank}
+use Rattle.host_index.specs.Entries.{Splits, rank}
 use Rattle.host_index.specs.declared.columns.Columns.{Columns}
 use Rattle.host_index.specs.declared.entry.Entry.{Entry}
 
@@ -22,3 +22,8 @@ pub record IsIndex (c : Columns) (os : List ℕ) : Type 0 where
   pub as_many : AreAsMany c
   pub ordered : IsOrdered c os
   pub taken : (k : ℕ) → k < length os → is_free c (number_at os k) ≡ false
+
+-- the same, with the place where the entries of a key begin
+pub record Knows (c : Columns) (os : List ℕ) (key : Entry) (p : ℕ) : Type 0 where
+  pub index : IsIndex c os
+  pub begins : Splits (entries_in c os) (rank key) p

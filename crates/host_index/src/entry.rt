@@ -1,5 +1,5 @@
 //! Places under keys.
-ghost use Rattle.std.specs.Prelude.{◌≡◌, nat_eq, nat_lt};
+ghost use Rattle.std.specs.Prelude.{◌≡◌, ◌&&◌, ◌||◌, nat_eq, nat_lt};
 ghost use Rattle.host_index.specs.Entries.{is_entry, rank};
 
 /// A place under a key.
@@ -31,4 +31,11 @@ pub(crate) fn is_entry(a: Entry, b: Entry) -> bool
     ensures { result ≡ is_entry a b }
 {
     a.major == b.major && a.minor == b.minor && a.place == b.place
+}
+
+// Whether the key of one stands before that of the other.
+pub(crate) fn is_key_less(a: Entry, b: Entry) -> bool
+    ensures { result ≡ (nat_lt a.major b.major || (nat_eq a.major b.major && nat_lt a.minor b.minor)) }
+{
+    a.major < b.major || a.major == b.major && a.minor < b.minor
 }

@@ -1,11 +1,11 @@
 //! An index: places under keys, in order.
-ghost use Rattle.std.specs.Prelude.{◌≡◌, ◌≤◌, ◌<◌, IfOk, length, get_or, true, false, []};
+ghost use Rattle.std.specs.Prelude.{ℕ, ◌≡◌, ◌<◌, ◌^◌, IfOk, length, get_or, true, false, []};
 ghost use Rattle.host_index.specs.Columns.{AreAsMany, entry_in};
-ghost use Rattle.host_index.specs.Entries.{IsSortedByRank, Keeps, KeepsBut, Splits, has, nothing, rank};
+ghost use Rattle.host_index.specs.Entries.{IsSortedByRank, Keeps, KeepsBut, Splits, entry_at, has, nothing, rank};
 ghost use Rattle.host_index.specs.Indexing.{IsOrdered, entries_in, number_at};
 
 use crate::columns::{Columns, number_of};
-use crate::entry::{Entry, Which, is_entry, is_less};
+use crate::entry::{Entry, Which, is_entry, is_key_less, is_less};
 use std::alloc::{AllocError, Global};
 use std::marker::Model;
 
@@ -17,18 +17,32 @@ pub struct Index {
     columns: Columns,
     // the numbers of the keys
     order: Vec<u32>,
+    // the key that was sought last, and where its entries begin
+    sought: Entry,
+    begins: usize,
 }
 
 impl Model for Index {
     ghost use Rattle.std.specs.Prelude.{List};
-    ghost use Rattle.host_index.specs.Indexing.{IsIndex, entries_in};
+    ghost use Rattle.host_index.specs.Indexing.{Knows, entries_in};
     ghost use Rattle.host_index.specs.declared.entry.Entry.{Entry};
 
     ghost Value = { List Entry };
 
     ghost view = { λ i. entries_in i.columns i.order.items };
 
-    ghost invariant = { λ i. IsIndex i.columns i.order.items };
+    ghost invariant = { λ i. Knows i.columns i.order.items i.sought i.begins };
+}
+
+// A key that no entry stands before.
+fn least_key() -> Entry
+    ensures { result ≡ nothing }
+{
+    Entry {
+        major: 0,
+        minor: 0,
+        place: 0,
+    }
 }
 
 // The entry at this place of the order.
@@ -89,7 +103,12 @@ impl Index {
     {
         let columns = Columns::new(alloc, count)?;
         let order = Vec::with_capacity(alloc, columns.len().saturating_mul(2))?;
-        Ok(Index { columns, order })
+        Ok(Index {
+            columns,
+            order,
+            sought: least_key(),
+            begins: 0,
+        })
     }
 
     /// How many entries it has.
@@ -107,12 +126,36 @@ impl Index {
         entry_at(&self.columns, &self.order, place)
     }
 
-    /// Where the entries under this key begin.
+    /// Where the entries under this key begin. It is not searched for where it was sought last.
     pub fn lower(&self, key: Entry) -> usize
         ensures splits { Splits self.now (rank key) result }
         ensures sorted { IsSortedByRank self.now }
     {
+        if is_entry(key, self.sought) {
+            return self.begins;
+        }
         begin(&self.columns, &self.order, key)
+    }
+
+    /// Seeks a key: `lower` does not search for it until an entry is added or removed, or another key is sought.
+    pub fn seek(&mut self, key: Entry)
+        ensures { self.new ≡ self.old }
+    {
+        if !is_entry(key, self.sought) {
+            self.begins = lower(&self.columns, &self.order, key);
+            self.sought = key;
+        }
+    }
+
+    /// Whether each entry stands behind all that there could be under this key, by one look. Where the answer is no, it
+    /// says nothing.
+    pub fn is_behind(&self, key: Entry) -> bool
+        ensures { result ≡ true → (k : ℕ) → k < 2 ^ 64 → has self.now (entry_at key k) ≡ false }
+    {
+        match self.order.first() {
+            Some(number) => is_key_less(key, self.columns.get(*number as usize)),
+            None => true,
+        }
     }
 
     /// Adds an entry of a place that has no such key yet, where the key is one that fits. Whether it did.
@@ -128,6 +171,8 @@ impl Index {
             return false;
         }
         let number = number_of(which, entry.place) as u32;
+        self.sought = least_key();
+        self.begins = 0;
         self.order.insert(place, number).is_ok()
     }
 
@@ -153,6 +198,8 @@ impl Index {
         ensures { KeepsBut (get_or self.old place nothing) self.old self.new }
     {
         let number = self.order.remove(place);
+        self.sought = least_key();
+        self.begins = 0;
         self.columns.free(number as usize);
     }
 }

@@ -1,6 +1,7 @@
 -- What leaves the keys of a place as they are.
-use Rattle.std.proofs.Common.{◌≡◌, ◌∙◌, ℕ, List, Bool, true, false, Option, Some, None, refl, sym, subst, ap}
-use Rattle.std.specs.Prelude.{IfSome, slice_get}
+use Rattle.std.proofs.Common.{◌≡◌, ◌∙◌, ◌<◌, ℕ, List, Bool, true, false, length, nat_eq, Option, Some, None, refl, sym, subst, ap, arith}
+use Rattle.std.specs.Prelude.{IfSome, slice_get, if◌then◌else◌}
+use Rattle.std.proofs.lemmas.Option.{slice_get_within}
 use Rattle.std.proofs.lemmas.Bool.{and_parts}
 use Rattle.ip_wire.specs.declared.repr.IpRepr.{IpRepr}
 use Rattle.control_wire.specs.declared.udp.UdpRepr.{UdpRepr}
@@ -20,14 +21,14 @@ use Rattle.net_host.specs.declared.slot.Slot.{Slot}
 use Rattle.net_host.specs.Datagrams as datagrams
 use Rattle.host_index.specs.Entries.{entry_at, has}
 use Rattle.net_host.specs.Filing.{icmp_key, keys_by, keys_in, keys_of, one_key, raw_key, udp_key}
-use Rattle.net_host.specs.Indexing.{IsIndexed, is_filed, is_under}
+use Rattle.net_host.specs.Indexing.{IsIndexed, are_filed, is_filed, is_kept, is_kept_of, is_noted, is_under}
 use Rattle.net_host.specs.Guards.{ended_if, lawful_limit, phase_of, with_timeout}
 use Rattle.net_host.specs.Messages as messages
 use Rattle.net_host.specs.Messages.{AnyMail}
 use Rattle.net_host.specs.RawCopies as raw_copies
 use Rattle.net_host.specs.Turns.{Watches, WatchesIn, ends, ends_in}
 use Rattle.net_host.specs.Unreachable.{RawTakes, TakesRaw}
-use Rattle.net_host.specs.Walks.{ChangesAt, ChangesEach}
+use Rattle.net_host.specs.Walks.{Both, ChangesAt, ChangesEach}
 use Rattle.net_host.specs.Watching.{is_over_for}
 use Rattle.net_host.proofs.Places.{each_keeps, keeps_keys}
 
@@ -104,6 +105,54 @@ datagram_keeps ip u payload None t h = absurd h
 pub heard_keeps : {G : Type 0} (found : Option ℕ) (ip : IpRepr) (u : UdpRepr) (payload : List ℕ) (complete : Bool) (lent : Option Lent) (ss ts : List (Slot G)) (es : List Entry) (ws : List ℕ) → datagrams.HeardBy found ss ip u payload ts → IsIndexed (λ s. keys_of s) complete lent ss es ws → IsIndexed (λ s. keys_of s) complete lent ts es ws
 heard_keeps None ip u payload complete lent ss ts es ws c h = subst (λ us. IsIndexed (λ s. keys_of s) complete lent us es ws) (sym c) h
 heard_keeps (Some i) ip u payload complete lent ss ts es ws c h = keeps_keys (λ s. keys_of s) (λ b a. datagrams.Hears ip u payload b a) complete lent ss ts es ws i (λ b a w. datagram_keeps ip u payload b.socket a.socket w.heard) c h
+
+-- ---- where the first key is no raw socket's, only the place that was lent may have one
+
+module _ {G : Type 0} (ss : List (Slot G)) (es : List Entry) (ws : List ℕ) (none : (k : ℕ) → k < length ss → has es (entry_at raw_key k) ≡ false) where
+  no_truth : false ≡ true → ⊥
+  no_truth e = cc
+
+  not_listed : (k : ℕ) (o : Option (Socket G)) → has es (entry_at raw_key k) ≡ false → is_under es k (keys_in o).first ≡ true → raw_copies.is_raw_in o ≡ false
+  not_listed k (Some (socket.Raw x)) nay h = absurd (no_truth (sym nay ∙ h))
+  not_listed k (Some (socket.Tcp x)) nay h = refl
+  not_listed k (Some (socket.Udp x)) nay h = refl
+  not_listed k (Some (socket.Icmp x)) nay h = refl
+  not_listed k None nay h = refl
+
+  kept_is_none : (k : ℕ) (o : Option (Slot G)) → slice_get ss k ≡ o → is_kept_of (λ s. keys_of s) true es ws k o ≡ true → IfSome o (λ s. raw_copies.is_raw s ≡ false)
+  kept_is_none k None at h = tt
+  kept_is_none k (Some s) at h =
+      let filed : are_filed es k (keys_of s) ≡ true = (and_parts (are_filed es k (keys_of s)) (is_noted ws k (keys_of s).free) h).0 in
+      not_listed k s.socket (none k (slice_get_within ss k s at)) (and_parts (is_under es k (keys_of s).first) (is_under es k (keys_of s).second) filed).0
+
+  pub no_raw : (complete : Bool) (lent : Option Lent) → complete ≡ true → IsIndexed (λ s. keys_of s) complete lent ss es ws → IfSome lent (λ l. IfSome (slice_get ss l.place) (λ s. raw_copies.is_raw s ≡ false)) → (k : ℕ) → IfSome (slice_get ss k) (λ s. raw_copies.is_raw s ≡ false)
+  no_raw false lent whole h l k = absurd (no_truth whole)
+  no_raw true None whole h l k = kept_is_none k (slice_get ss k) refl (h k)
+  no_raw true (Some l) whole h not k = by (nat_eq k l.place) refl (h k)
+    where
+      by : (b : Bool) → nat_eq k l.place ≡ b → (if b then is_kept true es ws k l.keys else is_kept_of (λ s. keys_of s) true es ws k (slice_get ss k)) ≡ true → IfSome (slice_get ss k) (λ s. raw_copies.is_raw s ≡ false)
+      by true e f =
+          let same : l.place ≡ k = grind (arith, e) in
+          subst (λ j. IfSome (slice_get ss j) (λ s. raw_copies.is_raw s ≡ false)) same not
+      by false e f = kept_is_none k (slice_get ss k) refl f
+
+-- and where none is one, none takes a copy
+pub none_copied : {G : Type 0} (f : Facts) (ip : IpRepr) (payload : List ℕ) (ss : List (Slot G)) → ((k : ℕ) → IfSome (slice_get ss k) (λ s. raw_copies.is_raw s ≡ false)) → ChangesEach (λ b a. raw_copies.CopiesPacket f ip payload b a) ss ss
+none_copied {G = G} f ip payload ss none = λ k. by (slice_get ss k) (none k)
+  where
+    no_falsehood : true ≡ false → ⊥
+    no_falsehood e = cc
+
+    same : (o : Option (Socket G)) → raw_copies.is_raw_in o ≡ false → raw_copies.SocketCopies f ip payload o o
+    same (Some (socket.Raw x)) h = absurd (no_falsehood h)
+    same (Some (socket.Tcp x)) h = refl
+    same (Some (socket.Udp x)) h = refl
+    same (Some (socket.Icmp x)) h = refl
+    same None h = refl
+
+    by : (o : Option (Slot G)) → IfSome o (λ s. raw_copies.is_raw s ≡ false) → Both (λ b a. raw_copies.CopiesPacket f ip payload b a) o o
+    by None h = tt
+    by (Some s) h = record { generation = refl; guard = refl; copied = same s.socket h }
 
 -- ---- what is not listed under the key of a kind of sockets is none of them
 

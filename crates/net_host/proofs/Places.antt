@@ -11,7 +11,7 @@ use Rattle.net_host.specs.declared.key.Key.TheVariants as key
 use Rattle.net_host.specs.declared.key.Keys.{Keys}
 use Rattle.net_host.specs.declared.key.Lent.{Lent}
 use Rattle.host_index.specs.Entries.{Keeps, entry_at, has, is_entry}
-use Rattle.net_host.specs.Indexing.{IsIndexed, IsLentAt, KeepsMarks, KeepsOthers, are_filed, is_filed, is_kept, is_kept_of, is_noted, is_noted_of, is_under, lent_of, no_keys, same_key}
+use Rattle.net_host.specs.Indexing.{IsIndexed, IsLentAt, IsSettled, KeepsMarks, KeepsOthers, are_filed, is_filed, is_kept, is_kept_of, is_noted, is_noted_of, is_under, lent_of, no_keys, same_key}
 use Rattle.host_bounds.specs.Marking.{bit_of}
 use Rattle.net_host.specs.Walks.{Both, ChangesAt, ChangesEach}
 use Rattle.net_host.proofs.Each.{elsewhere}
@@ -96,6 +96,10 @@ all_at {X = X} P xs k h = go (slice_get xs k) refl
         let within : k < length xs = slice_get_within xs k x e in
         subst P (get_or_from_slice_get xs k x x e) (All-get_or P xs k x within h)
 
+-- nothing is known of what is not settled
+pub unsettled : {P : Type 0} {b : Bool} → b ≡ false → b ≡ true → P
+unsettled off on = absurd (false_not_true (sym off ∙ on))
+
 module _ {X : Type 0} (keys_of : X → Keys) where
   -- ---- places
 
@@ -177,12 +181,24 @@ module _ {X : Type 0} (keys_of : X → Keys) where
       by k true x = x
       by k false x = same_at complete es ws k (slice_get ss k) (slice_get ts k) (same k) x
 
-  pub lent_at_place : (complete : Bool) (lent : Option Lent) (i : ℕ) (ss : List X) (es : List Entry) (ws : List ℕ) → lent ≡ None → IsIndexed keys_of complete lent ss es ws → IsIndexed keys_of complete (lent_of keys_of i (slice_get ss i)) ss es ws
-  lent_at_place complete lent i ss es ws none h = go (slice_get ss i) refl
+  -- where the place that was lent has the keys that it had, none might as well be lent
+  pub all_settled : (complete : Bool) (lent : Option Lent) (ss : List X) (es : List Entry) (ws : List ℕ) → IfSome lent (λ l. IfSome (slice_get ss l.place) (λ s. keys_of s ≡ l.keys)) → IsIndexed keys_of complete lent ss es ws → IsIndexed keys_of complete None ss es ws
+  all_settled complete None ss es ws h kept = kept
+  all_settled complete (Some l) ss es ws h kept = λ k. by k (nat_eq k l.place) refl (kept k)
     where
-      before : IsIndexed keys_of complete None ss es ws
-      before = subst (λ l. IsIndexed keys_of complete l ss es ws) none h
+      here : (o : Option X) → IfSome o (λ s. keys_of s ≡ l.keys) → is_kept complete es ws l.place l.keys ≡ true → is_kept_of keys_of complete es ws l.place o ≡ true
+      here None h f = refl
+      here (Some s) h f = subst (λ q. is_kept complete es ws l.place q ≡ true) (sym h) f
 
+      by : (k : ℕ) (b : Bool) → nat_eq k l.place ≡ b → (if b then is_kept complete es ws k l.keys else is_kept_of keys_of complete es ws k (slice_get ss k)) ≡ true → is_kept_of keys_of complete es ws k (slice_get ss k) ≡ true
+      by k true e f =
+          let same : l.place ≡ k = grind (arith, e) in
+          subst (λ j. is_kept_of keys_of complete es ws j (slice_get ss j) ≡ true) same (here (slice_get ss l.place) h (subst (λ j. is_kept complete es ws j l.keys ≡ true) (sym same) f))
+      by k false e f = f
+
+  pub lent_at_place : (complete : Bool) (i : ℕ) (ss : List X) (es : List Entry) (ws : List ℕ) → IsSettled keys_of complete ss es ws → IsIndexed keys_of complete (lent_of keys_of i (slice_get ss i)) ss es ws
+  lent_at_place complete i ss es ws before = go (slice_get ss i) refl
+    where
       go : (o : Option X) → slice_get ss i ≡ o → IsIndexed keys_of complete (lent_of keys_of i o) ss es ws
       go None e = before
       go (Some s) e = lent_one complete i s ss es ws e before
@@ -252,11 +268,10 @@ module _ {X : Type 0} (keys_of : X → Keys) where
       go k None e f = refl
       go k (Some x) e f = nothing_kept es ws k (Some x) (noted k (slice_get_within ss k x e)) f
 
-  pub all_filed : (complete : Bool) (lent : Option Lent) (ss : List X) (es : List Entry) (ws : List ℕ) → complete ≡ true → lent ≡ None → IsIndexed keys_of complete lent ss es ws → (k : ℕ) → is_filed keys_of es k (slice_get ss k) ≡ true
-  all_filed false lent ss es ws c none h = absurd (false_not_true c)
-  all_filed true None ss es ws c none h = λ k. go k (slice_get ss k) (h k)
+  pub all_filed : (complete : Bool) (ss : List X) (es : List Entry) (ws : List ℕ) → complete ≡ true → IsSettled keys_of complete ss es ws → (k : ℕ) → is_filed keys_of es k (slice_get ss k) ≡ true
+  all_filed false ss es ws c settled = absurd (false_not_true c)
+  all_filed true ss es ws c settled = λ k. go k (slice_get ss k) (settled k)
     where
       go : (k : ℕ) (o : Option X) → is_kept_of keys_of true es ws k o ≡ true → is_filed keys_of es k o ≡ true
       go k None f = refl
       go k (Some x) f = (and_parts (are_filed es k (keys_of x)) (is_noted ws k (keys_of x).free) f).0
-  all_filed true (Some l) ss es ws c none h = cc

@@ -88,3 +88,7 @@ is_kept_at keys_of complete (Some l) ss es ws k =
 -- each place
 abbrev pub IsIndexed : {X : Type 0} → (X → Keys) → Bool → Option Lent → List X → List Entry → List ℕ → Type 0
 IsIndexed keys_of complete lent ss es ws = (k : ℕ) → is_kept_at keys_of complete lent ss es ws k ≡ true
+
+-- each place, none lent: the one that was has the keys that it had
+abbrev pub IsSettled : {X : Type 0} → (X → Keys) → Bool → List X → List Entry → List ℕ → Type 0
+IsSettled keys_of complete ss es ws = IsIndexed keys_of complete None ss es ws

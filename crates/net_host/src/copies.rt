@@ -1,19 +1,50 @@
 //! What sockets of the other kinds take, in a set with an index.
-ghost use Rattle.std.specs.Prelude.{◌≡◌, None};
+ghost use Rattle.std.specs.Prelude.{ℕ, ◌≡◌, IfSome, slice_get, true, false};
 ghost use Rattle.net_host.specs.Datagrams.{HeardBy, TakesDatagram};
+ghost use Rattle.net_host.specs.Filing.{keys_of};
+ghost use Rattle.net_host.specs.Indexing.{IsSettled};
 ghost use Rattle.net_host.specs.Messages.{Copies, mail_of};
-ghost use Rattle.net_host.specs.RawCopies.{CopiesPacket};
+ghost use Rattle.net_host.specs.RawCopies.{CopiesPacket, is_raw};
 ghost use Rattle.net_host.specs.Touching.{Touches};
 ghost use Rattle.net_host.specs.Walks.{ChangesEach, Finds};
 
 use crate::datagrams::{first_for_datagram, first_under, hear_found};
-use crate::filing::udp_key;
+use crate::filing::{raw_key, udp_key};
+use crate::key::Lent;
 use crate::messages::{Mail, copy_to};
 use crate::raw_copies::copy_packet_to;
 use crate::set::SocketSet;
+use crate::slot::Slot;
 use smoltcp_socket::Context;
 use smoltcp_socket::wire::{IpRepr, UdpRepr};
 use sock_tcp::TsvalSource;
+
+// Whether no socket is a raw one, by one look at the index and one at the place that was lent. Where the answer is no,
+// it says nothing.
+fn has_no_raw<G: TsvalSource>(sockets: &SocketSet<'_, G>) -> bool
+    ensures { result ≡ true → (k : ℕ) → IfSome (slice_get sockets.now.slots.items k) (λ s. is_raw s ≡ false) }
+{
+    let _count = sockets.slots.len(); // for its bound
+    if !sockets.complete {
+        return false;
+    }
+    if !sockets.index.is_behind(raw_key()) {
+        return false;
+    }
+    !is_lent_raw(&sockets.slots, &sockets.lent)
+}
+
+fn is_lent_raw<G: TsvalSource>(slots: &[Slot<'_, G>], lent: &Option<Lent>) -> bool
+    ensures { result ≡ false → IfSome lent.now (λ l. IfSome (slice_get slots.now l.place) (λ s. is_raw s ≡ false)) }
+{
+    match lent {
+        Some(lent) => match slots.get(lent.place) {
+            Some(slot) => slot.is_raw(),
+            None => false,
+        },
+        None => false,
+    }
+}
 
 /// Each raw socket that accepts the packet takes a copy.
 pub(crate) fn copy_packet<C: Context, G: TsvalSource>(
@@ -27,7 +58,11 @@ pub(crate) fn copy_packet<C: Context, G: TsvalSource>(
     ensures touched { Touches sockets.old.bounds sockets.old.slots.items sockets.new.bounds
         sockets.new.slots.items }
 {
+    if has_no_raw(sockets) {
+        return;
+    }
     sockets.settle();
+    sockets.settled = false;
     let complete = sockets.complete;
     copy_packet_to(
         &mut sockets.slots,
@@ -51,6 +86,7 @@ pub(crate) fn copy_mail<C: Context, G: TsvalSource>(
         sockets.new.slots.items }
 {
     sockets.settle();
+    sockets.settled = false;
     let complete = sockets.complete;
     copy_to(&mut sockets.slots, &sockets.index, complete, cx, mail);
 }
@@ -62,7 +98,8 @@ fn datagram_taker<C: Context, G: TsvalSource>(
     ip: &IpRepr,
     repr: &UdpRepr,
 ) -> Option<usize>
-    requires { sockets.now.lent ≡ None }
+    requires { IsSettled (λ s. keys_of s) sockets.now.complete sockets.now.slots.items sockets.now.index
+        sockets.now.free }
     ensures { Finds (TakesDatagram (C.facts cx.now) ip.now repr.now) sockets.now.slots.items result }
 {
     if sockets.complete {
@@ -88,6 +125,7 @@ pub(crate) fn hear_datagram_of<C: Context, G: TsvalSource>(
 {
     sockets.settle();
     let found = datagram_taker(sockets, cx, ip, repr);
+    sockets.settled = false;
     hear_found(&mut sockets.slots, found, cx, ip, repr, payload);
     found
 }

@@ -1,9 +1,9 @@
 //! Places that are filed in an index under their keys.
 ghost use Rattle.std.specs.Prelude.{ℕ, ℤ, Bool, ◌≡◌, ◌&&◌, ◌<◌, ◌/◌, IfSome, IsSome, length, get_or, slice_get, true};
-ghost use Rattle.std.specs.Prelude.{None, slice_set};
+ghost use Rattle.std.specs.Prelude.{None, false, slice_set};
 ghost use Rattle.std.specs.List.{All};
-ghost use Rattle.net_host.specs.Indexing.{IsIndexed, IsLentAt, KeepsMarks, KeepsOthers, are_filed, is_filed, is_noted};
-ghost use Rattle.net_host.specs.Indexing.{is_noted_of, lent_of, no_keys};
+ghost use Rattle.net_host.specs.Indexing.{IsIndexed, IsLentAt, IsSettled, KeepsMarks, KeepsOthers, are_filed};
+ghost use Rattle.net_host.specs.Indexing.{is_filed, is_noted, is_noted_of, lent_of, no_keys};
 ghost use Rattle.host_bounds.specs.Bounding.{at_once, bound_at};
 ghost use Rattle.net_host.specs.Sleeping.{AreAsleep};
 ghost use Rattle.net_host.specs.declared.key.Keys.{Keys};
@@ -15,7 +15,7 @@ use crate::limits::Limits;
 use crate::refiling::refile;
 use crate::terms::Terms;
 use host_bounds::{Bounds, Marks};
-use host_index::Index;
+use host_index::{Entry, Index};
 
 /// What has keys.
 pub trait Keyed {
@@ -27,6 +27,10 @@ pub trait Keyed {
     /// Under which keys it is filed.
     fn keys(&self) -> Keys
         ensures { result ≡ keys_of self.now };
+
+    // Whether it has these keys. Where the answer is no, it says nothing.
+    fn has_keys(&self, keys: &Keys) -> bool
+        ensures { result ≡ true → keys_of self.now ≡ keys.now };
 }
 
 /// Places, and an index of them. One place at a time is lent, and may be changed; it is filed anew before the next use
@@ -43,9 +47,12 @@ pub struct Filed<T: Keyed> {
     // before which moment each place need not be asked, under these terms; the least where it may have changed
     pub(crate) bounds: Bounds,
     pub(crate) terms: Terms,
+    // whether the place that was lent is known to have the keys that it had
+    pub(crate) settled: bool,
     pub ghost indexed: { IsIndexed T.keys_of complete lent slots.items index free },
     pub ghost asleep: { AreAsleep T.sleeps terms bounds slots.items },
     pub ghost as_many: { length bounds ≡ length slots.items },
+    pub ghost kept: { settled ≡ true → IsSettled T.keys_of complete slots.items index free },
 }
 
 impl<T: Keyed> Filed<T> {
@@ -68,13 +75,63 @@ impl<T: Keyed> Filed<T> {
                 mtu: 0,
                 guards: Limits::of(&GuardSettings::off()),
             },
+            settled: true,
         }
     }
 
     /// The place that was lent, if one was, is filed as it is now.
+    #[inline(always)]
     pub(crate) fn settle(&mut self)
         ensures slots { self.new.slots ≡ self.old.slots }
-        ensures settled { self.new.lent ≡ None }
+        ensures settled { IsSettled T.keys_of self.new.complete self.new.slots.items self.new.index self.new.free }
+        ensures terms { self.new.terms ≡ self.old.terms }
+        ensures bounds { self.new.bounds ≡ self.old.bounds }
+    {
+        if !self.settled {
+            self.settle_lent();
+        }
+    }
+
+    #[inline(never)]
+    fn settle_lent(&mut self)
+        ensures slots { self.new.slots ≡ self.old.slots }
+        ensures settled { IsSettled T.keys_of self.new.complete self.new.slots.items self.new.index self.new.free }
+        ensures terms { self.new.terms ≡ self.old.terms }
+        ensures bounds { self.new.bounds ≡ self.old.bounds }
+    {
+        if self.has_old_keys() {
+            self.settled = true;
+        } else {
+            self.file_anew();
+        }
+    }
+
+    /// The same, before places under a key are looked for.
+    pub(crate) fn settle_for(&mut self, key: Entry)
+        ensures slots { self.new.slots ≡ self.old.slots }
+        ensures settled { IsSettled T.keys_of self.new.complete self.new.slots.items self.new.index self.new.free }
+        ensures terms { self.new.terms ≡ self.old.terms }
+        ensures bounds { self.new.bounds ≡ self.old.bounds }
+    {
+        self.settle();
+        self.index.seek(key);
+    }
+
+    // Whether the place that was lent has the keys under which it is filed, as mostly.
+    fn has_old_keys(&self) -> bool
+        ensures { result ≡ true → IsSettled T.keys_of self.now.complete self.now.slots.items self.now.index
+            self.now.free }
+    {
+        match &self.lent {
+            Some(lent) => keeps_keys(&self.slots, lent),
+            None => true,
+        }
+    }
+
+    #[inline(never)]
+    fn file_anew(&mut self)
+        ensures slots { self.new.slots ≡ self.old.slots }
+        ensures settled { IsSettled T.keys_of self.new.complete self.new.slots.items self.new.index self.new.free }
         ensures terms { self.new.terms ≡ self.old.terms }
         ensures bounds { self.new.bounds ≡ self.old.bounds }
     {
@@ -92,8 +149,10 @@ impl<T: Keyed> Filed<T> {
         ensures marked { bound_at self.new.bounds place ≡ at_once }
         ensures terms { self.new.terms ≡ self.old.terms }
         ensures bounds { self.new.bounds ≡ slice_set self.old.bounds place at_once }
+        ensures unsettled { self.new.settled ≡ false }
     {
         if self.is_lent(place) {
+            self.settled = false;
             self.mark(place);
         } else {
             self.lend_anew(place);
@@ -117,10 +176,12 @@ impl<T: Keyed> Filed<T> {
         ensures marked { bound_at self.new.bounds place ≡ at_once }
         ensures terms { self.new.terms ≡ self.old.terms }
         ensures bounds { self.new.bounds ≡ slice_set self.old.bounds place at_once }
+        ensures unsettled { self.new.settled ≡ false }
     {
-        self.settle();
         self.mark(place);
+        self.settle();
         self.lent = lent_at(&self.slots, place);
+        self.settled = false;
     }
 
     // The place is to be asked at once.
@@ -130,6 +191,7 @@ impl<T: Keyed> Filed<T> {
         ensures marked { bound_at self.new.bounds place ≡ at_once }
         ensures terms { self.new.terms ≡ self.old.terms }
         ensures bounds { self.new.bounds ≡ slice_set self.old.bounds place at_once }
+        ensures settled { self.new.settled ≡ self.old.settled }
     {
         self.bounds.put_at_once(place);
     }
@@ -174,6 +236,16 @@ fn lent_at<T: Keyed>(slots: &[T], place: usize) -> Option<Lent>
             keys: slot.keys(),
         }),
         None => None,
+    }
+}
+
+// Whether the place has the keys that it had as it was lent.
+fn keeps_keys<T: Keyed>(slots: &[T], lent: &Lent) -> bool
+    ensures { result ≡ true → IfSome (slice_get slots.now lent.now.place) (λ s. T.keys_of s ≡ lent.now.keys) }
+{
+    match slots.get(lent.place) {
+        Some(slot) => slot.has_keys(&lent.keys),
+        None => true,
     }
 }
 

@@ -1,6 +1,6 @@
 //! Under which keys the socket of a place is filed.
 ghost use Rattle.std.specs.Prelude.{◌≡◌, ◌+◌, ◌*◌, false, true};
-ghost use Rattle.net_host.specs.declared.key.Key.TheVariants.{Nothing};
+ghost use Rattle.net_host.specs.declared.key.Key.TheVariants.{Nothing, Under};
 ghost use Rattle.net_host.specs.Entries.{ordered};
 ghost use Rattle.net_host.specs.Filing.{connection_by, first_by, icmp_key, keys_by, keys_of, listener_by, listener_key};
 ghost use Rattle.net_host.specs.Filing.{number_of, raw_key, rest_by, rest_major, second_by, server_key};
@@ -10,6 +10,7 @@ ghost use Rattle.net_host.specs.Looking.{sleeps};
 
 use crate::filed::Keyed;
 use crate::key::{Key, Keys};
+use crate::refiling::{are_keys, same_entry};
 use crate::slot::Slot;
 use host_index::Entry;
 use smoltcp_socket::tcp::State;
@@ -212,6 +213,35 @@ fn no_keys() -> Keys
     }
 }
 
+// Whether these are the keys of a connection that is open both ways, as most are that are asked: without making its own.
+fn are_of_connection<G>(keys: &Keys, tcp: &tcp::Socket<'_, G>) -> bool
+    ensures { result ≡ true → keys_by tcp.now.control_block ≡ keys.now }
+{
+    match (tcp.state(), &keys.first, &keys.second) {
+        (State::Established, Key::Under(first), Key::Under(second)) => {
+            !keys.free && is_connection(first, tcp) && is_server(second, tcp.listen_endpoint().port)
+        }
+        _ => false,
+    }
+}
+
+fn is_connection<G>(key: &Entry, tcp: &tcp::Socket<'_, G>) -> bool
+    ensures { result ≡ true → connection_by tcp.now.control_block.tuple ≡ Under key.now }
+{
+    match (tcp.local_endpoint(), tcp.remote_endpoint()) {
+        (Some(local), Some(remote)) => {
+            same_entry(&connection_key(&remote.addr, local.port, remote.port), key)
+        }
+        _ => false,
+    }
+}
+
+fn is_server(key: &Entry, port: u16) -> bool
+    ensures { result ≡ true → server_key port ≡ key.now }
+{
+    same_entry(&server_key(port), key)
+}
+
 impl<'a, G> Keyed for Slot<'a, G> {
     ghost keys_of = { λ s. keys_of s };
 
@@ -224,6 +254,13 @@ impl<'a, G> Keyed for Slot<'a, G> {
             Some(Socket::Icmp(_)) => one_key(Key::Under(icmp_key())),
             Some(Socket::Udp(udp)) => one_key(Key::Under(udp_key(udp.endpoint().port))),
             None => no_keys(),
+        }
+    }
+
+    fn has_keys(&self, keys: &Keys) -> bool {
+        match &self.socket {
+            Some(Socket::Tcp(tcp)) if are_of_connection(keys, tcp) => true,
+            _ => are_keys(&self.keys(), keys),
         }
     }
 }

@@ -1,6 +1,7 @@
 //! Walks through the places under a key.
-ghost use Rattle.std.specs.Prelude.{◌≡◌, ◌↔◌, IsTrue, nat_lt, if◌then◌else◌, Some, None};
+ghost use Rattle.std.specs.Prelude.{◌≡◌, ◌↔◌, IsTrue, nat_lt, if◌then◌else◌, Some, None, true};
 ghost use Rattle.control_wire.specs.Segment.{segment_of};
+ghost use Rattle.host_index.specs.Entries.{IsSortedByRank, Splits, rank};
 ghost use Rattle.net_host.specs.Entries.{FindsEarliestListed, FindsListed, FindsUnder};
 ghost use Rattle.net_host.specs.Filing.{rest_major};
 ghost use Rattle.net_host.specs.Finding.{Fits, RestsAt, with_minor};
@@ -107,8 +108,43 @@ pub(crate) fn first_in<C: Context, G: TsvalSource>(
     requires { key.place ≡ 0 }
     ensures { FindsListed (Fits sought ip.now (segment_of repr.now)) slots.now index.now key result }
 {
+    let p = index.lower(key);
+    if index.len() <= p {
+        return None;
+    }
+    let entry = index.get(p);
+    if is_under(entry, key) && fits_at(slots, entry.place, cx, sought, ip, repr) {
+        return Some(entry.place);
+    }
+    first_from(slots, index, p, key, cx, sought, ip, repr)
+}
+
+fn is_under(entry: Entry, key: Entry) -> bool
+    ensures { result ≡ true → (entry.major ≡ key.major) × (entry.minor ≡ key.minor) }
+{
+    entry.major == key.major && entry.minor == key.minor
+}
+
+// The same, from where the entries under the key begin. Apart from `first_in`, which mostly finds its socket there, so
+// that it saves few registers.
+#[inline(never)]
+fn first_from<C: Context, G: TsvalSource>(
+    slots: &[Slot<'_, G>],
+    index: &Index,
+    from: usize,
+    key: Entry,
+    cx: &C,
+    sought: Sought,
+    ip: &IpRepr,
+    repr: &TcpRepr<'_>,
+) -> Option<usize>
+    requires key { key.place ≡ 0 }
+    requires splits { Splits index.now (rank key) from }
+    requires sorted { IsSortedByRank index.now }
+    ensures { FindsListed (Fits sought ip.now (segment_of repr.now)) slots.now index.now key result }
+{
     let _count = slots.len(); // for its bound
-    for p in index.lower(key)..index.len() {
+    for p in from..index.len() {
         let entry = index.get(p);
         match stands(entry, key) {
             Side::Before => {}

@@ -1,16 +1,19 @@
 //! A segment arrives at a set of sockets.
-ghost use Rattle.std.specs.Prelude.{◌≡◌, ◌<◌, ◌≤◌, IfSome, length, [], option_map, slice_get, true, false, None};
+ghost use Rattle.std.specs.Prelude.{◌≡◌, ◌<◌, ◌≤◌, IfSome, length, [], option_map, slice_get, true, false};
 ghost use Rattle.std.specs.Option.{ForSome};
 ghost use Rattle.control_wire.specs.Fits.{FitsPacket};
 ghost use Rattle.control_wire.specs.Segment.{segment_of};
 ghost use Rattle.sock_tcp.specs.Process.{reply_of};
 ghost use Rattle.net_host.specs.Cookies.{AnswersSegment, BelievedBy, HearsBoth, HearsIf, HearsSyn, IsAgain, TakenOn};
 ghost use Rattle.net_host.specs.Cookies.{course_of, syn_before};
+ghost use Rattle.net_host.specs.Filing.{keys_of};
+ghost use Rattle.net_host.specs.Indexing.{IsSettled};
 ghost use Rattle.net_host.specs.Resting.{Rests, anew, is_opening};
 ghost use Rattle.net_host.specs.Segments.{IsTaker, TakesSegment, as_is};
 ghost use Rattle.net_host.specs.Touching.{Touches};
 
 use crate::cookies::{Course, Told, answer_of, course_of, room_at, syn_before};
+use crate::filing::connection_key;
 use crate::limit::Limit;
 use crate::replies::put_reply;
 use crate::segments::{Taker, hear_anew_at, hear_at, take_segment, who_takes};
@@ -38,7 +41,8 @@ fn who_again<C: Context, G: TsvalSource>(
     ip: &IpRepr,
     repr: &TcpRepr<'_>,
 ) -> Taker
-    requires { sockets.now.lent ≡ None }
+    requires { IsSettled (λ s. keys_of s) sockets.now.complete sockets.now.slots.items sockets.now.index
+        sockets.now.free }
     ensures { IsAgain course sockets.now.slots.items ip.now (segment_of repr.now) result }
 {
     match course {
@@ -55,7 +59,8 @@ fn who_opens<C: Context, G: TsvalSource>(
     ip: &IpRepr,
     repr: &TcpRepr<'_>,
 ) -> Taker
-    requires { sockets.now.lent ≡ None }
+    requires { IsSettled (λ s. keys_of s) sockets.now.complete sockets.now.slots.items sockets.now.index
+        sockets.now.free }
     ensures { IsTaker sockets.now.slots.items ip.now (syn_before (segment_of repr.now) class) result }
 {
     let syn = syn_before(repr, class);
@@ -276,7 +281,8 @@ fn heard_by<C: Context, G: TsvalSource>(
     ip: &IpRepr,
     repr: &TcpRepr<'_>,
 ) -> Heard
-    requires { sockets.now.lent ≡ None }
+    requires { IsSettled (λ s. keys_of s) sockets.now.complete sockets.now.slots.items sockets.now.index
+        sockets.now.free }
     ensures course { result.course ≡ course_of cookies.now result.taker (C.facts cx.now).now ip.now
         (segment_of repr.now) }
     ensures taker { IsTaker sockets.now.slots.items ip.now (segment_of repr.now) result.taker }
@@ -316,7 +322,7 @@ pub(crate) fn hear_segment<C: Context, G: TsvalSource>(
         sockets.new.slots.items }
 {
     let caps = cx.checksum_caps();
-    sockets.settle();
+    sockets.settle_for(connection_key(&ip.src_addr(), repr.dst_port, repr.src_port));
     let heard = heard_by(sockets, cx, cookies, ip, repr);
     let reply = take_heard(sockets, cx, limit, &heard, ip, repr);
     let len = put_reply(&reply, out, &caps);

@@ -71,6 +71,7 @@ fn watch_kept<G: TsvalSource>(
     ensures terms { sockets.new.terms ≡ sockets.old.terms }
 {
     sockets.bounds.set(i, i64::MIN);
+    sockets.settled = false;
     watch_there(&mut sockets.slots, i, settings, now);
 }
 

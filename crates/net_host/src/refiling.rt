@@ -1,19 +1,34 @@
 //! A place is filed under other keys.
 ghost use Rattle.std.specs.Prelude.{◌≡◌, true};
-ghost use Rattle.host_index.specs.Entries.{Keeps, entry_at};
+ghost use Rattle.host_index.specs.Entries.{Keeps, entry_at, is_entry};
 ghost use Rattle.net_host.specs.Indexing.{KeepsOthers, are_filed, is_under, same_key};
 
 use crate::key::{Key, Keys};
 use host_index::{Entry, Index, Which};
+
+/// Whether they are the same.
+#[tactic(auto, using(crate::proofs::Keyed::same_entries))]
+pub(crate) fn same_entry(a: &Entry, b: &Entry) -> bool
+    ensures same { result ≡ is_entry a.now b.now }
+    ensures equal { result ≡ true → a.now ≡ b.now }
+{
+    a.major == b.major && a.minor == b.minor && a.place == b.place
+}
+
+/// Whether they are the same. Where the answer is no, it says nothing.
+#[tactic(auto, using(crate::proofs::Keyed::same_keys))]
+pub(crate) fn are_keys(a: &Keys, b: &Keys) -> bool
+    ensures { result ≡ true → a.now ≡ b.now }
+{
+    same_key(&a.first, &b.first) && same_key(&a.second, &b.second) && a.free == b.free
+}
 
 fn same_key(a: &Key, b: &Key) -> bool
     ensures { result ≡ same_key a.now b.now }
 {
     match (a, b) {
         (Key::Nothing, Key::Nothing) => true,
-        (Key::Under(a), Key::Under(b)) => {
-            a.major == b.major && a.minor == b.minor && a.place == b.place
-        }
+        (Key::Under(a), Key::Under(b)) => same_entry(a, b),
         _ => false,
     }
 }

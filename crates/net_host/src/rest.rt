@@ -1,7 +1,9 @@
 //! Connections in TIME-WAIT that give way to a SYN, and sockets that serve a port.
-ghost use Rattle.std.specs.Prelude.{◌≡◌, ◌↔◌, IsTrue, None};
+ghost use Rattle.std.specs.Prelude.{◌≡◌, ◌↔◌, IsTrue};
 ghost use Rattle.control_wire.specs.Segment.{segment_of};
 ghost use Rattle.sock_tcp.specs.Process.{IsToListener};
+ghost use Rattle.net_host.specs.Filing.{keys_of};
+ghost use Rattle.net_host.specs.Indexing.{IsSettled};
 ghost use Rattle.net_host.specs.Resting.{FindsOldest, OnlyOf, Reopens, RestsFor, RestsUntil, Serves, earlier_of};
 ghost use Rattle.net_host.specs.Resting.{is_above, is_opening};
 ghost use Rattle.net_host.specs.Resting.{is_serving};
@@ -108,7 +110,8 @@ pub(crate) fn oldest<G: TsvalSource>(
     ip: &IpRepr,
     repr: &TcpRepr<'_>,
 ) -> Option<(usize, Instant)>
-    requires { sockets.now.lent ≡ None }
+    requires { IsSettled (λ s. keys_of s) sockets.now.complete sockets.now.slots.items sockets.now.index
+        sockets.now.free }
     ensures { FindsOldest ip.now (segment_of repr.now) sockets.now.slots.items result }
 {
     if sockets.complete {
@@ -153,7 +156,8 @@ pub(crate) fn any_server<C: Context, G: TsvalSource>(
     ip: &IpRepr,
     repr: &TcpRepr<'_>,
 ) -> Option<usize>
-    requires { sockets.now.lent ≡ None }
+    requires { IsSettled (λ s. keys_of s) sockets.now.complete sockets.now.slots.items sockets.now.index
+        sockets.now.free }
     ensures { Finds (Serves ip.now (segment_of repr.now)) sockets.now.slots.items result }
 {
     if sockets.complete {

@@ -1,10 +1,11 @@
 //! Which socket takes a TCP segment, and what becomes of it.
 ghost use Rattle.std.specs.Prelude.{◌≡◌, ◌↔◌, ◌<◌, ◌≤◌, IsTrue, IfSome, length, [], option_map, slice_get, true, false};
-ghost use Rattle.std.specs.Prelude.{None};
 ghost use Rattle.std.specs.Option.{ForSome};
 ghost use Rattle.control_wire.specs.Fits.{FitsPacket};
 ghost use Rattle.control_wire.specs.Segment.{segment_of};
 ghost use Rattle.sock_tcp.specs.Process.{reply_of};
+ghost use Rattle.net_host.specs.Filing.{keys_of};
+ghost use Rattle.net_host.specs.Indexing.{IsSettled};
 ghost use Rattle.net_host.specs.Resting.{Rests, anew, is_opening};
 ghost use Rattle.net_host.specs.Segments.{Hears, HearsAt, IsTaker, NoneTakes, Refuses, TakenBy};
 ghost use Rattle.net_host.specs.Segments.{TakesSegment, as_is};
@@ -111,7 +112,8 @@ fn first_taker<C: Context, G: TsvalSource>(
     ip: &IpRepr,
     repr: &TcpRepr<'_>,
 ) -> Option<usize>
-    requires { sockets.now.lent ≡ None }
+    requires { IsSettled (λ s. keys_of s) sockets.now.complete sockets.now.slots.items sockets.now.index
+        sockets.now.free }
     ensures { Finds (TakesSegment listening ip.now (segment_of repr.now)) sockets.now.slots.items result }
 {
     if sockets.complete {
@@ -129,7 +131,8 @@ fn found_taker<C: Context, G: TsvalSource>(
     ip: &IpRepr,
     repr: &TcpRepr<'_>,
 ) -> Option<usize>
-    requires settled { sockets.now.lent ≡ None }
+    requires settled { IsSettled (λ s. keys_of s) sockets.now.complete sockets.now.slots.items sockets.now.index
+        sockets.now.free }
     requires complete { sockets.now.complete ≡ true }
     ensures { Finds (TakesSegment listening ip.now (segment_of repr.now)) sockets.now.slots.items result }
 {
@@ -182,7 +185,8 @@ pub(crate) fn who_takes<C: Context, G: TsvalSource>(
     ip: &IpRepr,
     repr: &TcpRepr<'_>,
 ) -> Taker
-    requires { sockets.now.lent ≡ None }
+    requires { IsSettled (λ s. keys_of s) sockets.now.complete sockets.now.slots.items sockets.now.index
+        sockets.now.free }
     ensures { IsTaker sockets.now.slots.items ip.now (segment_of repr.now) result }
 {
     match first_taker(sockets, cx, false, ip, repr) {
@@ -204,7 +208,8 @@ fn listener<C: Context, G: TsvalSource>(
     ip: &IpRepr,
     repr: &TcpRepr<'_>,
 ) -> Taker
-    requires settled { sockets.now.lent ≡ None }
+    requires settled { IsSettled (λ s. keys_of s) sockets.now.complete sockets.now.slots.items sockets.now.index
+        sockets.now.free }
     requires none { Nowhere (TakesSegment false ip.now (segment_of repr.now)) sockets.now.slots.items }
     ensures { IsTaker sockets.now.slots.items ip.now (segment_of repr.now) result }
 {
@@ -227,7 +232,8 @@ fn rested<C: Context, G: TsvalSource>(
     ip: &IpRepr,
     repr: &TcpRepr<'_>,
 ) -> Taker
-    requires settled { sockets.now.lent ≡ None }
+    requires settled { IsSettled (λ s. keys_of s) sockets.now.complete sockets.now.slots.items sockets.now.index
+        sockets.now.free }
     requires none { NoneTakes sockets.now.slots.items ip.now (segment_of repr.now) }
     requires opening { is_opening (segment_of repr.now) ≡ true }
     ensures { IsTaker sockets.now.slots.items ip.now (segment_of repr.now) result }

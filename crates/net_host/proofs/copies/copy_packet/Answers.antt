@@ -1,17 +1,21 @@
-use Rattle.std.proofs.Common.{◌∙◌, sym}
+use Rattle.std.proofs.Common.{◌∙◌, sym, refl}
 use Rattle.net_host.specs.Filing.{keys_of}
 use Rattle.net_host.proofs.Sleepers.{each_len}
-use Rattle.net_host.proofs.KeptKeys.{copies_keep}
+use Rattle.net_host.proofs.KeptKeys.{copies_keep, none_copied}
 use Rattle.net_host.proofs.KeptSleep.{copies_sleep}
-use Rattle.net_host.proofs.Places.{all_filed}
+use Rattle.net_host.proofs.Places.{all_filed, unsettled}
 use Rattle.net_host.proofs.copies.copy_packet.Goals as goal
 
+pub returns-then-has_no_raw-clause-copied : goal.returns-then-has_no_raw-clause-copied
+returns-then-has_no_raw-clause-copied g c = none_copied (g.C.Context.facts c.args.cx.now) c.args.ip.now c.args.payload.now c.args.sockets.now.slots.items (c.has_no_raw.ensures c.if-has_no_raw.true)
+
 pub copy_packet_to-requires : goal.copy_packet_to-requires
-copy_packet_to-requires g c = λ whole. all_filed (λ s. keys_of s) c.settle.new.self.complete c.settle.new.self.lent c.settle.new.self.slots.items c.settle.new.self.index c.settle.new.self.free whole c.settle.ensures.settled c.settle.new.self.indexed
+copy_packet_to-requires g c = λ whole. all_filed (λ s. keys_of s) c.settle.new.self.complete c.settle.new.self.slots.items c.settle.new.self.index c.settle.new.self.free whole c.settle.ensures.settled
 
 pub invariant_of-sockets : goal.invariant_of-sockets
 invariant_of-sockets g c = record {
   indexed = copies_keep (g.C.Context.facts c.args.cx.now) c.args.ip.now c.args.payload.now c.settle.new.self.complete c.settle.new.self.lent c.settle.new.self.slots.items c.copy_packet_to.new.slots.items c.settle.new.self.index c.settle.new.self.free c.copy_packet_to.ensures c.settle.new.self.indexed;
   asleep = copies_sleep c.settle.new.self.terms c.settle.new.self.bounds c.settle.new.self.slots.items c.copy_packet_to.new.slots.items (g.C.Context.facts c.args.cx.now) c.args.ip.now c.args.payload.now c.copy_packet_to.ensures c.settle.new.self.asleep;
   as_many = c.settle.new.self.as_many ∙ sym (each_len _ c.settle.new.self.slots.items c.copy_packet_to.new.slots.items c.copy_packet_to.ensures);
+  kept = unsettled refl;
 }

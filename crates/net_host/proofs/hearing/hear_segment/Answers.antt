@@ -7,15 +7,15 @@ use Rattle.net_host.specs.Wire.{with_reply}
 use Rattle.net_host.proofs.hearing.hear_segment.Goals as goal
 
 pub returns-clause-taker : goal.returns-clause-taker
-returns-clause-taker g c = subst (λ s. IsTaker s.items c.args.ip.now (segment_of c.args.repr.now) c.heard_by-heard.result.taker) c.settle.ensures.slots c.heard_by-heard.ensures.taker
+returns-clause-taker g c = subst (λ s. IsTaker s.items c.args.ip.now (segment_of c.args.repr.now) c.heard_by-heard.result.taker) c.settle_for.ensures.slots c.heard_by-heard.ensures.taker
 
 pub returns-clause-again : goal.returns-clause-again
-returns-clause-again g c = subst (λ s. IsAgain c.heard_by-heard.result.course s.items c.args.ip.now (segment_of c.args.repr.now) c.heard_by-heard.result.again) c.settle.ensures.slots c.heard_by-heard.ensures.again
+returns-clause-again g c = subst (λ s. IsAgain c.heard_by-heard.result.course s.items c.args.ip.now (segment_of c.args.repr.now) c.heard_by-heard.result.again) c.settle_for.ensures.slots c.heard_by-heard.ensures.again
 
 pub returns-clause-heard : goal.returns-clause-heard
 returns-clause-heard g c = record {
   reply = c.take_heard-reply.result;
-  taken = subst (λ s. TakenOn g.C.Context.facts g.C.Context.word_at g.G.TsvalSource.tells c.heard_by-heard.result.course c.heard_by-heard.result.taker c.heard_by-heard.result.again s.items c.args.cx.now c.args.limit.now c.args.ip.now (segment_of c.args.repr.now) c.take_heard-reply.result c.take_heard-reply.new.sockets.slots.items c.take_heard-reply.new.cx c.take_heard-reply.new.limit) c.settle.ensures.slots c.take_heard-reply.ensures.taken;
+  taken = subst (λ s. TakenOn g.C.Context.facts g.C.Context.word_at g.G.TsvalSource.tells c.heard_by-heard.result.course c.heard_by-heard.result.taker c.heard_by-heard.result.again s.items c.args.cx.now c.args.limit.now c.args.ip.now (segment_of c.args.repr.now) c.take_heard-reply.result c.take_heard-reply.new.sockets.slots.items c.take_heard-reply.new.cx c.take_heard-reply.new.limit) c.settle_for.ensures.slots c.take_heard-reply.ensures.taken;
   len = c.put_reply-len.ensures.len;
   octets = c.put_reply-len.ensures.bytes ∙ ap (λ caps. with_reply caps (option_map reply_of c.take_heard-reply.result) c.args.out.now) c.checksum_caps-caps.ensures;
 }

@@ -18,6 +18,7 @@ invariant_of-sockets g c =
           (noted (g.C.Context.facts c.args.cx.now) c.args.sockets.now.terms c.asks_at-asked.result.0 (to_z w64 (of_z w64 c.bound_of.result)) (slice_get c.args.sockets.now.slots.items c.args.i) (same ∙ c.bound_of.ensures) c.requires.mtu (subst (λ xs. IfSome (slice_get xs c.args.i) (λ s. c.asks_at-asked.result.0 ≡ asked_of s.guard.phase s.guard.end s.guard.last s.socket (g.C.Context.facts c.args.cx.now))) c.deref.ensures.value c.asks_at-asked.ensures.asked) c.requires.seen)
           c.args.sockets.now.asleep);
       as_many = ap length c.set.ensures ∙ length-set c.args.sockets.now.bounds c.args.i (to_z w64 (of_z w64 c.bound_of.result)) ∙ c.args.sockets.now.as_many;
+      kept = c.args.sockets.now.kept;
     }
 
 pub returns-clause-due : goal.returns-clause-due

@@ -1,11 +1,11 @@
-use Rattle.std.proofs.Common.{rules, ◌≡◌, ◌∙◌, ◌<◌, true, length, get_or, ap, refl, subst, sym}
+use Rattle.std.proofs.Common.{rules, ◌≡◌, ◌∙◌, ◌<◌, length, get_or, ap, refl, subst, sym}
 use Rattle.std.specs.Prelude.{is_ok, if◌then◌else◌}
 use Rattle.std.specs.List.{insert}
 use Rattle.host_index.specs.Columns.{Puts, entry_in, number_of}
-use Rattle.host_index.specs.Entries.{Keeps, Splits, has, nothing, rank}
-use Rattle.host_index.specs.Indexing.{IsIndex, entries_in, number_at}
+use Rattle.host_index.specs.Entries.{Keeps, Splits, nothing, rank}
+use Rattle.host_index.specs.Indexing.{entries_in, number_at}
 use Rattle.host_index.proofs.Entered.{put_adds, put_keeps}
-use Rattle.host_index.proofs.Numbers.{added, as_many, entries_now, entry_of}
+use Rattle.host_index.proofs.Numbers.{added, as_many, entries_now, entry_of, least_splits}
 use Rattle.host_index.proofs.index.Index.add.Goals as goal
 
 module _ (c : goal.After-is_ok) where
@@ -26,10 +26,13 @@ module _ (c : goal.After-is_ok) where
   items = search rules
 
   now : entries_in c.put.new.self c.insert.new.self.items ≡ (if is_ok c.insert.result then insert (entries_in c.self.inside.columns c.self.inside.order.items) c.lower-place.result c.args.entry else entries_in c.self.inside.columns c.self.inside.order.items)
-  now = entries_now c.self.inside.columns c.put.new.self c.self.inside.order.items c.lower-place.result (number_of c.args.which c.args.entry.place) c.args.entry c.self.invariant puts begins behind (is_ok c.insert.result) c.insert.new.self.items items
+  now = entries_now c.self.inside.columns c.put.new.self c.self.inside.order.items c.lower-place.result (number_of c.args.which c.args.entry.place) c.args.entry c.self.invariant.index puts begins behind (is_ok c.insert.result) c.insert.new.self.items items
 
 pub invariant_of-self-2 : goal.invariant_of-self-2
-invariant_of-self-2 c = added c.self.inside.columns c.put.new.self c.self.inside.order.items c.lower-place.result (number_of c.args.which c.args.entry.place) c.args.entry c.self.invariant (puts c) (begins c) (behind c) (is_ok c.insert.result) c.insert.new.self.items (items c)
+invariant_of-self-2 c = record {
+  index = added c.self.inside.columns c.put.new.self c.self.inside.order.items c.lower-place.result (number_of c.args.which c.args.entry.place) c.args.entry c.self.invariant.index (puts c) (begins c) (behind c) (is_ok c.insert.result) c.insert.new.self.items (items c);
+  begins = subst (λ key. Splits (entries_in c.put.new.self c.insert.new.self.items) (rank key) 0) (sym c.least_key-self-inside.ensures) (least_splits (entries_in c.put.new.self c.insert.new.self.items));
+}
 
 pub returns-clause-added : goal.returns-clause-added
 returns-clause-added c = λ h. put_adds (entries_in c.self.inside.columns c.self.inside.order.items) (entries_in c.put.new.self c.insert.new.self.items) c.args.entry c.lower-place.result (begins c) (is_ok c.insert.result) (now c) (sym c.is_ok.ensures.value ∙ h)

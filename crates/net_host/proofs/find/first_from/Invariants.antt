@@ -1,7 +1,7 @@
 use Rattle.control_wire.specs.Segment.{segment_of}
 use Rattle.net_host.specs.Finding.{Fits}
 use Rattle.net_host.proofs.Runs.{Passed}
-use Rattle.net_host.proofs.find.first_in.Given as goal
+use Rattle.net_host.proofs.find.first_from.Given as goal
 
 abbrev pub invariant-loop-p : goal.invariant-loop-p
 invariant-loop-p g l = Passed (Fits l.sought l.ip (segment_of l.repr)) l.slots l.index l.key l.p
