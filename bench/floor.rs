@@ -1,6 +1,7 @@
 //! The conversations of hosted_bench between two sockets, with no host at all: no index, no guard, no bound, no timer
 //! that is looked for, and no packet that is lost. What is left is what the sockets, the packets' sums and copies and
-//! the applications take: no host can be quicker than this.
+//! the applications take: no host can be quicker than this. Its sums are as slow as those of the other plain programs, so
+//! it is compared with sock_bench and hosted_bench of one folder alone.
 //!
 //!     floor SEED SHARE
 use bench_parts::clock::Clock;
