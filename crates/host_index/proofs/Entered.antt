@@ -1,11 +1,11 @@
 -- Entries in order, with one more or one fewer.
 use Rattle.std.proofs.Common.{◌≡◌, ◌∙◌, ℕ, ◌+◌, ◌-◌, ◌<◌, ◌≤◌, List, [], ◌∷◌, length, get_or, Bool, true, false, nat_lt, nat_eq, suc, zero, refl, sym, subst, ap, arith}
-use Rattle.std.specs.Prelude.{◌&&◌, ◌||◌, if◌then◌else◌}
+use Rattle.std.specs.Prelude.{◌&&◌, ◌||◌}
 use Rattle.std.specs.List.{insert, remove}
 use Rattle.std.proofs.lemmas.List.{get_or_default}
 use Rattle.std.proofs.lemmas.List.Edits.{get_or-insert_above, get_or-insert_at, get_or-insert_below, get_or-remove_above, get_or-remove_below, length-insert, length-remove}
 use Rattle.host_index.specs.declared.entry.Entry.{Entry}
-use Rattle.host_index.specs.Entries.{IsSortedByRank, Keeps, KeepsBut, Splits, entry_at, has, is_entry, nothing, rank}
+use Rattle.host_index.specs.Entries.{IsSortedByRank, Keeps, KeepsBut, Splits, entry_at, has, is_entry, nothing, rank, rank_at}
 
 pub same_entry : (a b : Entry) → is_entry a b ≡ true → a ≡ b
 same_entry a b h = grind (arith, h)
@@ -90,16 +90,77 @@ module _ (es : List Entry) (e x : Entry) (p : ℕ) (within : p < length es) (is 
               let k : (i.place - 1) + 1 ≡ i.place = omega (arith, f) in
               has_in (remove es p) y (i.place - 1) (omega (arith, len_fewer, w, f)) (get_or-remove_above es p nothing (i.place - 1) (omega (arith, f)) within ∙ ap (λ j. get_or es j nothing) k ∙ i.is)
 
--- ---- as the calls say it
+-- ---- nothing else is there
 
-module _ (es fs : List Entry) (e : Entry) (p : ℕ) (s : Splits es (rank e) p) where
-  pub put_adds : (b : Bool) → fs ≡ (if b then insert es p e else es) → b ≡ true → has fs e ≡ true
-  put_adds true is h = subst (λ l. has l e ≡ true) (sym is) (inserted es e p s)
-  put_adds false is h = cc
+pub inserted_back : (es : List Entry) (e x : Entry) (p : ℕ) → p ≤ length es → is_entry e x ≡ false → has es x ≡ false → has (insert es p e) x ≡ false
+inserted_back es e x p inside other nay = go (has (insert es p e) x) refl
+  where
+    len : length (insert es p e) ≡ length es + 1
+    len = length-insert es p e inside
 
-  pub put_keeps : (b : Bool) → fs ≡ (if b then insert es p e else es) → Keeps es fs
-  put_keeps true is = subst (Keeps es) (sym is) (insert_keeps es e p s)
-  put_keeps false is = subst (Keeps es) (sym is) (λ x h. h)
+    no_truth : has es x ≡ true → ⊥
+    no_truth h = false_not_true (sym nay ∙ h)
+
+    at : (i : IsIn (insert es p e) x) → (b : Bool) → nat_lt i.place p ≡ b → (c : Bool) → nat_eq i.place p ≡ c → ⊥
+    at i true q c r = let f : i.place < p = grind (arith, q) in no_truth (has_in es x i.place (omega (arith, f, inside)) (sym (get_or-insert_below es p e nothing i.place f inside) ∙ i.is))
+    at i false q true r =
+        let k : i.place ≡ p = grind (arith, r) in
+        let z : e ≡ x = sym (get_or-insert_at es p e nothing inside) ∙ sym (ap (λ j. get_or (insert es p e) j nothing) k) ∙ i.is in
+        false_not_true (sym other ∙ subst (λ w. is_entry e w ≡ true) z (entry_itself e))
+    at i false q false r =
+        let f : p < i.place = grind (arith, q, r) in
+        let w = i.within in
+        let k : (i.place - 1) + 1 ≡ i.place = omega (arith, f) in
+        no_truth (has_in es x (i.place - 1) (omega (arith, len, w, f)) (sym (get_or-insert_above es p e nothing (i.place - 1) (omega (arith, f)) inside) ∙ ap (λ j. get_or (insert es p e) j nothing) k ∙ i.is))
+
+    go : (b : Bool) → has (insert es p e) x ≡ b → b ≡ false
+    go false h = refl
+    go true h = let i = find_in (insert es p e) x h in absurd (at i (nat_lt i.place p) refl (nat_eq i.place p) refl)
+
+pub removed_back : (es : List Entry) (x : Entry) (p : ℕ) → p < length es → has es x ≡ false → has (remove es p) x ≡ false
+removed_back es x p within nay = go (has (remove es p) x) refl
+  where
+    len : length (remove es p) + 1 ≡ length es
+    len = length-remove es p within
+
+    no_truth : has es x ≡ true → ⊥
+    no_truth h = false_not_true (sym nay ∙ h)
+
+    at : (i : IsIn (remove es p) x) → (b : Bool) → nat_lt i.place p ≡ b → ⊥
+    at i true q = let f : i.place < p = grind (arith, q) in no_truth (has_in es x i.place (omega (arith, f, within)) (sym (get_or-remove_below es p nothing i.place f within) ∙ i.is))
+    at i false q =
+        let f : p ≤ i.place = grind (arith, q) in
+        let w = i.within in
+        no_truth (has_in es x (i.place + 1) (omega (arith, len, w)) (sym (get_or-remove_above es p nothing i.place f within) ∙ i.is))
+
+    go : (b : Bool) → has (remove es p) x ≡ b → b ≡ false
+    go false h = refl
+    go true h = let i = find_in (remove es p) x h in absurd (at i (nat_lt i.place p) refl)
+
+-- where the entries of a key begin, the first is the one of the least place
+pub none_before : (es : List Entry) (key : Entry) (p m : ℕ) → IsSortedByRank es → Splits es (rank key) p → key.place ≡ 0 → p < length es → get_or es p nothing ≡ entry_at key m → (k : ℕ) → k < m → has es (entry_at key k) ≡ false
+none_before es key p m sorted s least inside is k less = go (has es (entry_at key k)) refl
+  where
+    here : rank_at es p ≡ rank (entry_at key m)
+    here = ap rank is
+
+    at : (i : IsIn es (entry_at key k)) → (b : Bool) → nat_lt i.place p ≡ b → (c : Bool) → nat_eq i.place p ≡ c → ⊥
+    at i true q c r =
+        let below : rank_at es i.place < rank key = s.below i.place (grind (arith, q)) in
+        let there : rank_at es i.place ≡ rank (entry_at key k) = ap rank i.is in
+        absurd (omega (arith, below, there, least))
+    at i false q true r =
+        let same : i.place ≡ p = grind (arith, r) in
+        let there : rank_at es p ≡ rank (entry_at key k) = ap (rank_at es) (sym same) ∙ ap rank i.is in
+        absurd (omega (arith, here, there, less))
+    at i false q false r =
+        let behind : rank_at es p ≤ rank_at es i.place = sorted p i.place (grind (arith, q, r)) i.within in
+        let there : rank_at es i.place ≡ rank (entry_at key k) = ap rank i.is in
+        absurd (omega (arith, behind, here, there, less))
+
+    go : (b : Bool) → has es (entry_at key k) ≡ b → b ≡ false
+    go false h = refl
+    go true h = let i = find_in es (entry_at key k) h in absurd (at i (nat_lt i.place p) refl (nat_eq i.place p) refl)
 
 -- ---- a key in front of all
 

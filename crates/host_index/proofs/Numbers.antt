@@ -1,6 +1,6 @@
 -- The entries of numbers in order.
-use Rattle.std.proofs.Common.{◌≡◌, ◌∙◌, ℕ, ◌+◌, ◌-◌, ◌<◌, ◌≤◌, List, [], ◌∷◌, ◌++◌, take, drop, length, get_or, Bool, true, false, nat_lt, nat_eq, suc, zero, refl, sym, subst, ap, arith}
-use Rattle.std.specs.Prelude.{Some, None, if◌then◌else◌, slice_get}
+use Rattle.std.proofs.Common.{◌≡◌, ◌∙◌, ℕ, ◌+◌, ◌-◌, ◌<◌, ◌≤◌, ◌/◌, List, [], ◌∷◌, ◌++◌, take, drop, length, get_or, Bool, true, false, nat_lt, nat_eq, suc, zero, refl, sym, subst, ap, arith}
+use Rattle.std.specs.Prelude.{Some, None, slice_get}
 use Rattle.std.specs.List.{insert, remove}
 use mathlib.Core.List.{map}
 use Rattle.std.proofs.lemmas.List.{get_or-map, length-map, map-append, take-map, drop-map}
@@ -9,7 +9,7 @@ use Rattle.host_index.specs.declared.entry.Entry.{Entry}
 use Rattle.std.proofs.lemmas.List.Edits.{get_or-insert_above, get_or-insert_at, get_or-insert_below, get_or-remove_above, get_or-remove_below, length-insert, length-remove}
 use Rattle.host_index.specs.Columns.{Frees, Puts, entry_in, is_free}
 use Rattle.host_index.specs.Entries.{IsSortedByRank, Splits, has, nothing, rank, rank_at}
-use Rattle.host_index.specs.Indexing.{IsIndex, IsOrdered, entries_in, number_at}
+use Rattle.host_index.specs.Indexing.{IsAmong, IsIndex, IsOrdered, entries_in, number_at}
 
 pub entry_of : (c : Columns) (os : List ℕ) (k : ℕ) → k < length os → get_or (entries_in c os) k nothing ≡ entry_in c (number_at os k)
 entry_of c os k within = get_or-map (λ n. entry_in c n) os k 0 nothing within
@@ -123,10 +123,16 @@ beyond j p u v = grind (arith, u, v)
 in_front : (j p : ℕ) → nat_lt j p ≡ true → j < p
 in_front j p u = grind (arith, u)
 
-equal : (m n : ℕ) → nat_eq m n ≡ true → m ≡ n
+from_there : (j p : ℕ) → nat_lt j p ≡ false → p ≤ j
+from_there j p u = grind (arith, u)
+
+differ : (m n : ℕ) → nat_eq m n ≡ false → n ≡ m → ⊥
+differ m n u v = absurd (grind (arith, u, v))
+
+pub equal : (m n : ℕ) → nat_eq m n ≡ true → m ≡ n
 equal m n h = grind (arith, h)
 
-not_free : true ≡ false → ⊥
+pub not_free : true ≡ false → ⊥
 not_free e = cc
 
 -- a number that is free is not among those that are taken
@@ -242,32 +248,34 @@ module _ (c d : Columns) (os : List ℕ) (p n : ℕ) (e : Entry) (was : IsIndex 
       let there : k - 1 < length os = omega (arith, len, within, l) in
       ap (λ m. is_free d (number_at (insert os p n) m)) is ∙ ap (is_free d) (get_or-insert_above os p n 0 (k - 1) (omega (arith, l)) inside) ∙ put.others_free (number_at os (k - 1)) (other (k - 1) there) ∙ was.taken (k - 1) there
 
+  shifted_in : (m : ℕ) → IsAmong os m → IsAmong (insert os p n) m
+  shifted_in m i = by (nat_lt i.place p) refl
+    where
+      by : (b : Bool) → nat_lt i.place p ≡ b → IsAmong (insert os p n) m
+      by true q = record { place = i.place; within = (let w = i.within in omega (arith, len, w)); is = get_or-insert_below os p n 0 i.place (in_front i.place p q) inside ∙ i.is }
+      by false q = record { place = i.place + 1; within = (let w = i.within in omega (arith, len, w)); is = get_or-insert_above os p n 0 i.place (from_there i.place p q) inside ∙ i.is }
+
+  listed_still : (m : ℕ) → m / 2 < length d.majors.items → nat_eq m n ≡ false → is_free d m ≡ false → IsAmong os m
+  listed_still m there apart is = was.listed m (omega (arith, there, put.len)) (sym (put.others_free m apart) ∙ is)
+
+  listed_at : (m : ℕ) → m / 2 < length d.majors.items → (b : Bool) → nat_eq m n ≡ b → is_free d m ≡ false → IsAmong (insert os p n) m
+  listed_at m there true q is = record { place = p; within = omega (arith, len, inside); is = get_or-insert_at os p n 0 inside ∙ sym (equal m n q) }
+  listed_at m there false q is = shifted_in m (listed_still m there q is)
+
   with_one : IsIndex d (insert os p n)
   with_one = record {
     as_many = put.as_many;
     ordered = λ i j h within. ordered_at i j h within (nat_lt i p) refl (nat_lt j p) refl (nat_eq i p) refl (nat_eq j p) refl;
     taken = λ k within. taken_at k within (nat_lt k p) refl (nat_eq k p) refl;
-  }
-
-  with_none : IsIndex d os
-  with_none = record {
-    as_many = put.as_many;
-    ordered = λ i j h within.
-        let q : old i < old j = was.ordered i j h within in
-        let y = ap rank (same i (omega (arith, h, within))) in
-        let z = ap rank (same j within) in
-        omega (arith, q, y, z);
-    taken = λ k within. put.others_free (number_at os k) (other k within) ∙ was.taken k within;
+    listed = λ m there. listed_at m there (nat_eq m n) refl;
   }
 
   -- as the calls say it
-  pub added : (b : Bool) (qs : List ℕ) → qs ≡ (if b then insert os p n else os) → IsIndex d qs
-  added true qs is = subst (IsIndex d) (sym is) with_one
-  added false qs is = subst (IsIndex d) (sym is) with_none
+  pub added : (qs : List ℕ) → qs ≡ insert os p n → IsIndex d qs
+  added qs is = subst (IsIndex d) (sym is) with_one
 
-  pub entries_now : (b : Bool) (qs : List ℕ) → qs ≡ (if b then insert os p n else os) → entries_in d qs ≡ (if b then insert (entries_in c os) p e else entries_in c os)
-  entries_now true qs is = ap (entries_in d) is ∙ entries_added
-  entries_now false qs is = ap (entries_in d) is ∙ entries_put
+  pub entries_now : (qs : List ℕ) → qs ≡ insert os p n → entries_in d qs ≡ insert (entries_in c os) p e
+  entries_now qs is = ap (entries_in d) is ∙ entries_added
 
 module _ (c d : Columns) (os : List ℕ) (p : ℕ) (within : p < length os) (was : IsIndex c os) (frees : Frees (number_at os p) c d) where
   len_less : length (remove os p) + 1 ≡ length os
@@ -317,6 +325,24 @@ module _ (c d : Columns) (os : List ℕ) (p : ℕ) (within : p < length os) (was
   onward i j h false u true v = absurd (contrary i j p u v h)
   onward i j h false u false v = omega (arith, h)
 
+  shifted_out : (m : ℕ) → nat_eq m (number_at os p) ≡ false → IsAmong os m → IsAmong (remove os p) m
+  shifted_out m other i = by (nat_lt i.place p) refl (nat_eq i.place p) refl
+    where
+      by : (b : Bool) → nat_lt i.place p ≡ b → (f : Bool) → nat_eq i.place p ≡ f → IsAmong (remove os p) m
+      by true q f r = record { place = i.place; within = (let h = in_front i.place p q in omega (arith, len_less, within, h)); is = get_or-remove_below os p 0 i.place (in_front i.place p q) within ∙ i.is }
+      by false q true r =
+          let same : number_at os p ≡ m = sym (ap (number_at os) (equal i.place p r)) ∙ i.is in
+          absurd (differ m (number_at os p) other same)
+      by false q false r =
+          let h : p < i.place = beyond i.place p q r in
+          let w = i.within in
+          let k : (i.place - 1) + 1 ≡ i.place = omega (arith, h) in
+          record { place = i.place - 1; within = omega (arith, len_less, w, h); is = get_or-remove_above os p 0 (i.place - 1) (omega (arith, h)) within ∙ ap (number_at os) k ∙ i.is }
+
+  listed_less : (m : ℕ) → m / 2 < length c.majors.items → (b : Bool) → nat_eq m (number_at os p) ≡ b → is_free d m ≡ false → IsAmong (remove os p) m
+  listed_less m there true q is = absurd (not_free (sym (subst (λ k. is_free d k ≡ true) (sym (equal m (number_at os p) q)) (frees.freed (subst (λ k. k / 2 < length c.majors.items) (equal m (number_at os p) q) there))) ∙ is))
+  listed_less m there false q is = shifted_out m q (was.listed m there (sym (frees.others_free m q) ∙ is))
+
   pub removed : IsIndex d (remove os p)
   removed = record {
     as_many = frees.as_many;
@@ -326,4 +352,5 @@ module _ (c d : Columns) (os : List ℕ) (p : ℕ) (within : p < length os) (was
         let z = ap rank (kept j inside (nat_lt j p) refl) in
         omega (arith, q, y, z);
     taken = λ k inside. ap (is_free d) (stood k (nat_lt k p) refl) ∙ frees.others_free (number_at os (from k (nat_lt k p))) (once (from k (nat_lt k p)) (there k inside (nat_lt k p)) (apart k (nat_lt k p) refl)) ∙ was.taken (from k (nat_lt k p)) (there k inside (nat_lt k p));
+    listed = λ m there. listed_less m (omega (arith, there, frees.len)) (nat_eq m (number_at os p)) refl;
   }

@@ -35,6 +35,12 @@ is_free c n =
     if n % 2 == 0 then get_or c.majors.items (n / 2) 0 == 340282366920938463463374607431768211455
     else get_or c.moments.items (n / 2) 0 == 18446744073709551615
 
+-- the key of this number is there, and is this one
+pub record IsPut (n : ℕ) (e : Entry) (c : Columns) : Type 0 where
+  pub within : n / 2 < length c.majors.items
+  pub taken : is_free c n ≡ false
+  pub here : entry_in c n ≡ e
+
 -- ---- what is done
 
 pub record PutsFirst (e : Entry) (c d : Columns) : Type 0 where
@@ -62,9 +68,12 @@ pub record Puts (n : ℕ) (e : Entry) (c d : Columns) : Type 0 where
   pub others : (k : ℕ) → nat_eq k n ≡ false → entry_in d k ≡ entry_in c k
   pub others_free : (k : ℕ) → nat_eq k n ≡ false → is_free d k ≡ is_free c k
   pub as_many : AreAsMany d
+  pub len : length d.majors.items ≡ length c.majors.items
 
--- the others are what they were
+-- it is free, where it is there, and the others are what they were
 pub record Frees (n : ℕ) (c d : Columns) : Type 0 where
+  pub freed : n / 2 < length c.majors.items → is_free d n ≡ true
   pub others : (k : ℕ) → nat_eq k n ≡ false → entry_in d k ≡ entry_in c k
   pub others_free : (k : ℕ) → nat_eq k n ≡ false → is_free d k ≡ is_free c k
   pub as_many : AreAsMany d
+  pub len : length d.majors.items ≡ length c.majors.items

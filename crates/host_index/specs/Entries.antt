@@ -41,3 +41,12 @@ KeepsBut e es fs = (x : Entry) → is_entry e x ≡ false → has es x ≡ true 
 -- the entry of a place under the key of another
 abbrev pub entry_at : Entry → ℕ → Entry
 entry_at key k = record { major = key.major; minor = key.minor; place = k }
+
+-- what was among them of other places still is
+abbrev pub KeepsElsewhere : ℕ → List Entry → List Entry → Type 0
+KeepsElsewhere place es fs = (x : Entry) → nat_eq x.place place ≡ false → has es x ≡ true → has fs x ≡ true
+
+-- the first place under a key
+pub record IsFirst (es : List Entry) (key : Entry) (place : ℕ) : Type 0 where
+  pub here : has es (entry_at key place) ≡ true
+  pub before : (k : ℕ) → k < place → has es (entry_at key k) ≡ false

@@ -1,8 +1,8 @@
 -- Keys in order, by their numbers.
-use Rattle.std.specs.Prelude.{ℕ, ◌≡◌, ◌<◌, false, List, length, get_or}
+use Rattle.std.specs.Prelude.{ℕ, ◌≡◌, ◌<◌, ◌/◌, false, List, length, get_or}
 use mathlib.Core.List.{map}
 use Rattle.host_index.specs.Columns.{AreAsMany, entry_in, is_free}
-use Rattle.host_index.specs.Entries.{Splits, rank}
+use Rattle.host_index.specs.Entries.{rank}
 use Rattle.host_index.specs.declared.columns.Columns.{Columns}
 use Rattle.host_index.specs.declared.entry.Entry.{Entry}
 
@@ -17,13 +17,16 @@ abbrev pub IsOrdered : Columns → List ℕ → Type 0
 IsOrdered c os =
     (i j : ℕ) → i < j → j < length os → rank (entry_in c (number_at os i)) < rank (entry_in c (number_at os j))
 
--- and none is free
+-- it is the number of one of them
+pub record IsAmong (os : List ℕ) (n : ℕ) : Type 0 where
+  pub place : ℕ
+  pub within : place < length os
+  pub is : number_at os place ≡ n
+
+-- and none is free, and no others are taken
 pub record IsIndex (c : Columns) (os : List ℕ) : Type 0 where
   pub as_many : AreAsMany c
   pub ordered : IsOrdered c os
   pub taken : (k : ℕ) → k < length os → is_free c (number_at os k) ≡ false
+  pub listed : (n : ℕ) → n / 2 < length c.majors.items → is_free c n ≡ false → IsAmong os n
 
--- the same, with the place where the entries of a key begin
-pub record Knows (c : Columns) (os : List ℕ) (key : Entry) (p : ℕ) : Type 0 where
-  pub index : IsIndex c os
-  pub begins : Splits (entries_in c os) (rank key) p

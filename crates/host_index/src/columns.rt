@@ -1,7 +1,7 @@
 //! The two keys of each place, in columns of 30 bytes a place together.
-ghost use Rattle.std.specs.Prelude.{◌≡◌, ◌≤◌, ◌<◌, ◌*◌, IfOk, length, true, false};
-ghost use Rattle.host_index.specs.Columns.{AreAsMany, Frees, Puts, PutsFirst, PutsSecond, entry_in, first_in, is_free};
-ghost use Rattle.host_index.specs.Columns.{number_of, second_in};
+ghost use Rattle.std.specs.Prelude.{ℕ, ◌≡◌, ◌≤◌, ◌<◌, ◌+◌, ◌*◌, ◌/◌, IfOk, length, true, false};
+ghost use Rattle.host_index.specs.Columns.{AreAsMany, Frees, IsPut, Puts, PutsFirst, PutsSecond, entry_in, first_in};
+ghost use Rattle.host_index.specs.Columns.{is_free, number_of, second_in};
 
 use crate::entry::{Entry, Which};
 use std::alloc::{AllocError, Global};
@@ -45,7 +45,8 @@ pub(crate) fn number_of(which: Which, place: usize) -> usize
 impl Columns {
     /// Columns of so many places, or of as many as there are at most, where all is free.
     pub(crate) fn new(alloc: Global, count: usize) -> Result<Columns, AllocError>
-        ensures { IfOk result (λ c. AreAsMany c) }
+        ensures as_many { IfOk result (λ c. AreAsMany c) }
+        ensures free { IfOk result (λ c. (n : ℕ) → n / 2 < length c.majors.items → is_free c n ≡ true) }
     {
         let count = count.min(MOST);
         Ok(Columns {
@@ -111,10 +112,66 @@ impl Columns {
         }
     }
 
+    /// Whether this key is there. Where the answer is no, it says nothing.
+    pub(crate) fn has(&self, which: Which, entry: Entry) -> bool
+        requires { AreAsMany self.now }
+        ensures { result ≡ true → IsPut (number_of which entry.place) entry self.now }
+    {
+        match which {
+            Which::First => self.has_first(entry),
+            Which::Second => self.has_second(entry),
+        }
+    }
+
+    fn has_first(&self, entry: Entry) -> bool
+        requires { AreAsMany self.now }
+        ensures { result ≡ true → IsPut (2 * entry.place) entry self.now }
+    {
+        match (self.majors.get(entry.place), self.minors.get(entry.place)) {
+            (Some(major), Some(minor)) => {
+                *major == entry.major && *major != NO_MAJOR && u64::from(*minor) == entry.minor
+            }
+            _ => false,
+        }
+    }
+
+    fn has_second(&self, entry: Entry) -> bool
+        requires { AreAsMany self.now }
+        ensures { result ≡ true → IsPut (2 * entry.place + 1) entry self.now }
+    {
+        match (self.doors.get(entry.place), self.moments.get(entry.place)) {
+            (Some(door), Some(moment)) => {
+                *moment == entry.minor
+                    && *moment != NO_MINOR
+                    && LEAST + u128::from(*door) == entry.major
+            }
+            _ => false,
+        }
+    }
+
+    /// Whether the key of this number is free, or of no place.
+    pub(crate) fn is_free(&self, number: usize) -> bool
+        requires { AreAsMany self.now }
+        ensures { result ≡ false → (number / 2 < length self.now.majors.items) × (is_free self.now number ≡ false) }
+    {
+        if number % 2 == 0 {
+            match self.majors.get(number / 2) {
+                Some(major) => *major == NO_MAJOR,
+                None => true,
+            }
+        } else {
+            match self.moments.get(number / 2) {
+                Some(moment) => *moment == NO_MINOR,
+                None => true,
+            }
+        }
+    }
+
     /// Puts a key of a place where it is free. Whether it was, and the key is one that fits there.
     pub(crate) fn put(&mut self, which: Which, entry: Entry) -> bool
         requires { AreAsMany self.old }
         ensures put { result ≡ true → Puts (number_of which entry.place) entry self.old self.new }
+        ensures within { result ≡ true → entry.place < length self.old.majors.items }
         ensures same { result ≡ false → self.new ≡ self.old }
     {
         if self.len() <= entry.place {

@@ -1,11 +1,14 @@
 //! An index: places under keys, in order.
-ghost use Rattle.std.specs.Prelude.{ℕ, ◌≡◌, ◌<◌, ◌^◌, IfOk, length, get_or, true, false, []};
+ghost use Rattle.std.specs.Prelude.{ℕ, ◌≡◌, ◌<◌, ◌*◌, ◌^◌, IfOk, IfSome, length, get_or, true, false, []};
 ghost use Rattle.host_index.specs.Columns.{AreAsMany, entry_in};
-ghost use Rattle.host_index.specs.Entries.{IsSortedByRank, Keeps, KeepsBut, Splits, entry_at, has, nothing, rank};
+ghost use Rattle.host_index.specs.Entries.{IsFirst, IsSortedByRank, Keeps, KeepsBut, KeepsElsewhere, Splits, entry_at};
+ghost use Rattle.host_index.specs.Entries.{has, nothing, rank};
 ghost use Rattle.host_index.specs.Indexing.{IsOrdered, entries_in, number_at};
+ghost use Rattle.host_index.specs.Known.{IsFirstIn};
 
 use crate::columns::{Columns, number_of};
 use crate::entry::{Entry, Which, is_entry, is_key_less, is_less};
+use crate::known::Known;
 use std::alloc::{AllocError, Global};
 use std::marker::Model;
 
@@ -20,18 +23,59 @@ pub struct Index {
     // the key that was sought last, and where its entries begin
     sought: Entry,
     begins: usize,
+    // first places under keys that were sought: a place that is known is mostly the right one
+    known: Known,
 }
 
 impl Model for Index {
     ghost use Rattle.std.specs.Prelude.{List};
-    ghost use Rattle.host_index.specs.Indexing.{Knows, entries_in};
+    ghost use Rattle.host_index.specs.Indexing.{entries_in};
+    ghost use Rattle.host_index.specs.Known.{Knows};
     ghost use Rattle.host_index.specs.declared.entry.Entry.{Entry};
 
     ghost Value = { List Entry };
 
     ghost view = { λ i. entries_in i.columns i.order.items };
 
-    ghost invariant = { λ i. Knows i.columns i.order.items i.sought i.begins };
+    ghost invariant = { λ i. Knows i.columns i.order.items i.sought i.begins i.known.places.items };
+}
+
+// The entry of a place under the key of another.
+fn entry_of(key: Entry, place: usize) -> Entry
+    ensures { result ≡ entry_at key place }
+{
+    Entry {
+        major: key.major,
+        minor: key.minor,
+        place,
+    }
+}
+
+// The place that has this key as its first one, where the key has this number.
+fn place_under(columns: &Columns, number: u32, key: Entry) -> Option<u32>
+    requires { AreAsMany columns.now }
+    ensures { IfSome result
+        (λ place. (number ≡ 2 * place) × (entry_in columns.now number ≡ entry_at key place)) }
+{
+    let entry = columns.get(number as usize);
+    if number % 2 == 0 && entry.major == key.major && entry.minor == key.minor {
+        Some(number / 2)
+    } else {
+        None
+    }
+}
+
+// The first place under the key, where the entries of the key begin here and it is the place's first key.
+fn first_under(columns: &Columns, order: &[u32], key: Entry, begins: usize) -> Option<u32>
+    requires as_many { AreAsMany columns.now }
+    requires ordered { IsOrdered columns.now order.now }
+    requires begins { Splits (entries_in columns.now order.now) (rank key) begins }
+    ensures { IfSome result (λ place. IsFirstIn columns.now order.now key place) }
+{
+    match order.get(begins) {
+        Some(number) if key.place == 0 => place_under(columns, *number, key),
+        _ => None,
+    }
 }
 
 // A key that no entry stands before.
@@ -108,6 +152,7 @@ impl Index {
             order,
             sought: least_key(),
             begins: 0,
+            known: Known::new(alloc)?,
         })
     }
 
@@ -137,13 +182,47 @@ impl Index {
         begin(&self.columns, &self.order, key)
     }
 
-    /// Seeks a key: `lower` does not search for it until an entry is added or removed, or another key is sought.
+    /// Seeks a key, so that `known` tells the first place under it, and `lower` does not search for it until an entry is
+    /// added or removed, or another key is sought.
     pub fn seek(&mut self, key: Entry)
         ensures { self.new ≡ self.old }
     {
-        if !is_entry(key, self.sought) {
-            self.begins = lower(&self.columns, &self.order, key);
-            self.sought = key;
+        if self.known(key).is_none() && !is_entry(key, self.sought) {
+            self.search(key);
+        }
+    }
+
+    // Apart from `seek`, which mostly knows the key, so that it saves few registers.
+    #[inline(never)]
+    fn search(&mut self, key: Entry)
+        ensures { self.new ≡ self.old }
+    {
+        let begins = lower(&self.columns, &self.order, key);
+        let first = first_under(&self.columns, &self.order, key, begins);
+        self.known.learn(key, first);
+        self.begins = begins;
+        self.sought = key;
+    }
+
+    /// The first place under this key, where the key was sought; none where that is not known.
+    pub fn known(&self, key: Entry) -> Option<usize>
+        ensures { IfSome result (λ place. IsFirst self.now key place) }
+    {
+        let place = self.known.get(key);
+        if self.columns.has(Which::First, entry_of(key, place)) {
+            Some(place)
+        } else {
+            None
+        }
+    }
+
+    /// Whether a place has this key and no other, or none where none is given. Where the answer is no, it says nothing.
+    pub fn is_filed(&self, which: Which, place: usize, key: Option<&Entry>) -> bool
+        ensures { result ≡ true → IfSome key.entry (λ e. has self.now (entry_at e.now place) ≡ true) }
+    {
+        match key {
+            Some(key) => self.columns.has(which, entry_of(*key, place)),
+            None => place >= self.columns.len() || self.columns.is_free(number_of(which, place)),
         }
     }
 
@@ -173,6 +252,7 @@ impl Index {
         let number = number_of(which, entry.place) as u32;
         self.sought = least_key();
         self.begins = 0;
+        self.known.forget(entry);
         self.order.insert(place, number).is_ok()
     }
 
@@ -201,5 +281,19 @@ impl Index {
         self.sought = least_key();
         self.begins = 0;
         self.columns.free(number as usize);
+    }
+
+    /// Removes a key of a place, whatever it is.
+    pub fn unfile(&mut self, which: Which, place: usize)
+        ensures { KeepsElsewhere place self.old self.new }
+    {
+        if place >= self.columns.len() {
+            return;
+        }
+        let number = number_of(which, place);
+        if !self.columns.is_free(number) {
+            let entry = self.columns.get(number);
+            self.remove(entry);
+        }
     }
 }

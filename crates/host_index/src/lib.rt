@@ -4,6 +4,7 @@
 pub mod columns;
 pub mod entry;
 pub mod index;
+pub mod known;
 
 pub use entry::{Entry, Which};
 pub use index::Index;

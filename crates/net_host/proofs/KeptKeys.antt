@@ -1,5 +1,5 @@
 -- What leaves the keys of a place as they are.
-use Rattle.std.proofs.Common.{◌≡◌, ◌∙◌, ◌<◌, ℕ, List, Bool, true, false, length, nat_eq, Option, Some, None, refl, sym, subst, ap, arith}
+use Rattle.std.proofs.Common.{◌≡◌, ◌∙◌, ◌<◌, ℕ, List, Bool, true, false, length, nat_eq, nat_lt, ◌/◌, Option, Some, None, refl, sym, subst, ap, arith}
 use Rattle.std.specs.Prelude.{IfSome, slice_get, if◌then◌else◌}
 use Rattle.std.proofs.lemmas.Option.{slice_get_within}
 use Rattle.std.proofs.lemmas.Bool.{and_parts}
@@ -16,7 +16,6 @@ use Rattle.net_host.specs.declared.guard.Guard.{Guard}
 use Rattle.net_host.specs.declared.guard.GuardSettings.{GuardSettings}
 use Rattle.net_host.specs.declared.guard.Phase.{Phase}
 use Rattle.host_index.specs.declared.entry.Entry.{Entry}
-use Rattle.net_host.specs.declared.key.Lent.{Lent}
 use Rattle.net_host.specs.declared.slot.Slot.{Slot}
 use Rattle.net_host.specs.Datagrams as datagrams
 use Rattle.host_index.specs.Entries.{entry_at, has}
@@ -56,7 +55,7 @@ watched_in st now (Some (socket.Udp x)) t g h w e = ap keys_in w.0
 watched_in st now (Some (socket.Icmp x)) t g h w e = ap keys_in w.0
 watched_in st now None t g h w e = ap keys_in w.0
 
-pub watch_keeps : {G : Type 0} (st : GuardSettings) (now : Instant) (complete : Bool) (lent : Option Lent) (ss ts : List (Slot G)) (es : List Entry) (ws : List ℕ) (i : ℕ) → IfSome (slice_get ss i) (λ s. ends st now s ≡ false) → ChangesAt (λ b a. Watches st now b a) ss i ts → IsIndexed (λ s. keys_of s) complete lent ss es ws → IsIndexed (λ s. keys_of s) complete lent ts es ws
+pub watch_keeps : {G : Type 0} (st : GuardSettings) (now : Instant) (complete : Bool) (lent : Option ℕ) (ss ts : List (Slot G)) (es : List Entry) (ws : List ℕ) (i : ℕ) → IfSome (slice_get ss i) (λ s. ends st now s ≡ false) → ChangesAt (λ b a. Watches st now b a) ss i ts → IsIndexed (λ s. keys_of s) complete lent ss es ws → IsIndexed (λ s. keys_of s) complete lent ts es ws
 watch_keeps st now complete lent ss ts es ws i kept c h =
     let e : ends st now c.before ≡ false = subst (λ o. IfSome o (λ s. ends st now s ≡ false)) c.was kept in
     keeps_keys (λ s. keys_of s) (λ b a. Watches st now b a × (ends st now b ≡ false)) complete lent ss ts es ws i (λ b a w. watched_in st now b.socket a.socket b.guard a.guard w.0.looked w.1) (record { before = c.before; after = c.after; was = c.was; changed = (c.changed, e); now = c.now }) h
@@ -74,7 +73,7 @@ raw_keeps f ip payload (Some (socket.Udp x)) t h = ap keys_in h
 raw_keeps f ip payload (Some (socket.Icmp x)) t h = ap keys_in h
 raw_keeps f ip payload None t h = ap keys_in h
 
-pub copies_keep : {G : Type 0} (f : Facts) (ip : IpRepr) (payload : List ℕ) (complete : Bool) (lent : Option Lent) (ss ts : List (Slot G)) (es : List Entry) (ws : List ℕ) → ChangesEach (λ b a. raw_copies.CopiesPacket f ip payload b a) ss ts → IsIndexed (λ s. keys_of s) complete lent ss es ws → IsIndexed (λ s. keys_of s) complete lent ts es ws
+pub copies_keep : {G : Type 0} (f : Facts) (ip : IpRepr) (payload : List ℕ) (complete : Bool) (lent : Option ℕ) (ss ts : List (Slot G)) (es : List Entry) (ws : List ℕ) → ChangesEach (λ b a. raw_copies.CopiesPacket f ip payload b a) ss ts → IsIndexed (λ s. keys_of s) complete lent ss es ws → IsIndexed (λ s. keys_of s) complete lent ts es ws
 copies_keep f ip payload complete lent ss ts es ws c h = each_keeps (λ s. keys_of s) (λ b a. raw_copies.CopiesPacket f ip payload b a) complete lent ss ts es ws (λ b a w. raw_keeps f ip payload b.socket a.socket w.copied) c h
 
 mail_keeps : {G : Type 0} (f : Facts) (m : AnyMail) (s t : Option (Socket G)) → messages.SocketCopies f s m t → keys_in t ≡ keys_in s
@@ -88,7 +87,7 @@ mail_keeps f m (Some (socket.Udp x)) t h = ap keys_in h
 mail_keeps f m (Some (socket.Raw x)) t h = ap keys_in h
 mail_keeps f m None t h = ap keys_in h
 
-pub mails_keep : {G : Type 0} (f : Facts) (m : AnyMail) (complete : Bool) (lent : Option Lent) (ss ts : List (Slot G)) (es : List Entry) (ws : List ℕ) → ChangesEach (λ b a. messages.Copies f m b a) ss ts → IsIndexed (λ s. keys_of s) complete lent ss es ws → IsIndexed (λ s. keys_of s) complete lent ts es ws
+pub mails_keep : {G : Type 0} (f : Facts) (m : AnyMail) (complete : Bool) (lent : Option ℕ) (ss ts : List (Slot G)) (es : List Entry) (ws : List ℕ) → ChangesEach (λ b a. messages.Copies f m b a) ss ts → IsIndexed (λ s. keys_of s) complete lent ss es ws → IsIndexed (λ s. keys_of s) complete lent ts es ws
 mails_keep f m complete lent ss ts es ws c h = each_keeps (λ s. keys_of s) (λ b a. messages.Copies f m b a) complete lent ss ts es ws (λ b a w. mail_keeps f m b.socket a.socket w.copied) c h
 
 datagram_keeps : {G : Type 0} (ip : IpRepr) (u : UdpRepr) (payload : List ℕ) (s t : Option (Socket G)) → datagrams.SocketHears s ip u payload t → keys_in t ≡ keys_in s
@@ -102,7 +101,7 @@ datagram_keeps ip u payload (Some (socket.Icmp x)) t h = absurd h
 datagram_keeps ip u payload (Some (socket.Raw x)) t h = absurd h
 datagram_keeps ip u payload None t h = absurd h
 
-pub heard_keeps : {G : Type 0} (found : Option ℕ) (ip : IpRepr) (u : UdpRepr) (payload : List ℕ) (complete : Bool) (lent : Option Lent) (ss ts : List (Slot G)) (es : List Entry) (ws : List ℕ) → datagrams.HeardBy found ss ip u payload ts → IsIndexed (λ s. keys_of s) complete lent ss es ws → IsIndexed (λ s. keys_of s) complete lent ts es ws
+pub heard_keeps : {G : Type 0} (found : Option ℕ) (ip : IpRepr) (u : UdpRepr) (payload : List ℕ) (complete : Bool) (lent : Option ℕ) (ss ts : List (Slot G)) (es : List Entry) (ws : List ℕ) → datagrams.HeardBy found ss ip u payload ts → IsIndexed (λ s. keys_of s) complete lent ss es ws → IsIndexed (λ s. keys_of s) complete lent ts es ws
 heard_keeps None ip u payload complete lent ss ts es ws c h = subst (λ us. IsIndexed (λ s. keys_of s) complete lent us es ws) (sym c) h
 heard_keeps (Some i) ip u payload complete lent ss ts es ws c h = keeps_keys (λ s. keys_of s) (λ b a. datagrams.Hears ip u payload b a) complete lent ss ts es ws i (λ b a w. datagram_keeps ip u payload b.socket a.socket w.heard) c h
 
@@ -125,14 +124,14 @@ module _ {G : Type 0} (ss : List (Slot G)) (es : List Entry) (ws : List ℕ) (no
       let filed : are_filed es k (keys_of s) ≡ true = (and_parts (are_filed es k (keys_of s)) (is_noted ws k (keys_of s).free) h).0 in
       not_listed k s.socket (none k (slice_get_within ss k s at)) (and_parts (is_under es k (keys_of s).first) (is_under es k (keys_of s).second) filed).0
 
-  pub no_raw : (complete : Bool) (lent : Option Lent) → complete ≡ true → IsIndexed (λ s. keys_of s) complete lent ss es ws → IfSome lent (λ l. IfSome (slice_get ss l.place) (λ s. raw_copies.is_raw s ≡ false)) → (k : ℕ) → IfSome (slice_get ss k) (λ s. raw_copies.is_raw s ≡ false)
+  pub no_raw : (complete : Bool) (lent : Option ℕ) → complete ≡ true → IsIndexed (λ s. keys_of s) complete lent ss es ws → IfSome lent (λ l. IfSome (slice_get ss l) (λ s. raw_copies.is_raw s ≡ false)) → (k : ℕ) → IfSome (slice_get ss k) (λ s. raw_copies.is_raw s ≡ false)
   no_raw false lent whole h l k = absurd (no_truth whole)
   no_raw true None whole h l k = kept_is_none k (slice_get ss k) refl (h k)
-  no_raw true (Some l) whole h not k = by (nat_eq k l.place) refl (h k)
+  no_raw true (Some l) whole h not k = by (nat_eq k l) refl (h k)
     where
-      by : (b : Bool) → nat_eq k l.place ≡ b → (if b then is_kept true es ws k l.keys else is_kept_of (λ s. keys_of s) true es ws k (slice_get ss k)) ≡ true → IfSome (slice_get ss k) (λ s. raw_copies.is_raw s ≡ false)
+      by : (b : Bool) → nat_eq k l ≡ b → (if b then nat_lt (k / 64) (length ws) else is_kept_of (λ s. keys_of s) true es ws k (slice_get ss k)) ≡ true → IfSome (slice_get ss k) (λ s. raw_copies.is_raw s ≡ false)
       by true e f =
-          let same : l.place ≡ k = grind (arith, e) in
+          let same : l ≡ k = grind (arith, e) in
           subst (λ j. IfSome (slice_get ss j) (λ s. raw_copies.is_raw s ≡ false)) same not
       by false e f = kept_is_none k (slice_get ss k) refl f
 

@@ -18,36 +18,18 @@ use Rattle.smoltcp_socket.specs.declared.socket.Socket.TheVariants as socket
 use Rattle.host_index.specs.declared.entry.Entry.{Entry}
 use Rattle.net_host.specs.declared.key.Key.{Key}
 use Rattle.net_host.specs.declared.key.Key.TheVariants as key
-use Rattle.net_host.specs.declared.key.Keys.{Keys}
 use Rattle.net_host.specs.declared.slot.Slot.{Slot}
 use Rattle.net_host.specs.Datagrams as datagrams
-use Rattle.host_index.specs.Entries.{entry_at, has, is_entry}
+use Rattle.host_index.specs.Entries.{entry_at, has}
 use Rattle.net_host.specs.Entries.{FindsListed}
 use Rattle.net_host.specs.Filing.{connection_by, connection_key, first_by, listener_by, keys_in, keys_of, listener_key, number_of, udp_key}
-use Rattle.net_host.specs.Indexing.{are_filed, is_filed, is_under, same_key}
+use Rattle.net_host.specs.Indexing.{are_filed, is_filed, is_under}
 use Rattle.net_host.specs.Finding.{key_of_segment}
 use Rattle.net_host.specs.Segments.{TakesIn}
 use Rattle.net_host.specs.Walks.{Finds}
 
 no_truth : false ≡ true → ⊥
 no_truth e = cc
-
--- ---- the same keys
-
-pub same_entries : (a b : Entry) → is_entry a b ≡ true → a ≡ b
-same_entries a b h = grind (arith, h)
-
-same_key_is : (a b : Key) → same_key a b ≡ true → a ≡ b
-same_key_is key.Nothing key.Nothing h = refl
-same_key_is key.Nothing key.Unknown h = absurd (no_truth h)
-same_key_is key.Nothing (key.Under b) h = absurd (no_truth h)
-same_key_is key.Unknown b h = absurd (no_truth h)
-same_key_is (key.Under a) key.Nothing h = absurd (no_truth h)
-same_key_is (key.Under a) key.Unknown h = absurd (no_truth h)
-same_key_is (key.Under a) (key.Under b) h = ap key.Under (same_entries a b h)
-
-pub same_keys : (a b : Keys) → same_key a.first b.first ≡ true → same_key a.second b.second ≡ true → a.free ≡ b.free → a ≡ b
-same_keys a b first second free = ap (λ q. record { first = q; second = a.second; free = a.free }) (same_key_is a.first b.first first) ∙ ap (λ q. record { first = b.first; second = q; free = a.free }) (same_key_is a.second b.second second) ∙ ap (λ q. record { first = b.first; second = b.second; free = q }) free
 
 module _ (es : List Entry) (k : ℕ) (ip : IpRepr) (s : Segment) where
   -- ---- a connection

@@ -1,5 +1,5 @@
 -- A socket in TIME-WAIT that listened for a segment, and one that serves its port, are filed under its port.
-use Rattle.std.proofs.Common.{◌≡◌, ◌∙◌, ℕ, List, Bool, true, false, Option, Some, None, refl, sym, subst, ap, arith}
+use Rattle.std.proofs.Common.{◌≡◌, ◌∙◌, ℕ, List, Bool, true, false, Option, Some, None, refl, sym, subst, ap, arith, nat_eq, ◌<◌}
 use Rattle.std.specs.Prelude.{IfSome, slice_get, ◌≤ℤ◌, ◌<ℤ◌, ◌==◌, if◌then◌else◌}
 use Rattle.std.proofs.lemmas.Bool.{and_parts}
 use Rattle.ip_wire.specs.declared.repr.IpRepr.{IpRepr}
@@ -11,12 +11,13 @@ use Rattle.sock_tcp.specs.declared.state.State.TheVariants as state
 use Rattle.smoltcp_socket.specs.declared.socket.Socket.{Socket}
 use Rattle.smoltcp_socket.specs.declared.socket.Socket.TheVariants as socket
 use Rattle.host_index.specs.declared.entry.Entry.{Entry}
+use Rattle.net_host.specs.declared.key.Key.TheVariants as key
 use Rattle.net_host.specs.declared.slot.Slot.{Slot}
 use Rattle.host_index.specs.Entries.{entry_at, has}
 use Rattle.net_host.specs.Entries.{FindsEarliestListed, IsListedOf, is_ordered, order_of, ordered}
 use Rattle.std.proofs.lemmas.Option.{slice_get_within}
 use Rattle.net_host.specs.Finding.{RestsAt, with_minor}
-use Rattle.net_host.specs.Filing.{keys_in, keys_of, rest_by, rest_major, second_by, server_key}
+use Rattle.net_host.specs.Filing.{keys_in, keys_of, opened_by, rest_by, rest_major, second_by, server_key}
 use Rattle.net_host.specs.Indexing.{are_filed, is_filed, is_under}
 use Rattle.net_host.specs.Resting.{EndsIn, FindsEarliest, OnlyOf, RestsIn, RestsUntil, ServesIn, is_resting, is_serving}
 
@@ -28,8 +29,16 @@ module _ (es : List Entry) (k : ℕ) (ip : IpRepr) (s : Segment) where
   listed_if true port t e f = (e, f)
   listed_if false port t e f = absurd (no_truth f)
 
-  ending : (st : State) (end : Option Instant) (port : ℕ) (t : Instant) → is_resting st ≡ true → end ≡ Some t → is_under es k (second_by st end port) ≡ true → IsListedOf es (rest_major port) t k
-  ending state.TimeWait end port t r is f = listed_if (is_ordered t) port t refl (subst (λ e. is_under es k (second_by state.TimeWait e port) ≡ true) is f)
+  -- the port of a listener is not 0
+  opened : (st : State) (end : Option Instant) (port : ℕ) → 0 < port → is_under es k (second_by st end port) ≡ true → is_under es k (opened_by st end port) ≡ true
+  opened st end port more f = go (nat_eq port 0) refl f
+    where
+      go : (b : Bool) → nat_eq port 0 ≡ b → is_under es k (if b then key.Nothing else opened_by st end port) ≡ true → is_under es k (opened_by st end port) ≡ true
+      go true e h = absurd (grind (arith, e, more))
+      go false e h = h
+
+  ending : (st : State) (end : Option Instant) (port : ℕ) (t : Instant) → is_resting st ≡ true → end ≡ Some t → is_under es k (opened_by st end port) ≡ true → IsListedOf es (rest_major port) t k
+  ending state.TimeWait end port t r is f = listed_if (is_ordered t) port t refl (subst (λ e. is_under es k (opened_by state.TimeWait e port) ≡ true) is f)
   ending state.Closed end port t r is f = absurd (no_truth r)
   ending state.Listen end port t r is f = absurd (no_truth r)
   ending state.SynSent end port t r is f = absurd (no_truth r)
@@ -46,9 +55,9 @@ module _ (es : List Entry) (k : ℕ) (ip : IpRepr) (s : Segment) where
   rest_in (Some (socket.Raw x)) t f h e = absurd h
   rest_in (Some (socket.Icmp x)) t f h e = absurd h
   rest_in (Some (socket.Udp x)) t f h e = absurd h
-  rest_in (Some (socket.Tcp x)) t f h e = subst (λ p. IsListedOf es (rest_major p) t k) (sym h.served.port) (ending x.control_block.state (close_end x.control_block.timer) x.control_block.listen_endpoint.port t h.state e (and_parts _ _ f).1)
+  rest_in (Some (socket.Tcp x)) t f h e = subst (λ p. IsListedOf es (rest_major p) t k) (sym h.served.port) (ending x.control_block.state (close_end x.control_block.timer) x.control_block.listen_endpoint.port t h.state e (opened x.control_block.state (close_end x.control_block.timer) x.control_block.listen_endpoint.port (subst (λ p. 0 < p) h.served.port h.served.not_zero) (and_parts _ _ f).1))
 
-  serving : (st : State) (end : Option Instant) (port : ℕ) → is_serving st ≡ true → is_under es k (second_by st end port) ≡ true → has es (entry_at (server_key port) k) ≡ true
+  serving : (st : State) (end : Option Instant) (port : ℕ) → is_serving st ≡ true → is_under es k (opened_by st end port) ≡ true → has es (entry_at (server_key port) k) ≡ true
   serving state.Closed end port r f = absurd (no_truth r)
   serving state.Listen end port r f = absurd (no_truth r)
   serving state.TimeWait end port r f = absurd (no_truth r)
@@ -66,7 +75,7 @@ module _ (es : List Entry) (k : ℕ) (ip : IpRepr) (s : Segment) where
   server_in (Some (socket.Raw x)) f h = absurd h
   server_in (Some (socket.Icmp x)) f h = absurd h
   server_in (Some (socket.Udp x)) f h = absurd h
-  server_in (Some (socket.Tcp x)) f h = subst (λ p. has es (entry_at (server_key p) k) ≡ true) (sym h.1.port) (serving x.control_block.state (close_end x.control_block.timer) x.control_block.listen_endpoint.port h.0 (and_parts _ _ f).1)
+  server_in (Some (socket.Tcp x)) f h = subst (λ p. has es (entry_at (server_key p) k) ≡ true) (sym h.1.port) (serving x.control_block.state (close_end x.control_block.timer) x.control_block.listen_endpoint.port h.0 (opened x.control_block.state (close_end x.control_block.timer) x.control_block.listen_endpoint.port (subst (λ p. 0 < p) h.1.port h.1.not_zero) (and_parts _ _ f).1))
 
 -- what is found under the keys of a port is what a walk finds
 

@@ -6,7 +6,6 @@ use Rattle.std.proofs.lemmas.Option.{slice_get_past}
 use Rattle.smoltcp_socket.specs.declared.socket.Socket.{Socket}
 use Rattle.host_bounds.specs.Marking.{bit_of}
 use Rattle.host_index.specs.declared.entry.Entry.{Entry}
-use Rattle.net_host.specs.declared.key.Lent.{Lent}
 use Rattle.net_host.specs.declared.slot.Slot.{Slot}
 use Rattle.net_host.specs.Filing.{keys_in, keys_of}
 use Rattle.net_host.specs.Indexing.{IsIndexed, are_filed, is_kept, is_kept_of, is_noted}
@@ -29,7 +28,7 @@ module _ {G : Type 0} (complete : Bool) (ss : List (Slot G)) (es : List Entry) (
   none_free k None h nay = tt
   none_free k (Some s) h nay = λ free. nay (is_on k s h free) free
 
-  pub found_all : (lent : Option Lent) → lent ≡ None → IsIndexed (λ s. keys_of s) complete lent ss es ws → (r : Option ℕ) → FindsAmong (λ k. bit_of ws k ≡ 1) (λ s. IsFree s) ss r → Finds (λ s. IsFree s) ss r
+  pub found_all : (lent : Option ℕ) → lent ≡ None → IsIndexed (λ s. keys_of s) complete lent ss es ws → (r : Option ℕ) → FindsAmong (λ k. bit_of ws k ≡ 1) (λ s. IsFree s) ss r → Finds (λ s. IsFree s) ss r
   found_all lent none kept r h = go r h
     where
       each : IsIndexed (λ s. keys_of s) complete None ss es ws
@@ -39,13 +38,13 @@ module _ {G : Type 0} (complete : Bool) (ss : List (Slot G)) (es : List Entry) (
       go None h = λ k. none_free k (slice_get ss k) (each k) (h k)
       go (Some i) h = record { within = h.within; holds = h.holds; before = λ k less. none_free k (slice_get ss k) (each k) (h.before k less) }
 
-  pub found_but : (lent : Option Lent) (l : Lent) → lent ≡ Some l → IsIndexed (λ s. keys_of s) complete lent ss es ws → (r : Option ℕ) → FindsAmong (λ k. bit_of ws k ≡ 1) (λ s. IsFree s) ss r → FindsAmong (λ k. nat_eq k l.place ≡ false) (λ s. IsFree s) ss r
+  pub found_but : (lent : Option ℕ) (l : ℕ) → lent ≡ Some l → IsIndexed (λ s. keys_of s) complete lent ss es ws → (r : Option ℕ) → FindsAmong (λ k. bit_of ws k ≡ 1) (λ s. IsFree s) ss r → FindsAmong (λ k. nat_eq k l ≡ false) (λ s. IsFree s) ss r
   found_but lent l is kept r h = go r h
     where
-      each : (k : ℕ) → nat_eq k l.place ≡ false → is_kept_of (λ s. keys_of s) complete es ws k (slice_get ss k) ≡ true
-      each k other = subst (λ b. (if b then is_kept complete es ws k l.keys else is_kept_of (λ s. keys_of s) complete es ws k (slice_get ss k)) ≡ true) other (subst (λ o. IsIndexed (λ s. keys_of s) complete o ss es ws) is kept k)
+      each : (k : ℕ) → nat_eq k l ≡ false → is_kept_of (λ s. keys_of s) complete es ws k (slice_get ss k) ≡ true
+      each k other = subst (λ b. (if b then nat_lt (k / 64) (length ws) else is_kept_of (λ s. keys_of s) complete es ws k (slice_get ss k)) ≡ true) other (subst (λ o. IsIndexed (λ s. keys_of s) complete o ss es ws) is kept k)
 
-      go : (r : Option ℕ) → FindsAmong (λ k. bit_of ws k ≡ 1) (λ s. IsFree s) ss r → FindsAmong (λ k. nat_eq k l.place ≡ false) (λ s. IsFree s) ss r
+      go : (r : Option ℕ) → FindsAmong (λ k. bit_of ws k ≡ 1) (λ s. IsFree s) ss r → FindsAmong (λ k. nat_eq k l ≡ false) (λ s. IsFree s) ss r
       go None h = λ k other. none_free k (slice_get ss k) (each k other) (h k)
       go (Some i) h = record { within = h.within; holds = h.holds; before = λ k less other. none_free k (slice_get ss k) (each k other) (h.before k less) }
 

@@ -1,5 +1,5 @@
 -- Under which keys the socket of a place is filed.
-use Rattle.std.specs.Prelude.{ℕ, ◌+◌, ◌*◌, false, Option, Some, None}
+use Rattle.std.specs.Prelude.{ℕ, ◌+◌, ◌*◌, nat_eq, false, Option, Some, None, if◌then◌else◌}
 use Rattle.std.specs.Int.{from_be_bytes, w32, w128}
 use Rattle.ip_wire.specs.declared.address.IpAddress.{IpAddress}
 use Rattle.ip_wire.specs.declared.address.IpAddress.TheVariants as address
@@ -73,11 +73,20 @@ first_by state.Closed t port = key.Nothing
 first_by state.Listen t port = listener_by t port
 first_by _ t port = connection_by t
 
+-- of one that was opened on a port
+abbrev pub opened_by : State → Option Instant → ℕ → Key
+opened_by state.Closed end port = key.Nothing
+opened_by state.Listen end port = key.Nothing
+opened_by state.TimeWait (Some t) port = rest_by (ordered t) port
+opened_by _ end port = key.Under (server_key port)
+
+-- no segment is for a listener on port 0, which is that of those that connected
 abbrev pub second_by : State → Option Instant → ℕ → Key
-second_by state.Closed end port = key.Nothing
-second_by state.Listen end port = key.Nothing
-second_by state.TimeWait (Some t) port = rest_by (ordered t) port
-second_by _ end port = key.Under (server_key port)
+second_by st end port = if nat_eq port 0 then key.Nothing else opened_by st end port
+
+-- of a connection that is not in TIME-WAIT
+abbrev pub server_by : ℕ → Key
+server_by port = if nat_eq port 0 then key.Nothing else key.Under (server_key port)
 
 abbrev pub keys_by : View → Keys
 keys_by v = record {

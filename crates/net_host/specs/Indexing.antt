@@ -2,12 +2,11 @@
 use Rattle.std.specs.Prelude.{ℕ, ◌≡◌, ◌/◌, ◌&&◌, ◌||◌, not, nat_eq, nat_lt, Bool, true, false, List, length, Option}
 use Rattle.std.specs.Prelude.{Some, None, slice_get, if◌then◌else◌}
 use Rattle.host_bounds.specs.Marking.{bit_of}
-use Rattle.host_index.specs.Entries.{entry_at, has, is_entry}
+use Rattle.host_index.specs.Entries.{entry_at, has}
 use Rattle.host_index.specs.declared.entry.Entry.{Entry}
 use Rattle.net_host.specs.declared.key.Key.{Key}
 use Rattle.net_host.specs.declared.key.Key.TheVariants as key
 use Rattle.net_host.specs.declared.key.Keys.{Keys}
-use Rattle.net_host.specs.declared.key.Lent.{Lent}
 
 -- of a place where nothing is
 abbrev pub no_keys : Keys
@@ -33,24 +32,19 @@ AreFiled keys_of ss es = (k : ℕ) → is_filed keys_of es k (slice_get ss k) �
 
 -- ---- filing
 
-abbrev pub same_key : Key → Key → Bool
-same_key key.Nothing key.Nothing = true
-same_key (key.Under a) (key.Under b) = is_entry a b
-same_key _ _ = false
-
 -- what was filed of other places still is
 abbrev pub KeepsOthers : ℕ → List Entry → List Entry → Type 0
 KeepsOthers place es fs = (x : Entry) → nat_eq x.place place ≡ false → has es x ≡ true → has fs x ≡ true
 
--- the place i, with the keys that it has as it is lent
-abbrev pub lent_of : {X : Type 0} → (X → Keys) → ℕ → Option X → Option Lent
-lent_of keys_of i None = None
-lent_of keys_of i (Some s) = Some (record { place = i; keys = keys_of s })
+-- the place i, where it is there
+abbrev pub lent_of : {X : Type 0} → ℕ → Option X → Option ℕ
+lent_of i None = None
+lent_of i (Some s) = Some i
 
--- the place i, with the keys under which it is filed, or there is none
-abbrev pub IsLentAt : {X : Type 0} → ℕ → Option X → Option Lent → Type 0
+-- the place i, or it is not there
+abbrev pub IsLentAt : {X : Type 0} → ℕ → Option X → Option ℕ → Type 0
 IsLentAt i o None = o ≡ None
-IsLentAt i o (Some l) = l.place ≡ i
+IsLentAt i o (Some l) = l ≡ i
 
 -- ---- marks
 
@@ -77,18 +71,16 @@ abbrev pub is_kept_of : {X : Type 0} → (X → Keys) → Bool → List Entry �
 is_kept_of keys_of complete es ws k None = true
 is_kept_of keys_of complete es ws k (Some s) = is_kept complete es ws k (keys_of s)
 
--- the same, of a place that was lent with the keys that it had before
-abbrev pub is_kept_at : {X : Type 0} → (X → Keys) → Bool → Option Lent → List X → List Entry → List ℕ → ℕ → Bool
+-- the same, but for a place that was lent: of that there is a mark alone
+abbrev pub is_kept_at : {X : Type 0} → (X → Keys) → Bool → Option ℕ → List X → List Entry → List ℕ → ℕ → Bool
 is_kept_at keys_of complete None ss es ws k = is_kept_of keys_of complete es ws k (slice_get ss k)
 is_kept_at keys_of complete (Some l) ss es ws k =
-    if nat_eq k l.place
-    then is_kept complete es ws k l.keys
-    else is_kept_of keys_of complete es ws k (slice_get ss k)
+    if nat_eq k l then nat_lt (k / 64) (length ws) else is_kept_of keys_of complete es ws k (slice_get ss k)
 
 -- each place
-abbrev pub IsIndexed : {X : Type 0} → (X → Keys) → Bool → Option Lent → List X → List Entry → List ℕ → Type 0
+abbrev pub IsIndexed : {X : Type 0} → (X → Keys) → Bool → Option ℕ → List X → List Entry → List ℕ → Type 0
 IsIndexed keys_of complete lent ss es ws = (k : ℕ) → is_kept_at keys_of complete lent ss es ws k ≡ true
 
--- each place, none lent: the one that was has the keys that it had
+-- each place, none lent: the one that was is filed as the others
 abbrev pub IsSettled : {X : Type 0} → (X → Keys) → Bool → List X → List Entry → List ℕ → Type 0
 IsSettled keys_of complete ss es ws = IsIndexed keys_of complete None ss es ws

@@ -10,7 +10,6 @@ ghost use Rattle.net_host.specs.Walks.{ChangesEach, Finds};
 
 use crate::datagrams::{first_for_datagram, first_under, hear_found};
 use crate::filing::{raw_key, udp_key};
-use crate::key::Lent;
 use crate::messages::{Mail, copy_to};
 use crate::raw_copies::copy_packet_to;
 use crate::set::SocketSet;
@@ -34,11 +33,11 @@ fn has_no_raw<G: TsvalSource>(sockets: &SocketSet<'_, G>) -> bool
     !is_lent_raw(&sockets.slots, &sockets.lent)
 }
 
-fn is_lent_raw<G: TsvalSource>(slots: &[Slot<'_, G>], lent: &Option<Lent>) -> bool
-    ensures { result ≡ false → IfSome lent.now (λ l. IfSome (slice_get slots.now l.place) (λ s. is_raw s ≡ false)) }
+fn is_lent_raw<G: TsvalSource>(slots: &[Slot<'_, G>], lent: &Option<usize>) -> bool
+    ensures { result ≡ false → IfSome lent.now (λ l. IfSome (slice_get slots.now l) (λ s. is_raw s ≡ false)) }
 {
     match lent {
-        Some(lent) => match slots.get(lent.place) {
+        Some(place) => match slots.get(*place) {
             Some(slot) => slot.is_raw(),
             None => false,
         },

@@ -10,7 +10,7 @@ ghost use Rattle.net_host.specs.declared.key.Keys.{Keys};
 ghost use Rattle.net_host.specs.declared.terms.Terms.{Terms};
 
 use crate::guard::GuardSettings;
-use crate::key::{Keys, Lent};
+use crate::key::Keys;
 use crate::limits::Limits;
 use crate::refiling::refile;
 use crate::terms::Terms;
@@ -28,9 +28,11 @@ pub trait Keyed {
     fn keys(&self) -> Keys
         ensures { result ≡ keys_of self.now };
 
-    // Whether it has these keys. Where the answer is no, it says nothing.
-    fn has_keys(&self, keys: &Keys) -> bool
-        ensures { result ≡ true → keys_of self.now ≡ keys.now };
+    // Whether something is there, which is filed at this place under its keys and no others. Where the answer is no, it
+    // says nothing.
+    fn is_filed(&self, index: &Index, place: usize) -> bool
+        ensures filed { result ≡ true → are_filed index.now place (keys_of self.now) ≡ true }
+        ensures there { result ≡ true → (keys_of self.now).free ≡ false };
 }
 
 /// Places, and an index of them. One place at a time is lent, and may be changed; it is filed anew before the next use
@@ -39,15 +41,15 @@ pub trait Keyed {
 pub struct Filed<T: Keyed> {
     pub(crate) slots: Vec<T>,
     pub(crate) index: Index,
-    // whether each place is filed, but for the one that was lent, which is filed as it was before
+    // whether each place is filed, but for the one that was lent
     pub(crate) complete: bool,
-    // the places where nothing is are marked; the one that was lent, as it was before
+    // the places where nothing is are marked, but for the one that was lent
     pub(crate) free: Marks,
-    pub(crate) lent: Option<Lent>,
+    pub(crate) lent: Option<usize>,
     // before which moment each place need not be asked, under these terms; the least where it may have changed
     pub(crate) bounds: Bounds,
     pub(crate) terms: Terms,
-    // whether the place that was lent is known to have the keys that it had
+    // whether the place that was lent is known to be filed and marked as the others
     pub(crate) settled: bool,
     pub ghost indexed: { IsIndexed T.keys_of complete lent slots.items index free },
     pub ghost asleep: { AreAsleep T.sleeps terms bounds slots.items },
@@ -99,7 +101,7 @@ impl<T: Keyed> Filed<T> {
         ensures terms { self.new.terms ≡ self.old.terms }
         ensures bounds { self.new.bounds ≡ self.old.bounds }
     {
-        if self.has_old_keys() {
+        if self.is_lent_filed() {
             self.settled = true;
         } else {
             self.file_anew();
@@ -117,13 +119,13 @@ impl<T: Keyed> Filed<T> {
         self.index.seek(key);
     }
 
-    // Whether the place that was lent has the keys under which it is filed, as mostly.
-    fn has_old_keys(&self) -> bool
+    // Whether the place that was lent is filed under its keys, as mostly.
+    fn is_lent_filed(&self) -> bool
         ensures { result ≡ true → IsSettled T.keys_of self.now.complete self.now.slots.items self.now.index
             self.now.free }
     {
-        match &self.lent {
-            Some(lent) => keeps_keys(&self.slots, lent),
+        match self.lent {
+            Some(place) => is_filed_at(&self.slots, &self.index, place),
             None => true,
         }
     }
@@ -135,10 +137,11 @@ impl<T: Keyed> Filed<T> {
         ensures terms { self.new.terms ≡ self.old.terms }
         ensures bounds { self.new.bounds ≡ self.old.bounds }
     {
-        if let Some(lent) = self.lent {
-            let filed = refile_lent(&self.slots, &mut self.index, &mut self.free, &lent);
+        if let Some(place) = self.lent {
+            let filed = refile_at(&self.slots, &mut self.index, &mut self.free, place);
             self.complete = both(self.complete, filed);
             self.lent = None;
+            self.settled = true;
         }
     }
 
@@ -151,12 +154,11 @@ impl<T: Keyed> Filed<T> {
         ensures bounds { self.new.bounds ≡ slice_set self.old.bounds place at_once }
         ensures unsettled { self.new.settled ≡ false }
     {
-        if self.is_lent(place) {
-            self.settled = false;
-            self.mark(place);
-        } else {
+        if !self.is_lent(place) {
             self.lend_anew(place);
         }
+        self.mark(place);
+        self.settled = false;
     }
 
     // Whether the place is lent already.
@@ -164,21 +166,17 @@ impl<T: Keyed> Filed<T> {
         ensures { result ≡ true → IsLentAt place (slice_get self.now.slots.items place) self.now.lent }
     {
         match &self.lent {
-            Some(lent) => lent.place == place,
+            Some(lent) => *lent == place,
             None => false,
         }
     }
 
-    #[inline(never)]
     fn lend_anew(&mut self, place: usize)
         ensures slots { self.new.slots ≡ self.old.slots }
         ensures lent { IsLentAt place (slice_get self.new.slots.items place) self.new.lent }
-        ensures marked { bound_at self.new.bounds place ≡ at_once }
         ensures terms { self.new.terms ≡ self.old.terms }
-        ensures bounds { self.new.bounds ≡ slice_set self.old.bounds place at_once }
-        ensures unsettled { self.new.settled ≡ false }
+        ensures bounds { self.new.bounds ≡ self.old.bounds }
     {
-        self.mark(place);
         self.settle();
         self.lent = lent_at(&self.slots, place);
         self.settled = false;
@@ -227,55 +225,51 @@ fn both(a: bool, b: bool) -> bool
     a && b
 }
 
-fn lent_at<T: Keyed>(slots: &[T], place: usize) -> Option<Lent>
-    ensures { result ≡ lent_of T.keys_of place (slice_get slots.now place) }
+fn lent_at<T: Keyed>(slots: &[T], place: usize) -> Option<usize>
+    ensures { result ≡ lent_of place (slice_get slots.now place) }
 {
     match slots.get(place) {
-        Some(slot) => Some(Lent {
-            place,
-            keys: slot.keys(),
-        }),
+        Some(_) => Some(place),
         None => None,
     }
 }
 
-// Whether the place has the keys that it had as it was lent.
-fn keeps_keys<T: Keyed>(slots: &[T], lent: &Lent) -> bool
-    ensures { result ≡ true → IfSome (slice_get slots.now lent.now.place) (λ s. T.keys_of s ≡ lent.now.keys) }
+// Whether what stands at the place is filed.
+fn is_filed_at<T: Keyed>(slots: &[T], index: &Index, place: usize) -> bool
+    ensures { result ≡ true → IfSome (slice_get slots.now place)
+        (λ s. (are_filed index.now place (T.keys_of s) ≡ true) × ((T.keys_of s).free ≡ false)) }
 {
-    match slots.get(lent.place) {
-        Some(slot) => slot.has_keys(&lent.keys),
+    match slots.get(place) {
+        Some(slot) => slot.is_filed(index, place),
         None => true,
     }
 }
 
 // A place is marked where nothing is there.
-fn note(free: &mut Marks, place: usize, was: bool, is: bool)
+fn note(free: &mut Marks, place: usize, is: bool)
     requires { place / 64 < length free.old }
-    ensures here { is_noted free.old place was ≡ true → is_noted free.new place is ≡ true }
+    ensures here { is_noted free.new place is ≡ true }
     ensures kept { KeepsMarks place free.old free.new }
 {
-    match (was, is) {
-        (false, true) => free.put_on(place),
-        (true, false) => free.take_off(place),
-        (false, false) | (true, true) => {}
+    if is {
+        free.put_on(place);
+    } else {
+        free.take_off(place);
     }
 }
 
-fn refile_lent<T: Keyed>(slots: &[T], index: &mut Index, free: &mut Marks, lent: &Lent) -> bool
-    requires { lent.now.place / 64 < length free.old }
-    ensures filed { result ≡ true → are_filed index.old lent.now.place lent.now.keys ≡ true
-        → is_filed T.keys_of index.new lent.now.place (slice_get slots.now lent.now.place) ≡ true }
-    ensures others { KeepsOthers lent.now.place index.old index.new }
-    ensures noted { is_noted free.old lent.now.place lent.now.keys.free ≡ true
-        → is_noted_of T.keys_of free.new lent.now.place (slice_get slots.now lent.now.place) ≡ true }
-    ensures marks { KeepsMarks lent.now.place free.old free.new }
+fn refile_at<T: Keyed>(slots: &[T], index: &mut Index, free: &mut Marks, place: usize) -> bool
+    requires { place / 64 < length free.old }
+    ensures filed { result ≡ true → is_filed T.keys_of index.new place (slice_get slots.now place) ≡ true }
+    ensures others { KeepsOthers place index.old index.new }
+    ensures noted { is_noted_of T.keys_of free.new place (slice_get slots.now place) ≡ true }
+    ensures marks { KeepsMarks place free.old free.new }
 {
-    match slots.get(lent.place) {
+    match slots.get(place) {
         Some(slot) => {
             let keys = slot.keys();
-            note(free, lent.place, lent.keys.free, keys.free);
-            refile(index, lent.place, &lent.keys, &keys)
+            note(free, place, keys.free);
+            refile(index, place, &keys)
         }
         None => true,
     }

@@ -1,18 +1,17 @@
 //! Under which keys the socket of a place is filed.
 ghost use Rattle.std.specs.Prelude.{◌≡◌, ◌+◌, ◌*◌, false, true};
-ghost use Rattle.net_host.specs.declared.key.Key.TheVariants.{Nothing, Under};
+ghost use Rattle.net_host.specs.declared.key.Key.TheVariants.{Nothing};
 ghost use Rattle.net_host.specs.Entries.{ordered};
 ghost use Rattle.net_host.specs.Filing.{connection_by, first_by, icmp_key, keys_by, keys_of, listener_by, listener_key};
-ghost use Rattle.net_host.specs.Filing.{number_of, raw_key, rest_by, rest_major, second_by, server_key};
-ghost use Rattle.net_host.specs.Filing.{udp_key};
-ghost use Rattle.net_host.specs.Indexing.{no_keys};
+ghost use Rattle.net_host.specs.Filing.{number_of, opened_by, raw_key, rest_by, rest_major, second_by, server_by};
+ghost use Rattle.net_host.specs.Filing.{server_key, udp_key};
+ghost use Rattle.net_host.specs.Indexing.{are_filed, is_under, no_keys};
 ghost use Rattle.net_host.specs.Looking.{sleeps};
 
 use crate::filed::Keyed;
 use crate::key::{Key, Keys};
-use crate::refiling::{are_keys, same_entry};
 use crate::slot::Slot;
-use host_index::Entry;
+use host_index::{Entry, Index, Which};
 use smoltcp_socket::tcp::State;
 use smoltcp_socket::time::Instant;
 use smoltcp_socket::wire::IpAddress;
@@ -171,14 +170,25 @@ fn first_by(state: State, tuple: &Option<Tuple>, port: u16) -> Key
     }
 }
 
-fn second_by(state: State, end: Option<Instant>, port: u16) -> Key
-    ensures { result ≡ second_by state end port }
+// The second key of a socket that was opened on a port.
+fn opened_by(state: State, end: Option<Instant>, port: u16) -> Key
+    ensures { result ≡ opened_by state end port }
 {
     match (state, end) {
         (State::Closed | State::Listen, _) => Key::Nothing,
         (State::TimeWait, Some(end)) => rest_by(order(end), port),
         _ => Key::Under(server_key(port)),
     }
+}
+
+// No segment is for a listener on port 0, which is that of those that connected.
+fn second_by(state: State, end: Option<Instant>, port: u16) -> Key
+    ensures { result ≡ second_by state end port }
+{
+    if port == 0 {
+        return Key::Nothing;
+    }
+    opened_by(state, end, port)
 }
 
 fn keys_by<G>(tcp: &tcp::Socket<'_, G>) -> Keys
@@ -213,33 +223,42 @@ fn no_keys() -> Keys
     }
 }
 
-// Whether these are the keys of a connection that is open both ways, as most are that are asked: without making its own.
-fn are_of_connection<G>(keys: &Keys, tcp: &tcp::Socket<'_, G>) -> bool
-    ensures { result ≡ true → keys_by tcp.now.control_block ≡ keys.now }
+// Whether the place is filed under the keys of its socket and no others, told without making them: of a connection that
+// is not in TIME-WAIT, as most are that are lent. Where the answer is no, it says nothing.
+#[inline(always)]
+fn is_connection_filed<G>(tcp: &tcp::Socket<'_, G>, index: &Index, place: usize) -> bool
+    ensures { result ≡ true → are_filed index.now place (keys_by tcp.now.control_block) ≡ true }
 {
-    match (tcp.state(), &keys.first, &keys.second) {
-        (State::Established, Key::Under(first), Key::Under(second)) => {
-            !keys.free && is_connection(first, tcp) && is_server(second, tcp.listen_endpoint().port)
-        }
-        _ => false,
+    match tcp.state() {
+        State::Closed | State::Listen | State::TimeWait => false,
+        _ => is_tuple_filed(tcp, index, place) && is_port_filed(tcp, index, place),
     }
 }
 
-fn is_connection<G>(key: &Entry, tcp: &tcp::Socket<'_, G>) -> bool
-    ensures { result ≡ true → connection_by tcp.now.control_block.tuple ≡ Under key.now }
+#[inline(always)]
+fn is_tuple_filed<G>(tcp: &tcp::Socket<'_, G>, index: &Index, place: usize) -> bool
+    ensures { result ≡ true → is_under index.now place (connection_by tcp.now.control_block.tuple) ≡ true }
 {
     match (tcp.local_endpoint(), tcp.remote_endpoint()) {
         (Some(local), Some(remote)) => {
-            same_entry(&connection_key(&remote.addr, local.port, remote.port), key)
+            let key = connection_key(&remote.addr, local.port, remote.port);
+            index.is_filed(Which::First, place, Some(&key))
         }
         _ => false,
     }
 }
 
-fn is_server(key: &Entry, port: u16) -> bool
-    ensures { result ≡ true → server_key port ≡ key.now }
+#[inline(always)]
+fn is_port_filed<G>(tcp: &tcp::Socket<'_, G>, index: &Index, place: usize) -> bool
+    ensures { result ≡ true
+        → is_under index.now place (server_by tcp.now.control_block.listen_endpoint.port) ≡ true }
 {
-    same_entry(&server_key(port), key)
+    let port = tcp.listen_endpoint().port;
+    if port == 0 {
+        index.is_filed(Which::Second, place, None)
+    } else {
+        index.is_filed(Which::Second, place, Some(&server_key(port)))
+    }
 }
 
 impl<'a, G> Keyed for Slot<'a, G> {
@@ -257,10 +276,11 @@ impl<'a, G> Keyed for Slot<'a, G> {
         }
     }
 
-    fn has_keys(&self, keys: &Keys) -> bool {
+    #[inline(always)]
+    fn is_filed(&self, index: &Index, place: usize) -> bool {
         match &self.socket {
-            Some(Socket::Tcp(tcp)) if are_of_connection(keys, tcp) => true,
-            _ => are_keys(&self.keys(), keys),
+            Some(Socket::Tcp(tcp)) => is_connection_filed(tcp, index, place),
+            _ => false,
         }
     }
 }

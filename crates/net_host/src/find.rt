@@ -108,25 +108,16 @@ pub(crate) fn first_in<C: Context, G: TsvalSource>(
     requires { key.place ≡ 0 }
     ensures { FindsListed (Fits sought ip.now (segment_of repr.now)) slots.now index.now key result }
 {
-    let p = index.lower(key);
-    if index.len() <= p {
-        return None;
+    if let Some(place) = index.known(key) {
+        if fits_at(slots, place, cx, sought, ip, repr) {
+            return Some(place);
+        }
     }
-    let entry = index.get(p);
-    if is_under(entry, key) && fits_at(slots, entry.place, cx, sought, ip, repr) {
-        return Some(entry.place);
-    }
-    first_from(slots, index, p, key, cx, sought, ip, repr)
+    first_from(slots, index, index.lower(key), key, cx, sought, ip, repr)
 }
 
-fn is_under(entry: Entry, key: Entry) -> bool
-    ensures { result ≡ true → (entry.major ≡ key.major) × (entry.minor ≡ key.minor) }
-{
-    entry.major == key.major && entry.minor == key.minor
-}
-
-// The same, from where the entries under the key begin. Apart from `first_in`, which mostly finds its socket there, so
-// that it saves few registers.
+// The same, from where the entries under the key begin. Apart from `first_in`, which mostly knows the place, so that it
+// saves few registers.
 #[inline(never)]
 fn first_from<C: Context, G: TsvalSource>(
     slots: &[Slot<'_, G>],

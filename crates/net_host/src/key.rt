@@ -22,10 +22,3 @@ pub struct Keys {
     /// Whether nothing is there.
     pub free: bool,
 }
-
-/// A place that was lent, and the keys under which it is filed.
-#[derive(Debug, Clone, Copy, PartialEq, Eq)]
-pub struct Lent {
-    pub place: usize,
-    pub keys: Keys,
-}

@@ -78,7 +78,7 @@ impl<'a, G: TsvalSource> Filed<Slot<'a, G>> {
     {
         let found = first_marked(&self.slots, &self.free);
         match self.lent {
-            Some(lent) => sooner(&self.slots, found, lent.place),
+            Some(place) => sooner(&self.slots, found, place),
             None => found,
         }
     }

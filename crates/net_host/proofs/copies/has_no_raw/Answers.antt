@@ -14,4 +14,4 @@ returns g c = λ yes. no_raw c.args.sockets.now.slots.items c.args.sockets.now.i
     (λ k within. (let few : length c.args.sockets.now.slots.items < 18446744073709551616 = search rules in
     subst (λ key. has c.args.sockets.now.index (entry_at key k) ≡ false) c.raw_key.ensures (c.is_behind.ensures c.if-not-is_behind.false k (omega (arith, within, few)))))
     c.args.sockets.now.complete c.args.sockets.now.lent c.if-not-sockets.false c.args.sockets.now.indexed
-    (subst (λ xs. IfSome c.args.sockets.now.lent (λ l. IfSome (slice_get xs l.place) (λ s. is_raw s ≡ false))) c.deref.ensures.value (c.is_lent_raw.ensures (off c.is_lent_raw.result yes)))
+    (subst (λ xs. IfSome c.args.sockets.now.lent (λ l. IfSome (slice_get xs l) (λ s. is_raw s ≡ false))) c.deref.ensures.value (c.is_lent_raw.ensures (off c.is_lent_raw.result yes)))

@@ -1,10 +1,11 @@
-use Rattle.std.proofs.Common.{rules, ◌≡◌, ◌∙◌, ◌<◌, length, get_or, ap, refl, subst, sym}
-use Rattle.std.specs.Prelude.{is_ok, if◌then◌else◌}
+use Rattle.std.proofs.Common.{rules, ◌≡◌, ◌∙◌, ◌<◌, ◌≤◌, true, length, get_or, ap, refl, subst, sym}
 use Rattle.std.specs.List.{insert}
 use Rattle.host_index.specs.Columns.{Puts, entry_in, number_of}
-use Rattle.host_index.specs.Entries.{Keeps, Splits, nothing, rank}
-use Rattle.host_index.specs.Indexing.{entries_in, number_at}
-use Rattle.host_index.proofs.Entered.{put_adds, put_keeps}
+use Rattle.host_index.specs.Entries.{Keeps, Splits, has, nothing, rank}
+use Rattle.host_index.specs.Indexing.{IsOrdered, entries_in, number_at}
+use Rattle.host_index.specs.Known.{AreFirst}
+use Rattle.host_index.proofs.Entered.{insert_keeps, inserted}
+use Rattle.host_index.proofs.Firsts.{added_first}
 use Rattle.host_index.proofs.Numbers.{added, as_many, entries_now, entry_of, least_splits}
 use Rattle.host_index.proofs.index.Index.add.Goals as goal
 
@@ -22,20 +23,27 @@ module _ (c : goal.After-is_ok) where
       let less : rank c.args.entry < rank (get_or c.args.self.now c.lower-place.result nothing) = c.if-stands_at.ensures refl within in
       subst (λ e. rank c.args.entry < rank e) (ap (λ l. get_or l c.lower-place.result nothing) (sym c.self.view_is) ∙ entry_of c.self.inside.columns c.self.inside.order.items c.lower-place.result there) less
 
-  items : c.insert.new.self.items ≡ (if is_ok c.insert.result then insert c.self.inside.order.items c.lower-place.result (number_of c.args.which c.args.entry.place) else c.self.inside.order.items)
+  inside : c.lower-place.result ≤ length c.self.inside.order.items
+  inside = subst (λ m. c.lower-place.result ≤ m) (as_many c.self.inside.columns c.self.inside.order.items) begins.within
+
+  items : c.insert.new.self.items ≡ insert c.self.inside.order.items c.lower-place.result (number_of c.args.which c.args.entry.place)
   items = search rules
 
-  now : entries_in c.put.new.self c.insert.new.self.items ≡ (if is_ok c.insert.result then insert (entries_in c.self.inside.columns c.self.inside.order.items) c.lower-place.result c.args.entry else entries_in c.self.inside.columns c.self.inside.order.items)
-  now = entries_now c.self.inside.columns c.put.new.self c.self.inside.order.items c.lower-place.result (number_of c.args.which c.args.entry.place) c.args.entry c.self.invariant.index puts begins behind (is_ok c.insert.result) c.insert.new.self.items items
+  now : entries_in c.put.new.self c.insert.new.self.items ≡ insert (entries_in c.self.inside.columns c.self.inside.order.items) c.lower-place.result c.args.entry
+  now = entries_now c.self.inside.columns c.put.new.self c.self.inside.order.items c.lower-place.result (number_of c.args.which c.args.entry.place) c.args.entry c.self.invariant.index puts begins behind c.insert.new.self.items items
+
+pub lower-place-requires-clause-ordered : goal.lower-place-requires-clause-ordered
+lower-place-requires-clause-ordered c = subst (IsOrdered c.self.inside.columns) (sym c.deref.ensures.value) c.self.invariant.index.ordered
 
 pub invariant_of-self-2 : goal.invariant_of-self-2
 invariant_of-self-2 c = record {
-  index = added c.self.inside.columns c.put.new.self c.self.inside.order.items c.lower-place.result (number_of c.args.which c.args.entry.place) c.args.entry c.self.invariant.index (puts c) (begins c) (behind c) (is_ok c.insert.result) c.insert.new.self.items (items c);
+  index = added c.self.inside.columns c.put.new.self c.self.inside.order.items c.lower-place.result (number_of c.args.which c.args.entry.place) c.args.entry c.self.invariant.index (puts c) (begins c) (behind c) c.insert.new.self.items (items c);
   begins = subst (λ key. Splits (entries_in c.put.new.self c.insert.new.self.items) (rank key) 0) (sym c.least_key-self-inside.ensures) (least_splits (entries_in c.put.new.self c.insert.new.self.items));
+  firsts = subst (AreFirst c.put.new.self c.insert.new.self.items) (sym c.forget.ensures) (added_first c.self.inside.columns c.put.new.self c.self.inside.order.items c.self.inside.known.places.items c.self.invariant.firsts c.lower-place.result (number_of c.args.which c.args.entry.place) c.args.entry (puts c) (inside c) c.insert.new.self.items (now c));
 }
 
 pub returns-clause-added : goal.returns-clause-added
-returns-clause-added c = λ h. put_adds (entries_in c.self.inside.columns c.self.inside.order.items) (entries_in c.put.new.self c.insert.new.self.items) c.args.entry c.lower-place.result (begins c) (is_ok c.insert.result) (now c) (sym c.is_ok.ensures.value ∙ h)
+returns-clause-added c = λ h. subst (λ l. has l c.args.entry ≡ true) (sym (now c)) (inserted (entries_in c.self.inside.columns c.self.inside.order.items) c.args.entry c.lower-place.result (begins c))
 
 pub returns-clause-kept : goal.returns-clause-kept
-returns-clause-kept c = subst (λ l. Keeps l (entries_in c.put.new.self c.insert.new.self.items)) c.self.view_is (put_keeps (entries_in c.self.inside.columns c.self.inside.order.items) (entries_in c.put.new.self c.insert.new.self.items) c.args.entry c.lower-place.result (begins c) (is_ok c.insert.result) (now c))
+returns-clause-kept c = subst (λ l. Keeps l (entries_in c.put.new.self c.insert.new.self.items)) c.self.view_is (subst (Keeps (entries_in c.self.inside.columns c.self.inside.order.items)) (sym (now c)) (insert_keeps (entries_in c.self.inside.columns c.self.inside.order.items) c.args.entry c.lower-place.result (begins c)))

@@ -5,6 +5,7 @@ use Rattle.host_index.specs.Columns.{Frees}
 use Rattle.host_index.specs.Entries.{KeepsBut, Splits, nothing, rank}
 use Rattle.host_index.specs.Indexing.{IsIndex, entries_in, number_at}
 use Rattle.host_index.proofs.Entered.{entry_itself, remove_keeps}
+use Rattle.host_index.proofs.Firsts.{removed_first}
 use Rattle.host_index.proofs.Numbers.{as_many, entries_removed, least_splits, removed}
 use Rattle.host_index.proofs.index.Index.take_out.Goals as goal
 
@@ -18,10 +19,14 @@ module _ (c : goal.After-free) where
   frees : Frees (number_at c.self.inside.order.items c.args.place) c.self.inside.columns c.free.new.self
   frees = subst (λ n. Frees n c.self.inside.columns c.free.new.self) is c.free.ensures
 
+  now : entries_in c.free.new.self c.remove-number.new.self.items ≡ remove (entries_in c.self.inside.columns c.self.inside.order.items) c.args.place
+  now = ap (entries_in c.free.new.self) c.remove-number.ensures.items ∙ entries_removed c.self.inside.columns c.free.new.self c.self.inside.order.items c.args.place within c.self.invariant.index frees
+
 pub invariant_of-self : goal.invariant_of-self
 invariant_of-self c = record {
   index = subst (λ l. IsIndex c.free.new.self l) (sym c.remove-number.ensures.items) (removed c.self.inside.columns c.free.new.self c.self.inside.order.items c.args.place (within c) c.self.invariant.index (frees c));
   begins = subst (λ key. Splits (entries_in c.free.new.self c.remove-number.new.self.items) (rank key) 0) (sym c.least_key-self-inside.ensures) (least_splits (entries_in c.free.new.self c.remove-number.new.self.items));
+  firsts = removed_first c.self.inside.columns c.free.new.self c.self.inside.order.items c.self.inside.known.places.items c.self.invariant.firsts c.args.place (within c) (frees c) c.remove-number.new.self.items (now c);
 }
 
 pub returns : goal.returns
@@ -29,5 +34,4 @@ returns c =
     let es = entries_in c.self.inside.columns c.self.inside.order.items in
     let there : c.args.place < length es = subst (λ l. c.args.place < length l) (sym c.self.view_is) c.requires in
     let kept : KeepsBut (get_or es c.args.place nothing) es (remove es c.args.place) = remove_keeps es (get_or es c.args.place nothing) (get_or es c.args.place nothing) c.args.place there (get_or_default es c.args.place nothing (get_or es c.args.place nothing) there) (entry_itself (get_or es c.args.place nothing)) in
-    let now : entries_in c.free.new.self c.remove-number.new.self.items ≡ remove es c.args.place = ap (entries_in c.free.new.self) c.remove-number.ensures.items ∙ entries_removed c.self.inside.columns c.free.new.self c.self.inside.order.items c.args.place (within c) c.self.invariant.index (frees c) in
-    subst (λ l. KeepsBut (get_or l c.args.place nothing) l (entries_in c.free.new.self c.remove-number.new.self.items)) c.self.view_is (subst (λ m. KeepsBut (get_or es c.args.place nothing) es m) (sym now) kept)
+    subst (λ l. KeepsBut (get_or l c.args.place nothing) l (entries_in c.free.new.self c.remove-number.new.self.items)) c.self.view_is (subst (λ m. KeepsBut (get_or es c.args.place nothing) es m) (sym (now c)) kept)
