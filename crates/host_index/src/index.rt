@@ -197,14 +197,21 @@ impl Index {
     fn search(&mut self, key: Entry)
         ensures { self.new ≡ self.old }
     {
-        let begins = lower(&self.columns, &self.order, key);
-        let first = first_under(&self.columns, &self.order, key, begins);
-        self.known.learn(key, first);
-        self.begins = begins;
+        self.begins = lower(&self.columns, &self.order, key);
         self.sought = key;
+        self.learn();
+    }
+
+    // The first place under the key that was sought is known.
+    fn learn(&mut self)
+        ensures { self.new ≡ self.old }
+    {
+        let first = first_under(&self.columns, &self.order, self.sought, self.begins);
+        self.known.learn(self.sought, first);
     }
 
     /// The first place under this key, where the key was sought; none where that is not known.
+    #[tactic(auto, using(crate::proofs::Firsts::known_is_first))]
     pub fn known(&self, key: Entry) -> Option<usize>
         ensures { IfSome result (λ place. IsFirst self.now key place) }
     {
@@ -217,6 +224,7 @@ impl Index {
     }
 
     /// Whether a place has this key and no other, or none where none is given. Where the answer is no, it says nothing.
+    #[tactic(auto, using(crate::proofs::Firsts::put_is_there))]
     pub fn is_filed(&self, which: Which, place: usize, key: Option<&Entry>) -> bool
         ensures { result ≡ true → IfSome key.entry (λ e. has self.now (entry_at e.now place) ≡ true) }
     {

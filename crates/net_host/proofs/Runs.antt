@@ -3,7 +3,7 @@ use Rattle.std.proofs.Common.{◌≡◌, ◌∙◌, ℕ, ◌+◌, ◌^◌, ◌<�
 use Rattle.std.specs.Prelude.{IfSome, slice_get}
 use Rattle.std.proofs.lemmas.Option.{slice_get_past, slice_get_within}
 use Rattle.host_index.specs.declared.entry.Entry.{Entry}
-use Rattle.host_index.specs.Entries.{IsSortedByRank, Splits, entry_at, has, nothing, rank, rank_at}
+use Rattle.host_index.specs.Entries.{IsFirst, IsSortedByRank, Splits, entry_at, has, nothing, rank, rank_at}
 use Rattle.net_host.specs.Entries.{FindsListed, IsFirstListed}
 use Rattle.net_host.specs.Walks.{IsAt}
 use Rattle.host_index.proofs.Entered.{IsIn, find_in}
@@ -15,6 +15,17 @@ weaker P Q (Some y) f h = f y h
 pub always : {X : Type 0} (Q : X → Type 0) (o : Option X) → ((y : X) → Q y) → IfSome o Q
 always Q None f = tt
 always Q (Some y) f = f y
+
+no_truth : false ≡ true → ⊥
+no_truth e = cc
+
+-- the first place under the key, where P holds of its element
+pub known_fits : {X : Type 0} (P : X → Type 0) (xs : List X) (es : List Entry) (key : Entry) (place : ℕ) → IsFirst es key place → IsAt P xs place → IsFirstListed P xs es key place
+known_fits P xs es key place first at = record {
+  holds = at.holds;
+  within = at.within;
+  before = λ k less listed. absurd (no_truth (sym (first.before k less) ∙ listed));
+}
 
 abbrev pub place_at : List Entry → ℕ → ℕ
 place_at es j = (get_or es j nothing).place

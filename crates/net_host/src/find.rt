@@ -96,6 +96,7 @@ fn fits_at<C: Context, G: TsvalSource>(
 }
 
 /// The first place under the key whose socket fits.
+#[tactic(auto, using(crate::proofs::Runs::known_fits))]
 pub(crate) fn first_in<C: Context, G: TsvalSource>(
     slots: &[Slot<'_, G>],
     index: &Index,
