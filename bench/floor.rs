@@ -1,9 +1,12 @@
-//! The conversations of hosted_bench between two sockets, with no host at all: no index, no guard, no bound, no timer
-//! that is looked for, and no packet that is lost. What is left is what the sockets, the packets' sums and copies and
-//! the applications take: no host can be quicker than this. Its sums are as slow as those of the other plain programs, so
+//! The conversations of hosted_bench between sockets with no host at all: no index, no guard, no bound, no timer that
+//! is looked for, and no packet that is lost. What is left is what the sockets, the packets' sums and copies and the
+//! applications take: no host can be quicker than this. Its sums are as slow as those of the other plain programs, so
 //! it is compared with sock_bench and hosted_bench of one folder alone.
 //!
-//!     floor SEED SHARE
+//!     floor SEED SHARE [together]
+//!
+//! One conversation after another, between two sockets that lie in the cache; or together, as many at once as
+//! hosted_bench has, over as many sockets.
 use bench_parts::clock::Clock;
 use bench_parts::conversation::{Role, Talk, service};
 use bench_parts::digest::Digest;
@@ -15,6 +18,7 @@ use smoltcp_socket::storage::RingBuffer;
 use smoltcp_socket::tcp::{Socket, State};
 use smoltcp_socket::time::Instant;
 use smoltcp_socket::wire::*;
+use std::collections::VecDeque;
 
 const MTU: usize = 1500;
 
@@ -129,42 +133,77 @@ fn pass(from: &mut End, to: &mut End, packets: &mut usize) {
     }
 }
 
+// One conversation under way: which client has it with which server.
+struct Pair {
+    client: usize,
+    server: usize,
+}
+
+fn is_over(end: &End) -> bool {
+    matches!(end.socket.state(), State::TimeWait | State::Closed)
+}
+
 fn main() {
-    let args: Vec<u32> = std::env::args().skip(1).map(|word| word.parse().expect("a number")).collect();
-    let mut random = Random::new(args[0]);
+    let words: Vec<String> = std::env::args().skip(1).collect();
+    let (seed, share): (u32, usize) = (words[0].parse().expect("a seed"), words[1].parse().expect("a share"));
+    let together = words.get(2).is_some_and(|word| word == "together");
+    let mut random = Random::new(seed);
     let source = source(HostRuntime.alloc(), &mut random).expect("memory");
     let (mut digest, mut scratch) = (Digest::new(), [0u8; PIECE]);
-    let mut client = End::new(Ipv4Address([10, 0, 0, 1]), Role::Client);
-    let mut server = End::new(Ipv4Address([10, 0, 0, 2]), Role::Server);
     let (mut packets, mut had) = (0, 0);
-    for [_, _, conversations] in SIZES {
-        let left = conversations * args[1] as usize / 1000;
-        let mut work = Work::new(left);
-        for _ in 0..left {
-            let answer = answer_len(&mut random);
-            client.talk.begin(20 + random.below(480) as usize, answer);
-            server.talk.begin(0, 0);
-            let _ = server.socket.listen(service());
-            let remote = IpEndpoint { addr: IpAddress::Ipv4(server.side.addr), port: service().port };
-            let local = IpListenEndpoint { addr: None, port: work.next_port() };
-            client.socket.connect(&mut client.side, remote, local).expect("a connection");
-            while !(matches!(client.socket.state(), State::TimeWait | State::Closed)
-                && matches!(server.socket.state(), State::TimeWait | State::Closed))
-            {
-                for end in [&mut client, &mut server] {
-                    end.side.now += 1000;
-                }
-                client.serve(&mut scratch, &source, &mut random, &mut digest);
-                pass(&mut client, &mut server, &mut packets);
-                server.serve(&mut scratch, &source, &mut random, &mut digest);
-                pass(&mut server, &mut client, &mut packets);
+    for [sockets, sleepers, conversations] in SIZES {
+        let (clients, servers) = if together { (sockets - sleepers, sockets) } else { (1, 1) };
+        let mut work = Work::new(conversations * share / 1000);
+        let mut client: Vec<End> = (0..clients).map(|_| End::new(Ipv4Address([10, 0, 0, 1]), Role::Client)).collect();
+        let mut server: Vec<End> = (0..servers).map(|_| End::new(Ipv4Address([10, 0, 0, 2]), Role::Server)).collect();
+        let mut idle: Vec<usize> = (0..clients).collect();
+        let mut rested: VecDeque<usize> = (0..servers).collect();
+        let mut pairs: Vec<Pair> = Vec::new();
+        let mut now = 0;
+        while work.left > 0 || !pairs.is_empty() {
+            now += 1000;
+            while work.left > 0 && !idle.is_empty() {
+                work.left -= 1;
+                let (a, b) = (idle.pop().expect("a client"), rested.pop_front().expect("a server"));
+                let pair = Pair { client: a, server: b };
+                let (client, server) = (&mut client[pair.client], &mut server[pair.server]);
+                client.talk.begin(20 + random.below(480) as usize, answer_len(&mut random));
+                server.talk.begin(0, 0);
+                let _ = server.socket.listen(service());
+                let remote = IpEndpoint { addr: IpAddress::Ipv4(server.side.addr), port: service().port };
+                let local = IpListenEndpoint { addr: None, port: work.next_port() };
+                client.socket.connect(&mut client.side, remote, local).expect("a connection");
+                pairs.push(pair);
             }
-            client.talk.add_to(&mut digest);
-            had += 1;
-            client.socket.abort();
-            server.socket.abort();
-            client.emit();
-            server.emit();
+            for pair in &pairs {
+                client[pair.client].side.now = now;
+                server[pair.server].side.now = now;
+                client[pair.client].serve(&mut scratch, &source, &mut random, &mut digest);
+            }
+            for pair in &pairs {
+                pass(&mut client[pair.client], &mut server[pair.server], &mut packets);
+            }
+            for pair in &pairs {
+                server[pair.server].serve(&mut scratch, &source, &mut random, &mut digest);
+            }
+            for pair in &pairs {
+                pass(&mut server[pair.server], &mut client[pair.client], &mut packets);
+            }
+            pairs.retain(|pair| {
+                let (client, server) = (&mut client[pair.client], &mut server[pair.server]);
+                if !is_over(client) || !is_over(server) {
+                    return true;
+                }
+                client.talk.add_to(&mut digest);
+                had += 1;
+                client.socket.abort();
+                server.socket.abort();
+                client.emit();
+                server.emit();
+                idle.push(pair.client);
+                rested.push_back(pair.server);
+                false
+            });
         }
     }
     let each = packets as f64 / had as f64;

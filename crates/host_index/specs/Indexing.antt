@@ -29,4 +29,3 @@ pub record IsIndex (c : Columns) (os : List ℕ) : Type 0 where
   pub ordered : IsOrdered c os
   pub taken : (k : ℕ) → k < length os → is_free c (number_at os k) ≡ false
   pub listed : (n : ℕ) → n / 2 < length c.majors.items → is_free c n ≡ false → IsAmong os n
-

@@ -141,7 +141,8 @@ fn begin(columns: &Columns, order: &[u32], key: Entry) -> usize
 }
 
 impl Index {
-    /// An index of so many places, at most 2^30, with room for two entries each.
+    /// An index of so many places, at most 2^30, with room for two entries each, and for the first places under 256
+    /// keys.
     pub fn new(alloc: Global, count: usize) -> Result<Index, AllocError>
         ensures { IfOk result (λ x. x ≡ []) }
     {

@@ -21,7 +21,7 @@ use Rattle.net_host.specs.Turns.{asked_of, delayed, may_speak, slot_poll}
 use Rattle.net_host.specs.Walks.{Nowhere}
 use Rattle.net_host.specs.declared.slot.Slot.{Slot}
 use Rattle.net_host.specs.declared.terms.Terms.{Terms}
-use Rattle.net_host.proofs.Asking.{asks_under, bound_is}
+use Rattle.net_host.proofs.Polls.{asks_under, bound_is}
 
 -- the second is not before the first, which is a moment or never comes
 abbrev NotBefore : PollAt → PollAt → Type 0

@@ -2,7 +2,7 @@ pub mod Idle
 pub mod Changes
 pub mod Sleepers
 pub mod Sources
-pub mod Asking
+pub mod Polls
 pub mod Bare
 pub mod Emitting
 pub mod Raws

@@ -21,7 +21,7 @@ use Rattle.net_host.specs.Remembered.{Remembered as Guard}
 use Rattle.net_host.specs.declared.guard.GuardSettings.{GuardSettings}
 use Rattle.net_host.specs.declared.slot.Slot.{Slot}
 use Rattle.net_host.specs.declared.terms.Terms.{Terms}
-use Rattle.net_host.proofs.Asking.{rests_by, sleeper_rests, watched_seen}
+use Rattle.net_host.proofs.Polls.{rests_by, sleeper_rests, watched_seen}
 use Rattle.net_host.proofs.Each.{elsewhere, there}
 use Rattle.net_host.proofs.Measure.{left_in, left_turns}
 use Rattle.net_host.proofs.Sleepers.{each_len}

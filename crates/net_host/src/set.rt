@@ -22,7 +22,7 @@ pub type SocketSet<'a, G = Generator> = Filed<Slot<'a, G>>;
 
 impl<'a, G: TsvalSource> Filed<Slot<'a, G>> {
     /// A set with room for so many sockets. Nothing is allocated afterwards. Its index, its marks and its bounds take
-    /// 47 bytes a socket.
+    /// 47 bytes a socket and a kilobyte beside.
     pub fn new(alloc: Global, capacity: usize) -> Result<SocketSet<'a, G>, AllocError>
         ensures capacity { IfOk result (λ s. length s.slots.items ≡ capacity) }
         ensures free { IfOk result (λ s. All IsFree s.slots.items) }

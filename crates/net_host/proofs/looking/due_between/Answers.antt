@@ -5,7 +5,7 @@ use Rattle.sock_tcp.specs.View.{moment_of}
 use Rattle.net_host.specs.Looking.{Astir, MayLook}
 use Rattle.net_host.specs.Turns.{Watches}
 use Rattle.net_host.specs.Walks.{ChangesAt}
-use Rattle.net_host.proofs.Asking.{due_if}
+use Rattle.net_host.proofs.Polls.{due_if}
 use Rattle.net_host.proofs.Sleepers.{each_len}
 use Rattle.net_host.proofs.Walking.{ends_quiet, ends_there, goes_on, over_now, passes_to}
 use Rattle.net_host.proofs.looking.due_between.Goals as goal

@@ -4,7 +4,7 @@ use Rattle.std.proofs.lemmas.List.{length-set}
 use Rattle.net_host.specs.Looking.{sleeps}
 use Rattle.net_host.specs.Sleeping.{AreAsleep}
 use Rattle.net_host.specs.Turns.{asked_of, is_due}
-use Rattle.net_host.proofs.Asking.{noted}
+use Rattle.net_host.proofs.Polls.{noted}
 use Rattle.net_host.proofs.Sleepers.{bound_set}
 use Rattle.net_host.proofs.looking.note_at.Goals as goal
 

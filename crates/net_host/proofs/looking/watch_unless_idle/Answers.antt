@@ -3,7 +3,7 @@ use Rattle.std.specs.Prelude.{IfSome, slice_get}
 use Rattle.net_base.specs.declared.time.Instant.{Instant}
 use Rattle.net_host.specs.Turns.{Watches}
 use Rattle.net_host.specs.Walks.{ChangesAt}
-use Rattle.net_host.proofs.Asking.{seen_there}
+use Rattle.net_host.proofs.Polls.{seen_there}
 use Rattle.net_host.proofs.Each.{changes_nothing, of_some}
 use Rattle.net_host.proofs.looking.watch_unless_idle.Goals as goal
 

@@ -10,12 +10,12 @@ refile_at-filed-requires g c = lent_room g.T.Keyed.keys_of c.args.self.now.compl
 pub invariant_of-self : goal.invariant_of-self
 invariant_of-self g c =
     let now : IsSettled g.T.Keyed.keys_of c.both-self.result c.args.self.now.slots.items c.refile_at-filed.new.index c.refile_at-filed.new.free = subst (λ b. IsSettled g.T.Keyed.keys_of b c.args.self.now.slots.items c.refile_at-filed.new.index c.refile_at-filed.new.free) (sym c.both-self.ensures)
-        (settled g.T.Keyed.keys_of c.args.self.now.complete c.refile_at-filed.result c.in-Some.place c.args.self.now.slots.items c.args.self.now.index c.refile_at-filed.new.index c.args.self.now.free c.refile_at-filed.new.free
-        (subst (λ l. IsIndexed g.T.Keyed.keys_of c.args.self.now.complete l c.args.self.now.slots.items c.args.self.now.index c.args.self.now.free) c.in-Some.is c.args.self.now.indexed)
-        c.refile_at-filed.ensures.others
-        (subst (λ xs. c.refile_at-filed.result ≡ true → is_filed g.T.Keyed.keys_of c.refile_at-filed.new.index c.in-Some.place (slice_get xs c.in-Some.place) ≡ true) c.deref.ensures.value c.refile_at-filed.ensures.filed)
-        c.refile_at-filed.ensures.marks
-        (subst (λ xs. is_noted_of g.T.Keyed.keys_of c.refile_at-filed.new.free c.in-Some.place (slice_get xs c.in-Some.place) ≡ true) c.deref.ensures.value c.refile_at-filed.ensures.noted)) in
+    (settled g.T.Keyed.keys_of c.args.self.now.complete c.refile_at-filed.result c.in-Some.place c.args.self.now.slots.items c.args.self.now.index c.refile_at-filed.new.index c.args.self.now.free c.refile_at-filed.new.free
+    (subst (λ l. IsIndexed g.T.Keyed.keys_of c.args.self.now.complete l c.args.self.now.slots.items c.args.self.now.index c.args.self.now.free) c.in-Some.is c.args.self.now.indexed)
+    c.refile_at-filed.ensures.others
+    (subst (λ xs. c.refile_at-filed.result ≡ true → is_filed g.T.Keyed.keys_of c.refile_at-filed.new.index c.in-Some.place (slice_get xs c.in-Some.place) ≡ true) c.deref.ensures.value c.refile_at-filed.ensures.filed)
+    c.refile_at-filed.ensures.marks
+    (subst (λ xs. is_noted_of g.T.Keyed.keys_of c.refile_at-filed.new.free c.in-Some.place (slice_get xs c.in-Some.place) ≡ true) c.deref.ensures.value c.refile_at-filed.ensures.noted)) in
     record { indexed = now; asleep = c.args.self.now.asleep; as_many = c.args.self.now.as_many; kept = λ e. now }
 
 pub returns-in_default-clause-settled : goal.returns-in_default-clause-settled
