@@ -21,7 +21,10 @@ use Rattle.net_host.specs.Datagrams as datagrams
 use Rattle.host_index.specs.Entries.{entry_at, has}
 use Rattle.net_host.specs.Filing.{icmp_key, keys_by, keys_in, keys_of, one_key, raw_key, udp_key}
 use Rattle.net_host.specs.Indexing.{IsIndexed, are_filed, is_filed, is_kept, is_kept_of, is_noted, is_under}
-use Rattle.net_host.specs.Guards.{ended_if, lawful_limit, phase_of, with_timeout}
+use Rattle.net_host.specs.Guards.{ended_if, has_ended, lawful_limit, phase_of, with_timeout}
+use Rattle.net_host.specs.Remembered.{moment_from}
+use Rattle.net_host.specs.Sights.{IsSightIn, IsSightOf}
+use Rattle.net_host.specs.declared.sight.Sight.{Sight}
 use Rattle.net_host.specs.Messages as messages
 use Rattle.net_host.specs.Messages.{AnyMail}
 use Rattle.net_host.specs.RawCopies as raw_copies
@@ -59,6 +62,18 @@ pub watch_keeps : {G : Type 0} (st : GuardSettings) (now : Instant) (complete : 
 watch_keeps st now complete lent ss ts es ws i kept c h =
     let e : ends st now c.before ≡ false = subst (λ o. IfSome o (λ s. ends st now s ≡ false)) c.was kept in
     keeps_keys (λ s. keys_of s) (λ b a. Watches st now b a × (ends st now b ≡ false)) complete lent ss ts es ws i (λ b a w. watched_in st now b.socket a.socket b.guard a.guard w.0.looked w.1) (record { before = c.before; after = c.after; was = c.was; changed = (c.changed, e); now = c.now }) h
+
+-- what was seen of a socket tells whether the guard ends it
+pub ends_not : {G : Type 0} (st : GuardSettings) (now : Instant) (sight : Sight) (o : Option (Slot G)) → IfSome o (λ s. IsSightOf st now sight s) → has_ended (moment_from sight.end) now ≡ false → IfSome o (λ s. ends st now s ≡ false)
+ends_not st now sight None seen kept = tt
+ends_not {G = G} st now sight (Some s) seen kept = by s.socket seen
+  where
+    by : (x : Option (Socket G)) → IsSightIn st now x s.guard sight → ends_in st now x s.guard ≡ false
+    by (Some (socket.Tcp x)) h = sym (ap (λ t. has_ended t now) h.end) ∙ kept
+    by (Some (socket.Raw x)) h = refl
+    by (Some (socket.Udp x)) h = refl
+    by (Some (socket.Icmp x)) h = refl
+    by None h = refl
 
 -- ---- copies, and datagrams
 

@@ -1,6 +1,7 @@
 pub mod Idle
 pub mod Changes
 pub mod Sleepers
+pub mod Sights
 pub mod Sources
 pub mod Polls
 pub mod Bare

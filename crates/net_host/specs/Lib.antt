@@ -27,6 +27,7 @@ pub mod SheetOf
 pub mod Sheets
 pub mod Sides
 pub mod Sleeping
+pub mod Sights
 pub mod Slots
 pub mod Speaking
 pub mod Touching

@@ -1,10 +1,12 @@
 //! Limits that a host sets its TCP connections, so that no peer keeps it busy for ever or keeps its sockets taken.
-ghost use Rattle.std.specs.Prelude.{◌≡◌, Some, None, true};
+ghost use Rattle.std.specs.Prelude.{◌≡◌, Some, None, true, false};
 ghost use Rattle.sock_core.specs.Bounds.{IsMoment};
 ghost use Rattle.sock_tcp.specs.Timers.{IsLastTs};
+ghost use Rattle.net_host.specs.Guards.{last_left};
 ghost use Rattle.net_host.specs.Remembered.{IsTold, moment_from, nothing, phase_from};
 ghost use Rattle.net_host.specs.declared.guard.Phase.TheVariants.{Free};
 
+use crate::sight::Sight;
 use control_wire::TcpSeqNumber;
 use net_base::time::{Duration, Instant};
 use std::marker::Model;
@@ -49,7 +51,7 @@ pub enum Phase {
 }
 
 // A phase without its number.
-#[derive(Clone, Copy)]
+#[derive(Debug, Clone, Copy, PartialEq, Eq)]
 pub(crate) enum Kind {
     Free,
     Handshake,
@@ -61,7 +63,7 @@ pub(crate) enum Kind {
 }
 
 // What stands for no moment: no moment of a guard is the least.
-const NO_MOMENT: i64 = i64::MIN;
+pub(crate) const NO_MOMENT: i64 = i64::MIN;
 
 /// What a host remembers beside a socket: what the peer is waited for and since when, counted from the first look that
 /// saw it, and when that is to end; when the socket was last dispatched in FIN-WAIT-2; when it was last dispatched at
@@ -70,13 +72,13 @@ const NO_MOMENT: i64 = i64::MIN;
 /// It takes 40 bytes, as its moments are numbers: an `Option` of one takes sixteen bytes.
 #[derive(Drop)]
 pub struct Guard {
-    since: i64,
+    pub(crate) since: i64,
     end: i64,
     last: i64,
     moment: i64,
     // of the first byte that waits, in `Stuck`
-    number: TcpSeqNumber,
-    kind: Kind,
+    pub(crate) number: TcpSeqNumber,
+    pub(crate) kind: Kind,
     taken: u8,
 }
 
@@ -231,6 +233,25 @@ impl Guard {
         (self.kind, self.number) = parts_of(phase);
         self.since = micros_of(since);
         self.end = micros_of(end);
+    }
+
+    // What was seen is remembered, where it has not lasted too long.
+    pub(crate) fn remember(&mut self, sight: &Sight)
+        requires { IsLastTs (moment_from sight.now.since) }
+        ensures phase { self.new.phase ≡ phase_from sight.now.kind sight.now.number }
+        ensures since { self.new.since ≡ moment_from sight.now.since }
+        ensures end { self.new.end ≡ moment_from sight.now.end }
+        ensures last { self.new.last ≡ last_left false (phase_from sight.now.kind sight.now.number) self.old.last }
+        ensures moment { self.new.moment ≡ self.old.moment }
+        ensures taken { self.new.taken ≡ self.old.taken }
+    {
+        self.kind = sight.kind;
+        self.number = sight.number;
+        self.since = sight.since;
+        self.end = sight.end;
+        if !matches!(sight.kind, Kind::FinWait2) {
+            self.last = NO_MOMENT;
+        }
     }
 
     // The last dispatch in FIN-WAIT-2.

@@ -3,30 +3,45 @@ ghost use Rattle.std.specs.Prelude.{◌≡◌, ◌<◌, ◌≤◌, IfSome, lengt
 ghost use Rattle.sock_core.specs.Bounds.{IsMoment};
 ghost use Rattle.net_host.specs.Facts.{facts_by};
 ghost use Rattle.net_host.specs.Speaking.{TurnAt};
-ghost use Rattle.net_host.specs.Turns.{Watches, ends};
+ghost use Rattle.net_host.specs.Guards.{has_ended};
+ghost use Rattle.net_host.specs.Remembered.{moment_from};
+ghost use Rattle.net_host.specs.Sights.{IsSightOf};
+ghost use Rattle.net_host.specs.Turns.{Watches};
 ghost use Rattle.net_host.specs.Walks.{ChangesAt};
 
 use crate::environment::Environment;
 use crate::guard::GuardSettings;
+use crate::limits::Limits;
 use crate::set::SocketSet;
+use crate::sight::Sight;
 use crate::slot::Slot;
 use crate::wire::TooShort;
-use smoltcp_socket::Socket;
 use smoltcp_socket::time::Instant;
 use smoltcp_socket::wire::IpAddress;
 use sock_tcp::TsvalSource;
 
-impl<'a, G: TsvalSource> Slot<'a, G> {
-    // Whether the guard ends what its socket has lasted in.
-    fn ends(&self, settings: &GuardSettings, now: Instant) -> bool
-        requires { IsMoment now.micros }
-        ensures { result ≡ ends settings.now now self.now }
-    {
-        match &self.socket {
-            Some(Socket::Tcp(tcp)) => self.guard.is_over(settings, tcp, now),
-            _ => false,
-        }
-    }
+fn sight_at<G: TsvalSource>(slots: &[Slot<'_, G>], i: usize, limits: &Limits, now: Instant) -> Sight
+    requires within { i < length slots.now }
+    requires moment { IsMoment now.micros }
+    ensures { IfSome (slice_get slots.now i) (λ s. IsSightOf limits.now now result s) }
+{
+    slots[i].sight(limits, now)
+}
+
+fn keep_there<G: TsvalSource>(
+    slots: &mut Vec<Slot<'_, G>>,
+    i: usize,
+    limits: &Limits,
+    now: Instant,
+    sight: &Sight,
+)
+    requires within { i < length slots.old.items }
+    requires moment { IsMoment now.micros }
+    requires seen { IfSome (slice_get slots.old.items i) (λ s. IsSightOf limits.now now sight.now s) }
+    requires kept { has_ended (moment_from sight.now.end) now ≡ false }
+    ensures { ChangesAt (Watches limits.now now) slots.old.items i slots.new.items }
+{
+    slots[i].keep(limits, now, sight);
 }
 
 fn watch_there<G: TsvalSource>(
@@ -58,39 +73,35 @@ fn watch_lent<G: TsvalSource>(
 }
 
 // What is not ended keeps its keys.
-fn watch_kept<G: TsvalSource>(
-    sockets: &mut SocketSet<'_, G>,
-    i: usize,
-    settings: &GuardSettings,
-    now: Instant,
-)
+fn watch_kept<G: TsvalSource>(sockets: &mut SocketSet<'_, G>, i: usize, now: Instant, sight: &Sight)
     requires within { i < length sockets.old.slots.items }
     requires moment { IsMoment now.micros }
-    requires kept { IfSome (slice_get sockets.old.slots.items i) (λ s. ends settings.now now s ≡ false) }
-    ensures looked { ChangesAt (Watches settings.now now) sockets.old.slots.items i sockets.new.slots.items }
+    requires seen { IfSome (slice_get sockets.old.slots.items i)
+        (λ s. IsSightOf sockets.old.terms.guards now sight.now s) }
+    requires kept { has_ended (moment_from sight.now.end) now ≡ false }
+    ensures looked { ChangesAt (Watches sockets.old.terms.guards now) sockets.old.slots.items i
+        sockets.new.slots.items }
     ensures terms { sockets.new.terms ≡ sockets.old.terms }
 {
     sockets.bounds.set(i, i64::MIN);
     sockets.settled = false;
-    watch_there(&mut sockets.slots, i, settings, now);
+    keep_there(&mut sockets.slots, i, &sockets.terms.guards, now, sight);
 }
 
 /// The guard of the socket at this place looks at it.
-pub(crate) fn watch_at<G: TsvalSource>(
-    sockets: &mut SocketSet<'_, G>,
-    i: usize,
-    settings: &GuardSettings,
-    now: Instant,
-)
+pub(crate) fn watch_at<G: TsvalSource>(sockets: &mut SocketSet<'_, G>, i: usize, now: Instant)
     requires within { i < length sockets.old.slots.items }
     requires moment { IsMoment now.micros }
-    ensures looked { ChangesAt (Watches settings.now now) sockets.old.slots.items i sockets.new.slots.items }
+    ensures looked { ChangesAt (Watches sockets.old.terms.guards now) sockets.old.slots.items i
+        sockets.new.slots.items }
     ensures terms { sockets.new.terms ≡ sockets.old.terms }
 {
-    if sockets.slots[i].ends(settings, now) {
-        watch_lent(sockets, i, settings, now);
+    let sight = sight_at(&sockets.slots, i, &sockets.terms.guards, now);
+    if sight.is_over(now) {
+        let guards = sockets.terms.guards.settings();
+        watch_lent(sockets, i, &guards, now);
     } else {
-        watch_kept(sockets, i, settings, now);
+        watch_kept(sockets, i, now, &sight);
     }
 }
 

@@ -35,6 +35,7 @@ pub mod rest;
 pub mod secret;
 pub mod segments;
 pub mod set;
+pub mod sight;
 pub mod slot;
 pub mod speak;
 pub mod terms;

@@ -1,8 +1,10 @@
 //! The limits that a host sets its TCP connections, as numbers.
 ghost use Rattle.std.specs.Prelude.{◌≡◌, true};
-ghost use Rattle.net_host.specs.Guards.{limit_from};
+ghost use Rattle.control_wire.specs.declared.seq_number.TcpSeqNumber.{TcpSeqNumber};
+ghost use Rattle.net_host.specs.Guards.{lawful_limit, limit_from, limit_of};
+ghost use Rattle.net_host.specs.Remembered.{phase_from};
 
-use crate::guard::GuardSettings;
+use crate::guard::{GuardSettings, Kind};
 use net_base::time::Duration;
 use std::marker::Model;
 
@@ -86,6 +88,20 @@ impl Limits {
             closing: limit_from(self.has_closing, self.closing),
             window: limit_from(self.has_window, self.window),
             timeout: limit_from(self.has_timeout, self.timeout),
+        }
+    }
+
+    /// The limit of what the peer is waited for: whether there is one, and its microseconds.
+    #[inline(always)]
+    pub(crate) fn of_kind(&self, kind: Kind) -> (bool, u64)
+        ensures { (n : TcpSeqNumber)
+            → lawful_limit (limit_from result.0 result.1) ≡ limit_of self.now (phase_from kind n) }
+    {
+        match kind {
+            Kind::Free => (false, 0),
+            Kind::Handshake => (self.has_handshake, self.handshake),
+            Kind::Stuck => (self.has_window, self.window),
+            _ => (self.has_closing, self.closing),
         }
     }
 

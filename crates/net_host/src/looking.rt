@@ -90,8 +90,7 @@ fn watch_unless_idle<G: TsvalSource>(sockets: &mut SocketSet<'_, G>, i: usize, n
     ensures seen { IfSome (slice_get sockets.new.slots.items i) (λ s. is_seen sockets.old.terms.guards s ≡ true) }
 {
     if !is_idle_at(&sockets.slots, i, &sockets.terms.guards) {
-        let guards = sockets.terms.guards.settings();
-        watch_at(sockets, i, &guards, now);
+        watch_at(sockets, i, now);
     }
 }
 

@@ -1,8 +1,11 @@
 //! What a host does with one socket and its guard: looks at it, asks when it wants to speak, and lets it speak.
-ghost use Rattle.std.specs.Prelude.{◌≡◌, ◌≤◌, length, true};
+ghost use Rattle.std.specs.Prelude.{◌≡◌, ◌≤◌, length, true, false};
 ghost use Rattle.sock_core.specs.Bounds.{IsMoment};
 ghost use Rattle.net_host.specs.Facts.{facts_by};
+ghost use Rattle.net_host.specs.Guards.{has_ended};
 ghost use Rattle.net_host.specs.Looking.{is_seen};
+ghost use Rattle.net_host.specs.Remembered.{moment_from};
+ghost use Rattle.net_host.specs.Sights.{IsSightOf};
 ghost use Rattle.net_base.specs.declared.time.Instant.{Instant};
 ghost use Rattle.sock_tcp.specs.Polls.{is_reached};
 ghost use Rattle.net_host.specs.Turns.{SlotEmits, TakesTurn, Watches, asked_of, delayed, slot_poll};
@@ -11,6 +14,7 @@ use crate::emission::{emit_icmp, emit_raw, emit_tcp, emit_udp};
 use crate::environment::Environment;
 use crate::guard::GuardSettings;
 use crate::limits::Limits;
+use crate::sight::Sight;
 use crate::slot::Slot;
 use crate::watching::not_before;
 use crate::wire::TooShort;
@@ -30,6 +34,30 @@ impl<'a, G: TsvalSource> Slot<'a, G> {
     {
         match &mut self.socket {
             Some(Socket::Tcp(tcp)) => self.guard.watch(settings, tcp, now),
+            _ => {}
+        }
+    }
+
+    /// What the guard of a TCP socket sees of it.
+    pub(crate) fn sight(&self, limits: &Limits, now: Instant) -> Sight
+        requires { IsMoment now.micros }
+        ensures { IsSightOf limits.now now result self.now }
+    {
+        match &self.socket {
+            Some(Socket::Tcp(tcp)) => self.guard.sight(limits, tcp, now),
+            _ => Sight::none(),
+        }
+    }
+
+    /// The same as `watch`, where what was seen at this moment has not lasted too long.
+    pub(crate) fn keep(&mut self, limits: &Limits, now: Instant, sight: &Sight)
+        requires moment { IsMoment now.micros }
+        requires seen { IsSightOf limits.now now sight.now self.old }
+        requires kept { has_ended (moment_from sight.now.end) now ≡ false }
+        ensures { Watches limits.now now self.old self.new }
+    {
+        match &mut self.socket {
+            Some(Socket::Tcp(tcp)) => self.guard.keep(limits, tcp, now, sight),
             _ => {}
         }
     }

@@ -10,13 +10,15 @@ ghost use Rattle.net_host.specs.Guards.{lawful_limit, limit_of, may_in, moment_l
 ghost use Rattle.net_host.specs.Guards.{phase_of};
 ghost use Rattle.net_host.specs.Guards.{same_phase, since_by, since_in, stuck_by, usual, with_timeout};
 ghost use Rattle.net_host.specs.Looking.{has_timeout, seen_with};
-ghost use Rattle.net_host.specs.Remembered.{IsTold};
+ghost use Rattle.net_host.specs.Remembered.{IsTold, moment_from};
+ghost use Rattle.net_host.specs.Sights.{IsSight};
 ghost use Rattle.net_host.specs.declared.guard.Phase.TheVariants.{Free};
 ghost use Rattle.net_base.specs.declared.time.Instant.{Instant};
-ghost use Rattle.net_host.specs.Watching.{Asks, Looks, is_over_for, may_turn};
+ghost use Rattle.net_host.specs.Watching.{Asks, Looks, may_turn};
 
-use crate::guard::{Guard, GuardSettings, PACE, Phase, TURNS};
+use crate::guard::{Guard, GuardSettings, Kind, PACE, Phase, TURNS};
 use crate::limits::Limits;
+use crate::sight::{Sight, kind_of};
 use control_wire::TcpSeqNumber;
 use net_base::time::{Duration, Instant};
 use smoltcp_socket::PollAt;
@@ -105,18 +107,27 @@ impl Guard {
             socket.now.control_block ≡ true }
     {
         self.waits_for_nothing()
-            && is_free(phase_of(socket))
+            && is_free(socket)
             && has_timeout(limits.timeout(), socket.timeout())
     }
 
-    /// Whether `watch` would end what the socket has lasted in.
-    pub fn is_over<G>(&self, settings: &GuardSettings, socket: &Socket<'_, G>, now: Instant) -> bool
-        requires { IsMoment now.micros }
-        ensures { result ≡ is_over_for settings.now self.now socket.now.control_block now }
+    /// The same as `watch`, where what was seen of the socket at this moment has not lasted too long.
+    #[tactic(auto, using(crate::proofs::Sights::looks))]
+    pub(crate) fn keep<G>(
+        &mut self,
+        limits: &Limits,
+        socket: &mut Socket<'_, G>,
+        now: Instant,
+        sight: &Sight,
+    )
+        requires moment { IsMoment now.micros }
+        requires seen { IsSight limits.now now socket.old.control_block self.old sight.now }
+        requires kept { has_ended (moment_from sight.now.end) now ≡ false }
+        ensures looks { Looks limits.now now socket.old.control_block self.old self.new socket.new.control_block }
+        ensures generator { socket.new.tsval_generator ≡ socket.old.tsval_generator }
     {
-        let phase = phase_of(socket);
-        let since = since_in(phase, self.phase(), self.since(), now);
-        has_ended(end_of(settings.limit_of(phase), since), now)
+        set_timeout(socket, lawful(limits.timeout()));
+        self.remember(sight);
     }
 
     fn note(&mut self, over: bool, phase: Phase, since: Option<Instant>, end: Option<Instant>)
@@ -205,10 +216,11 @@ fn phase_in(state: State, shut: bool, empty: bool, una: TcpSeqNumber) -> Phase
     }
 }
 
-fn is_free(phase: Phase) -> bool
-    ensures { result ≡ true → phase ≡ Free }
+#[tactic(auto, using(crate::proofs::Sights::is_free))]
+fn is_free<G>(socket: &Socket<'_, G>) -> bool
+    ensures { result ≡ true → phase_of socket.now.control_block ≡ Free }
 {
-    matches!(phase, Phase::Free)
+    matches!(kind_of(socket), Kind::Free)
 }
 
 // Whether a socket has the user timeout that is set, if one is.

@@ -2,16 +2,13 @@ use Rattle.std.proofs.Common.{rules, ◌≡◌, true, subst}
 use Rattle.std.specs.Prelude.{IfSome, slice_get}
 use Rattle.net_base.specs.declared.time.Instant.{Instant}
 use Rattle.net_host.specs.Turns.{Watches}
-use Rattle.net_host.specs.Walks.{ChangesAt}
 use Rattle.net_host.proofs.Polls.{seen_there}
 use Rattle.net_host.proofs.Each.{changes_nothing, of_some}
 use Rattle.net_host.proofs.looking.watch_unless_idle.Goals as goal
 
 pub returns-then-not-is_idle_at-clause-seen : goal.returns-then-not-is_idle_at-clause-seen
 returns-then-not-is_idle_at-clause-seen g c =
-    let told : c.settings-guards.result ≡ c.args.sockets.now.terms.guards = search rules in
-    seen_there c.args.sockets.now.terms.guards c.args.now c.args.sockets.now.slots.items c.watch_at.new.sockets.slots.items c.args.i
-    (subst (λ st. ChangesAt (λ b a. Watches st c.args.now b a) c.args.sockets.now.slots.items c.args.i c.watch_at.new.sockets.slots.items) told c.watch_at.ensures.looked)
+    seen_there c.args.sockets.now.terms.guards c.args.now c.args.sockets.now.slots.items c.watch_at.new.sockets.slots.items c.args.i c.watch_at.ensures.looked
 
 pub returns-else-not-is_idle_at-clause-looked : goal.returns-else-not-is_idle_at-clause-looked
 returns-else-not-is_idle_at-clause-looked g c =

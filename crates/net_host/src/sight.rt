@@ -1,0 +1,170 @@
+//! What a guard sees of its socket, as numbers: which of its states it is in is one of a few, that no jump goes by.
+ghost use Rattle.std.specs.Prelude.{◌≡◌, None};
+ghost use Rattle.sock_core.specs.Bounds.{IsMoment};
+ghost use Rattle.sock_tcp.specs.Timers.{IsLastTs};
+ghost use Rattle.control_wire.specs.declared.seq_number.TcpSeqNumber.{TcpSeqNumber};
+ghost use Rattle.net_base.specs.declared.time.Instant.{Instant};
+ghost use Rattle.net_host.specs.Guards.{end_of, has_ended, lawful_limit, limit_from, limit_of, phase_of};
+ghost use Rattle.net_host.specs.Guards.{same_phase, since_by};
+ghost use Rattle.net_host.specs.Remembered.{moment_from, phase_from};
+ghost use Rattle.net_host.specs.declared.guard.Kind.TheVariants.{Free};
+ghost use Rattle.net_host.specs.Sights.{IsSight, kind_by, kind_in};
+
+use crate::guard::{Guard, Kind, NO_MOMENT};
+use crate::limits::Limits;
+use control_wire::TcpSeqNumber;
+use net_base::time::{Duration, Instant};
+use sock_tcp::{Socket, State};
+
+/// What the peer is waited for, the number of the first byte that waits, since when, and when that is to end.
+#[derive(Debug, Clone, Copy)]
+pub struct Sight {
+    pub(crate) kind: Kind,
+    pub(crate) number: TcpSeqNumber,
+    pub(crate) since: i64,
+    pub(crate) end: i64,
+}
+
+// By the state alone; `Stuck` where it is for the window and the bytes that wait to say.
+#[inline(always)]
+fn kind_in(state: State) -> Kind
+    ensures { result ≡ kind_in state }
+{
+    match state {
+        State::SynReceived => Kind::Handshake,
+        State::FinWait1 => Kind::FinWait1,
+        State::FinWait2 => Kind::FinWait2,
+        State::Closing => Kind::Closing,
+        State::LastAck => Kind::LastAck,
+        State::Established | State::CloseWait => Kind::Stuck,
+        _ => Kind::Free,
+    }
+}
+
+#[inline(always)]
+fn kind_by(kind: Kind, shut: bool, empty: bool) -> Kind
+    ensures { result ≡ kind_by kind shut empty }
+{
+    match kind {
+        Kind::Stuck if !shut || empty => Kind::Free,
+        _ => kind,
+    }
+}
+
+/// What the peer is waited for.
+#[inline(always)]
+#[tactic(auto, using(crate::proofs::Sights::kind_of))]
+pub(crate) fn kind_of<G>(socket: &Socket<'_, G>) -> Kind
+    ensures { phase_from result socket.now.control_block.local_seq_no ≡ phase_of socket.now.control_block }
+{
+    let shut = socket.remote_window() == 0;
+    let empty = socket.send_queue() == 0;
+    kind_by(kind_in(socket.state()), shut, empty)
+}
+
+// Whether the peer is waited for, for what it was.
+#[inline(always)]
+fn is_same(kind: Kind, number: TcpSeqNumber, before: Kind, old: TcpSeqNumber) -> bool
+    ensures { result ≡ same_phase (phase_from kind number) (phase_from before old) }
+{
+    match kind {
+        Kind::Free => false,
+        Kind::Stuck => before == Kind::Stuck && number.0 == old.0,
+        _ => kind == before,
+    }
+}
+
+// Since when: the earlier of what was known and now.
+#[inline(always)]
+#[tactic(auto, using(crate::proofs::Sights::was_moment))]
+fn since_of(same: bool, since: i64, now: Instant) -> i64
+    requires moment { IsMoment now.micros }
+    requires since { IsLastTs (moment_from since) }
+    ensures value { moment_from result ≡ since_by same (moment_from since) now }
+    ensures lawful { IsMoment result }
+{
+    if same && since != NO_MOMENT && since <= now.micros {
+        since
+    } else {
+        now.micros
+    }
+}
+
+// When that is to end.
+#[inline(always)]
+fn end_of(limit: (bool, u64), since: i64) -> i64
+    requires { IsMoment since }
+    ensures { moment_from result ≡ end_of (lawful_limit (limit_from limit.0 limit.1)) (moment_from since) }
+{
+    if limit.0 {
+        let delay = Duration {
+            micros: limit.1.min(1 << 60),
+        };
+        let end = Instant { micros: since } + delay;
+        end.micros
+    } else {
+        NO_MOMENT
+    }
+}
+
+impl Sight {
+    /// Nothing is waited for.
+    pub(crate) fn none() -> Sight
+        ensures kind { result.kind ≡ Free }
+        ensures since { moment_from result.since ≡ None }
+        ensures end { moment_from result.end ≡ None }
+    {
+        Sight {
+            kind: Kind::Free,
+            number: TcpSeqNumber(0),
+            since: NO_MOMENT,
+            end: NO_MOMENT,
+        }
+    }
+
+    /// Whether it has lasted too long by now.
+    pub(crate) fn is_over(&self, now: Instant) -> bool
+        ensures { result ≡ has_ended (moment_from self.now.end) now }
+    {
+        self.end != NO_MOMENT && self.end <= now.micros
+    }
+}
+
+impl Guard {
+    // What is waited for since it was seen first, where that is something.
+    #[inline(always)]
+    fn waits(&self, limits: &Limits, kind: Kind, number: TcpSeqNumber, now: Instant) -> Sight
+        requires { IsMoment now.micros }
+        ensures kind { result.kind ≡ kind }
+        ensures number { result.number ≡ number }
+        ensures since { moment_from result.since
+            ≡ since_by (same_phase (phase_from kind number) self.now.phase) self.now.since now }
+        ensures end { moment_from result.end
+            ≡ end_of (limit_of limits.now (phase_from kind number)) (moment_from result.since) }
+        ensures lawful { IsMoment result.since }
+    {
+        let same = is_same(kind, number, self.kind, self.number);
+        let since = since_of(same, self.since, now);
+        let end = end_of(limits.of_kind(kind), since);
+        Sight {
+            kind,
+            number,
+            since,
+            end,
+        }
+    }
+
+    /// What the guard sees of the socket at this moment.
+    #[tactic(auto, using(crate::proofs::Sights::seen, crate::proofs::Sights::seen_free))]
+    pub(crate) fn sight<G>(&self, limits: &Limits, socket: &Socket<'_, G>, now: Instant) -> Sight
+        requires { IsMoment now.micros }
+        ensures { IsSight limits.now now socket.now.control_block self.now result }
+    {
+        let kind = kind_of(socket);
+        let number = socket.send_unacknowledged();
+        match kind {
+            Kind::Free => Sight::none(),
+            _ => self.waits(limits, kind, number, now),
+        }
+    }
+}
