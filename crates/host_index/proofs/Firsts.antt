@@ -1,9 +1,8 @@
 -- First places that are known stay first.
-use Rattle.std.proofs.Common.{◌≡◌, ◌∙◌, ℕ, ◌+◌, ◌*◌, ◌/◌, ◌%◌, ◌<◌, ◌≤◌, List, [], ◌∷◌, suc, zero, Bool, true, false, length, get_or, nat_eq, nat_lt, refl, sym, subst, ap, arith}
+use Rattle.std.proofs.Common.{◌≡◌, ◌∙◌, ℕ, ◌*◌, ◌/◌, ◌<◌, ◌≤◌, List, [], ◌∷◌, suc, zero, Bool, true, false, length, get_or, nat_eq, refl, sym, subst, ap, arith}
 use Rattle.std.specs.Prelude.{IfSome, Option, Some, None, slice_set}
 use Rattle.std.specs.List.{insert, remove}
 use Rattle.std.proofs.lemmas.List.{get_or-set_other}
-use Rattle.std.proofs.lemmas.Grind.{get_or-set_at}
 use Rattle.host_index.specs.declared.columns.Columns.{Columns}
 use Rattle.host_index.specs.declared.entry.Entry.{Entry}
 use Rattle.host_index.specs.Columns.{Frees, IsPut, Puts, entry_in, is_free}

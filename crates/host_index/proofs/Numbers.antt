@@ -9,7 +9,7 @@ use Rattle.host_index.specs.declared.entry.Entry.{Entry}
 use Rattle.std.proofs.lemmas.List.Edits.{get_or-insert_above, get_or-insert_at, get_or-insert_below, get_or-remove_above, get_or-remove_below, length-insert, length-remove}
 use Rattle.host_index.specs.Columns.{Frees, Puts, entry_in, is_free}
 use Rattle.host_index.specs.Entries.{IsSortedByRank, Splits, has, nothing, rank, rank_at}
-use Rattle.host_index.specs.Indexing.{IsAmong, IsIndex, IsOrdered, entries_in, number_at}
+use Rattle.host_index.specs.Indexing.{AreBefore, IsAmong, IsIndex, IsOrdered, entries_in, number_at}
 
 pub entry_of : (c : Columns) (os : List ℕ) (k : ℕ) → k < length os → get_or (entries_in c os) k nothing ≡ entry_in c (number_at os k)
 entry_of c os k within = get_or-map (λ n. entry_in c n) os k 0 nothing within
@@ -48,6 +48,26 @@ first_splits c os n ordered first = splits c os n 0 (omega arith) (λ k h. absur
         let p : n ≤ rank (entry_in c (number_at os 0)) = first (omega (arith, within)) in
         let q : rank (entry_in c (number_at os 0)) < rank (entry_in c (number_at os (suc k))) = ordered 0 (suc k) (omega arith) within in
         omega (arith, p, q)
+
+-- where all before a place are less and it is not
+pub splits_here : (c : Columns) (os : List ℕ) (n p : ℕ) → IsOrdered c os → p < length os → AreBefore c os n p → nat_lt (rank (entry_in c (number_at os p))) n ≡ false → Splits (entries_in c os) n p
+splits_here c os n p ordered inside before not_less = splits c os n p (omega (arith, inside)) before.less above
+  where
+    here : n ≤ rank (entry_in c (number_at os p))
+    here = grind (arith, not_less)
+
+    above : (k : ℕ) → p ≤ k → k < length os → n ≤ rank (entry_in c (number_at os k))
+    above k from within = by (nat_eq k p) refl
+      where
+        by : (b : Bool) → nat_eq k p ≡ b → n ≤ rank (entry_in c (number_at os k))
+        by true q = subst (λ m. n ≤ rank (entry_in c (number_at os m))) (sym (grind (arith, q))) here
+        by false q =
+            let behind : rank (entry_in c (number_at os p)) < rank (entry_in c (number_at os k)) = ordered p k (grind (arith, q, from)) within in
+            omega (arith, behind, here)
+
+-- where all are less
+pub splits_behind : (c : Columns) (os : List ℕ) (n : ℕ) → AreBefore c os n (length os) → Splits (entries_in c os) n (length os)
+splits_behind c os n before = splits c os n (length os) (omega arith) before.less (λ k h there. absurd (omega (arith, h, there)))
 
 -- the first of the entries, or none
 pub first_is : (c : Columns) (os : List ℕ) (n : ℕ) (e : Entry) → slice_get os 0 ≡ Some n → e ≡ entry_in c n → get_or (entries_in c os) 0 nothing ≡ e

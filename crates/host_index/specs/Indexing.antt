@@ -17,6 +17,10 @@ abbrev pub IsOrdered : Columns → List ℕ → Type 0
 IsOrdered c os =
     (i j : ℕ) → i < j → j < length os → rank (entry_in c (number_at os i)) < rank (entry_in c (number_at os j))
 
+-- those before this place are of a lesser rank
+pub record AreBefore (c : Columns) (os : List ℕ) (n p : ℕ) : Type 0 where
+  pub less : (k : ℕ) → k < p → rank (entry_in c (number_at os k)) < n
+
 -- it is the number of one of them
 pub record IsAmong (os : List ℕ) (n : ℕ) : Type 0 where
   pub place : ℕ

@@ -1,9 +1,10 @@
 //! An index: places under keys, in order.
-ghost use Rattle.std.specs.Prelude.{ℕ, ◌≡◌, ◌<◌, ◌*◌, ◌^◌, IfOk, IfSome, length, get_or, true, false, []};
+ghost use Rattle.std.specs.Prelude.{ℕ, ◌≡◌, ◌<◌, ◌≤◌, ◌*◌, ◌/◌, ◌^◌, IfOk, IfSome, length, get_or, nat_lt, true, false};
+ghost use Rattle.std.specs.Prelude.{[]};
 ghost use Rattle.host_index.specs.Columns.{AreAsMany, entry_in};
 ghost use Rattle.host_index.specs.Entries.{IsFirst, IsSortedByRank, Keeps, KeepsBut, KeepsElsewhere, Splits, entry_at};
 ghost use Rattle.host_index.specs.Entries.{has, nothing, rank};
-ghost use Rattle.host_index.specs.Indexing.{IsOrdered, entries_in, number_at};
+ghost use Rattle.host_index.specs.Indexing.{AreBefore, IsOrdered, entries_in, number_at};
 ghost use Rattle.host_index.specs.Known.{IsFirstIn};
 
 use crate::columns::{Columns, number_of};
@@ -11,6 +12,9 @@ use crate::entry::{Entry, Which, is_entry, is_key_less, is_less};
 use crate::known::Known;
 use std::alloc::{AllocError, Global};
 use std::marker::Model;
+
+// How far from where the last key went the next one is looked for.
+const NEAR: usize = 16;
 
 /// Entries in order, of keys and of places under a key: of each place at most one first and one second key.
 ///
@@ -23,8 +27,11 @@ pub struct Index {
     // the key that was sought last, and where its entries begin
     sought: Entry,
     begins: usize,
-    // first places under keys that were sought: a place that is known is mostly the right one
+    // first places under keys that were sought or added: a place that is known is mostly the right one
     known: Known,
+    // from where on a first and a second key are looked for that goes: before where the last one went
+    near_first: usize,
+    near_second: usize,
 }
 
 impl Model for Index {
@@ -128,7 +135,77 @@ fn lower(columns: &Columns, order: &[u32], key: Entry) -> usize
     low
 }
 
-// The same, by one look where no entry stands before the key.
+// Whether an entry stands before the key, where one is at this place of the order. Not inlined, so that the few looks
+// that spare a search stay short.
+#[inline(never)]
+fn is_before_at(columns: &Columns, order: &[u32], place: usize, key: Entry) -> bool
+    requires as_many { AreAsMany columns.now }
+    requires within { place < length order.now }
+    ensures { result ≡ nat_lt (rank (entry_in columns.now (number_at order.now place))) (rank key) }
+{
+    is_less(entry_at(columns, order, place), key)
+}
+
+// Whether all entries before this place of the order stand before the key.
+fn is_behind_them(columns: &Columns, order: &[u32], place: usize, key: Entry) -> bool
+    requires as_many { AreAsMany columns.now }
+    requires ordered { IsOrdered columns.now order.now }
+    requires within { place ≤ length order.now }
+    ensures { result ≡ true → AreBefore columns.now order.now (rank key) place }
+{
+    place == 0 || is_before_at(columns, order, place - 1, key)
+}
+
+// Whether the entries under a key begin at this place of the order.
+#[tactic(auto, using(crate::proofs::Numbers::splits_here))]
+fn begins_at(columns: &Columns, order: &[u32], place: usize, key: Entry) -> bool
+    requires as_many { AreAsMany columns.now }
+    requires ordered { IsOrdered columns.now order.now }
+    ensures { result ≡ true → Splits (entries_in columns.now order.now) (rank key) place }
+{
+    if place >= order.len() || !is_behind_them(columns, order, place, key) {
+        return false;
+    }
+    !is_before_at(columns, order, place, key)
+}
+
+// The same as `lower`, by one look where no entry stands behind the key, as where the ports of connections rise.
+#[tactic(auto, using(crate::proofs::Numbers::splits_behind))]
+fn lower_or_end(columns: &Columns, order: &[u32], key: Entry) -> usize
+    requires as_many { AreAsMany columns.now }
+    requires ordered { IsOrdered columns.now order.now }
+    ensures { Splits (entries_in columns.now order.now) (rank key) result }
+{
+    let end = order.len();
+    if is_behind_them(columns, order, end, key) {
+        return end;
+    }
+    lower(columns, order, key)
+}
+
+// Where a number stands, of a few from this place of the order on: keys that go one after another mostly stand near,
+// and these looks at numbers side by side spare a search.
+fn near(order: &[u32], number: u32, from: usize) -> Option<usize> {
+    let end = from.saturating_add(2 * NEAR).min(order.len());
+    for place in from..end {
+        if order[place] == number {
+            return Some(place);
+        }
+    }
+    None
+}
+
+fn is_there(order: &[u32], place: usize, number: usize) -> bool
+    ensures within { result ≡ true → place < length order.now }
+    ensures number { result ≡ true → number_at order.now place ≡ number }
+{
+    match order.get(place) {
+        Some(there) => *there as usize == number,
+        None => false,
+    }
+}
+
+// The same as `lower`, by one look where no entry stands before the key.
 fn begin(columns: &Columns, order: &[u32], key: Entry) -> usize
     requires as_many { AreAsMany columns.now }
     requires ordered { IsOrdered columns.now order.now }
@@ -154,6 +231,8 @@ impl Index {
             sought: least_key(),
             begins: 0,
             known: Known::new(alloc)?,
+            near_first: 0,
+            near_second: 0,
         })
     }
 
@@ -183,8 +262,8 @@ impl Index {
         begin(&self.columns, &self.order, key)
     }
 
-    /// Seeks a key, so that `known` tells the first place under it, and `lower` does not search for it until an entry is
-    /// added or removed, or another key is sought.
+    /// Seeks a key, so that `known` tells the first place under it, and `lower` does not search for it until an entry
+    /// is added or removed, or another key is sought.
     pub fn seek(&mut self, key: Entry)
         ensures { self.new ≡ self.old }
     {
@@ -198,7 +277,7 @@ impl Index {
     fn search(&mut self, key: Entry)
         ensures { self.new ≡ self.old }
     {
-        self.begins = lower(&self.columns, &self.order, key);
+        self.begins = lower_or_end(&self.columns, &self.order, key);
         self.sought = key;
         self.learn();
     }
@@ -251,7 +330,19 @@ impl Index {
         ensures added { result ≡ true → has self.new entry ≡ true }
         ensures kept { Keeps self.old self.new }
     {
-        let place = lower(&self.columns, &self.order, entry);
+        let place = lower_or_end(&self.columns, &self.order, entry);
+        let added = self.put_at(place, which, entry);
+        if added && which == Which::First {
+            self.learn_at(place, entry_of(entry, 0));
+        }
+        added
+    }
+
+    fn put_at(&mut self, place: usize, which: Which, entry: Entry) -> bool
+        requires { Splits self.old (rank entry) place }
+        ensures added { result ≡ true → has self.new entry ≡ true }
+        ensures kept { Keeps self.old self.new }
+    {
         if self.order.len() >= self.order.capacity() || self.stands_at(place, entry) {
             return false;
         }
@@ -263,6 +354,17 @@ impl Index {
         self.begins = 0;
         self.known.forget(entry);
         self.order.insert(place, number).is_ok()
+    }
+
+    // The first place under the key is known, where its entries begin at this place of the order.
+    fn learn_at(&mut self, place: usize, key: Entry)
+        ensures { self.new ≡ self.old }
+    {
+        if begins_at(&self.columns, &self.order, place, key) {
+            self.begins = place;
+            self.sought = key;
+            self.learn();
+        }
     }
 
     // Whether an entry that is not behind this one stands at this place of the order.
@@ -301,8 +403,45 @@ impl Index {
         }
         let number = number_of(which, place);
         if !self.columns.is_free(number) {
-            let entry = self.columns.get(number);
-            self.remove(entry);
+            self.take(which, number);
+        }
+    }
+
+    // Removes the key of this number, where it stands.
+    fn take(&mut self, which: Which, number: usize)
+        requires { number < 2147483648 }
+        ensures { KeepsElsewhere (number / 2) self.old self.new }
+    {
+        let place = self.stands(which, number);
+        if !is_there(&self.order, place, number) {
+            return;
+        }
+        self.take_out(place);
+        self.note(which, place);
+    }
+
+    // Where the key of this number stands, which is looked at then.
+    fn stands(&self, which: Which, number: usize) -> usize
+        requires { number < 2147483648 }
+    {
+        let from = match which {
+            Which::First => self.near_first,
+            Which::Second => self.near_second,
+        };
+        match near(&self.order, number as u32, from) {
+            Some(place) => place,
+            None => lower(&self.columns, &self.order, self.columns.get(number)),
+        }
+    }
+
+    // A key went from this place of the order.
+    fn note(&mut self, which: Which, place: usize)
+        ensures { self.new ≡ self.old }
+    {
+        let from = place.saturating_sub(NEAR);
+        match which {
+            Which::First => self.near_first = from,
+            Which::Second => self.near_second = from,
         }
     }
 }

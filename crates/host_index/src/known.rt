@@ -11,8 +11,8 @@ const COUNT: usize = 256;
 // What stands for no place: no place is so far on.
 const NO_PLACE: u32 = u32::MAX;
 
-/// For some keys a place each. Two keys may want the same room, and the later one has it: a peer who chooses his keys so
-/// has each of them searched for, as all are without this.
+/// For some keys a place each. Two keys may want the same room, and the later one has it: a peer who chooses his keys
+/// so has each of them searched for, as all are without this.
 #[derive(Drop)]
 pub(crate) struct Known {
     pub(crate) places: Vec<u32>,

@@ -9,8 +9,8 @@ use Rattle.host_index.specs.declared.entry.Entry.{Entry}
 use Rattle.net_host.specs.declared.key.Key.{Key}
 use Rattle.net_host.specs.declared.key.Key.TheVariants as key
 use Rattle.net_host.specs.declared.key.Keys.{Keys}
-use Rattle.host_index.specs.Entries.{entry_at, has}
-use Rattle.net_host.specs.Indexing.{IsIndexed, IsLentAt, IsSettled, KeepsMarks, KeepsOthers, are_filed, is_filed, is_kept, is_kept_of, is_noted, is_noted_of, is_under, lent_of, no_keys}
+use Rattle.host_index.specs.Entries.{KeepsElsewhere, entry_at, has}
+use Rattle.net_host.specs.Indexing.{IsIndexed, IsLentAt, IsSettled, KeepsMarks, are_filed, is_filed, is_kept, is_kept_of, is_noted, is_noted_of, is_under, lent_of, no_keys}
 use Rattle.host_bounds.specs.Marking.{bit_of}
 use Rattle.net_host.specs.Walks.{Both, ChangesAt, ChangesEach}
 use Rattle.net_host.proofs.Each.{elsewhere}
@@ -24,12 +24,12 @@ both false b h k = h
 
 -- ---- keys
 
-pub under_kept : (place : ℕ) (es fs : List Entry) (k : ℕ) → KeepsOthers place es fs → nat_eq k place ≡ false → (q : Key) → is_under es k q ≡ true → is_under fs k q ≡ true
+pub under_kept : (place : ℕ) (es fs : List Entry) (k : ℕ) → KeepsElsewhere place es fs → nat_eq k place ≡ false → (q : Key) → is_under es k q ≡ true → is_under fs k q ≡ true
 under_kept place es fs k keep other key.Nothing h = refl
 under_kept place es fs k keep other key.Unknown h = h
 under_kept place es fs k keep other (key.Under e) h = keep (entry_at e k) other h
 
-keys_kept : (place : ℕ) (es fs : List Entry) (k : ℕ) → KeepsOthers place es fs → nat_eq k place ≡ false → (q : Keys) → are_filed es k q ≡ true → are_filed fs k q ≡ true
+keys_kept : (place : ℕ) (es fs : List Entry) (k : ℕ) → KeepsElsewhere place es fs → nat_eq k place ≡ false → (q : Keys) → are_filed es k q ≡ true → are_filed fs k q ≡ true
 keys_kept place es fs k keep other q h =
     let p = and_parts (is_under es k q.first) (is_under es k q.second) h in
     both (is_under fs k q.first) (is_under fs k q.second) (under_kept place es fs k keep other q.first p.0) (under_kept place es fs k keep other q.second p.1)
@@ -65,7 +65,7 @@ unsettled off on = absurd (false_not_true (sym off ∙ on))
 module _ {X : Type 0} (keys_of : X → Keys) where
   -- ---- places
 
-  slot_kept : (place : ℕ) (es fs : List Entry) (ws us : List ℕ) (k : ℕ) (complete filed : Bool) → KeepsOthers place es fs → KeepsMarks place ws us → nat_eq k place ≡ false → (o : Option X) → is_kept_of keys_of complete es ws k o ≡ true → is_kept_of keys_of (complete && filed) fs us k o ≡ true
+  slot_kept : (place : ℕ) (es fs : List Entry) (ws us : List ℕ) (k : ℕ) (complete filed : Bool) → KeepsElsewhere place es fs → KeepsMarks place ws us → nat_eq k place ≡ false → (o : Option X) → is_kept_of keys_of complete es ws k o ≡ true → is_kept_of keys_of (complete && filed) fs us k o ≡ true
   slot_kept place es fs ws us k complete filed keep marks other None h = refl
   slot_kept place es fs ws us k complete filed keep marks other (Some s) h =
       let p = and_parts (not complete || are_filed es k (keys_of s)) (is_noted ws k (keys_of s).free) h in
@@ -87,7 +87,7 @@ module _ {X : Type 0} (keys_of : X → Keys) where
       in_order true false back = refl
       in_order true true back = back refl
 
-  pub settled : (complete filed : Bool) (l : ℕ) (ss : List X) (es fs : List Entry) (ws us : List ℕ) → IsIndexed keys_of complete (Some l) ss es ws → KeepsOthers l es fs → (filed ≡ true → is_filed keys_of fs l (slice_get ss l) ≡ true) → KeepsMarks l ws us → is_noted_of keys_of us l (slice_get ss l) ≡ true → IsIndexed keys_of (complete && filed) None ss fs us
+  pub settled : (complete filed : Bool) (l : ℕ) (ss : List X) (es fs : List Entry) (ws us : List ℕ) → IsIndexed keys_of complete (Some l) ss es ws → KeepsElsewhere l es fs → (filed ≡ true → is_filed keys_of fs l (slice_get ss l) ≡ true) → KeepsMarks l ws us → is_noted_of keys_of us l (slice_get ss l) ≡ true → IsIndexed keys_of (complete && filed) None ss fs us
   settled complete filed l ss es fs ws us before keep back marks noted = λ k. by k (nat_eq k l) refl (before k)
     where
       by : (k : ℕ) (b : Bool) → nat_eq k l ≡ b → (if b then nat_lt (k / 64) (length ws) else is_kept_of keys_of complete es ws k (slice_get ss k)) ≡ true → is_kept_of keys_of (complete && filed) fs us k (slice_get ss k) ≡ true

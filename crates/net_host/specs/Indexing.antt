@@ -32,10 +32,6 @@ AreFiled keys_of ss es = (k : ℕ) → is_filed keys_of es k (slice_get ss k) �
 
 -- ---- filing
 
--- what was filed of other places still is
-abbrev pub KeepsOthers : ℕ → List Entry → List Entry → Type 0
-KeepsOthers place es fs = (x : Entry) → nat_eq x.place place ≡ false → has es x ≡ true → has fs x ≡ true
-
 -- the place i, where it is there
 abbrev pub lent_of : {X : Type 0} → ℕ → Option X → Option ℕ
 lent_of i None = None

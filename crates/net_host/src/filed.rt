@@ -2,8 +2,9 @@
 ghost use Rattle.std.specs.Prelude.{ℕ, ℤ, Bool, ◌≡◌, ◌&&◌, ◌<◌, ◌/◌, IfSome, IsSome, length, get_or, slice_get, true};
 ghost use Rattle.std.specs.Prelude.{None, false, slice_set};
 ghost use Rattle.std.specs.List.{All};
-ghost use Rattle.net_host.specs.Indexing.{IsIndexed, IsLentAt, IsSettled, KeepsMarks, KeepsOthers, are_filed};
+ghost use Rattle.net_host.specs.Indexing.{IsIndexed, IsLentAt, IsSettled, KeepsMarks, are_filed};
 ghost use Rattle.net_host.specs.Indexing.{is_filed, is_noted, is_noted_of, lent_of, no_keys};
+ghost use Rattle.host_index.specs.Entries.{KeepsElsewhere};
 ghost use Rattle.host_bounds.specs.Bounding.{at_once, bound_at};
 ghost use Rattle.net_host.specs.Sleeping.{AreAsleep};
 ghost use Rattle.net_host.specs.declared.key.Keys.{Keys};
@@ -261,7 +262,7 @@ fn note(free: &mut Marks, place: usize, is: bool)
 fn refile_at<T: Keyed>(slots: &[T], index: &mut Index, free: &mut Marks, place: usize) -> bool
     requires { place / 64 < length free.old }
     ensures filed { result ≡ true → is_filed T.keys_of index.new place (slice_get slots.now place) ≡ true }
-    ensures others { KeepsOthers place index.old index.new }
+    ensures others { KeepsElsewhere place index.old index.new }
     ensures noted { is_noted_of T.keys_of free.new place (slice_get slots.now place) ≡ true }
     ensures marks { KeepsMarks place free.old free.new }
 {

@@ -1,7 +1,7 @@
 //! A place is filed under other keys.
 ghost use Rattle.std.specs.Prelude.{◌≡◌, true};
-ghost use Rattle.host_index.specs.Entries.{Keeps, entry_at};
-ghost use Rattle.net_host.specs.Indexing.{KeepsOthers, are_filed, is_under};
+ghost use Rattle.host_index.specs.Entries.{Keeps, KeepsElsewhere, entry_at};
+ghost use Rattle.net_host.specs.Indexing.{are_filed, is_under};
 
 use crate::key::{Key, Keys};
 use host_index::{Entry, Index, Which};
@@ -29,7 +29,7 @@ fn has_key(index: &Index, which: Which, place: usize, key: &Key) -> bool
 
 // What the place is filed under is removed, unless it is this key.
 fn unfile(index: &mut Index, which: Which, place: usize, key: &Key)
-    ensures { KeepsOthers place index.old index.new }
+    ensures { KeepsElsewhere place index.old index.new }
 {
     if !has_key(index, which, place, key) {
         index.unfile(which, place);
@@ -53,7 +53,7 @@ fn file(index: &mut Index, which: Which, place: usize, key: &Key) -> bool
 /// is filed otherwise.
 pub(crate) fn refile(index: &mut Index, place: usize, keys: &Keys) -> bool
     ensures filed { result ≡ true → are_filed index.new place keys.now ≡ true }
-    ensures others { KeepsOthers place index.old index.new }
+    ensures others { KeepsElsewhere place index.old index.new }
 {
     unfile(index, Which::First, place, &keys.first);
     unfile(index, Which::Second, place, &keys.second);

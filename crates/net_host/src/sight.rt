@@ -1,4 +1,5 @@
-//! What a guard sees of its socket, as numbers: which of its states it is in is one of a few, that no jump goes by.
+//! What a guard sees of its socket, as numbers: what the peer is waited for is told by a table, without a branch for
+//! each state.
 ghost use Rattle.std.specs.Prelude.{◌≡◌, None};
 ghost use Rattle.sock_core.specs.Bounds.{IsMoment};
 ghost use Rattle.sock_tcp.specs.Timers.{IsLastTs};

@@ -1,7 +1,5 @@
-use Rattle.std.proofs.Common.{rules, ◌≡◌, ◌<◌, ◌≤◌, false, length, nat_lt, ap, sym, arith}
-use Rattle.host_index.specs.Columns.{entry_in}
+use Rattle.std.proofs.Common.{rules, ◌≡◌, false, nat_lt, ap, sym, arith}
 use Rattle.host_index.specs.Entries.{rank}
-use Rattle.host_index.specs.Indexing.{number_at}
 use Rattle.host_index.proofs.Numbers.{first_splits}
 use Rattle.host_index.proofs.index.is_before_all.Goals as goal
 

@@ -1,4 +1,4 @@
-use Rattle.std.proofs.Common.{◌≤◌, ◌<◌, length, arith}
+use Rattle.std.proofs.Common.{◌≤◌, length, arith}
 use Rattle.host_index.specs.Entries.{rank}
 use Rattle.host_index.proofs.Numbers.{splits}
 use Rattle.host_index.proofs.index.lower.Goals as goal
