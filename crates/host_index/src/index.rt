@@ -13,8 +13,13 @@ use crate::known::Known;
 use std::alloc::{AllocError, Global};
 use std::marker::Model;
 
-// How far from where the last key went the next one is looked for.
-const NEAR: usize = 16;
+// Among how many numbers one is looked for that goes.
+const WINDOW: usize = 32;
+
+// So far before the place of the order where the last one went: first keys go as their connections came, and second ones
+// both where a connection opens and where it rests.
+const BEFORE_FIRST: usize = 3;
+const BEFORE_SECOND: usize = 16;
 
 /// Entries in order, of keys and of places under a key: of each place at most one first and one second key.
 ///
@@ -186,7 +191,7 @@ fn lower_or_end(columns: &Columns, order: &[u32], key: Entry) -> usize
 // Where a number stands, of a few from this place of the order on: keys that go one after another mostly stand near,
 // and these looks at numbers side by side spare a search.
 fn near(order: &[u32], number: u32, from: usize) -> Option<usize> {
-    let end = from.saturating_add(2 * NEAR).min(order.len());
+    let end = from.saturating_add(WINDOW).min(order.len());
     for place in from..end {
         if order[place] == number {
             return Some(place);
@@ -438,10 +443,9 @@ impl Index {
     fn note(&mut self, which: Which, place: usize)
         ensures { self.new ≡ self.old }
     {
-        let from = place.saturating_sub(NEAR);
         match which {
-            Which::First => self.near_first = from,
-            Which::Second => self.near_second = from,
+            Which::First => self.near_first = place.saturating_sub(BEFORE_FIRST),
+            Which::Second => self.near_second = place.saturating_sub(BEFORE_SECOND),
         }
     }
 }
