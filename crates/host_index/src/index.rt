@@ -19,6 +19,7 @@ const WINDOW: usize = 32;
 // So far before the place of the order where the last one went: first keys go as their connections came, and second ones
 // both where a connection opens and where it rests.
 const BEFORE_FIRST: usize = 3;
+
 const BEFORE_SECOND: usize = 16;
 
 /// Entries in order, of keys and of places under a key: of each place at most one first and one second key.
@@ -122,6 +123,8 @@ fn is_before_all(columns: &Columns, order: &[u32], key: Entry) -> bool
     !is_less(entry_at(columns, order, 0), key)
 }
 
+// Where the entries under a key begin. Not inlined, as four ways lead here that mostly spare it.
+#[inline(never)]
 fn lower(columns: &Columns, order: &[u32], key: Entry) -> usize
     requires as_many { AreAsMany columns.now }
     requires ordered { IsOrdered columns.now order.now }

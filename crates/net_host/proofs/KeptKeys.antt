@@ -20,7 +20,7 @@ use Rattle.net_host.specs.declared.slot.Slot.{Slot}
 use Rattle.net_host.specs.Datagrams as datagrams
 use Rattle.host_index.specs.Entries.{entry_at, has}
 use Rattle.net_host.specs.Filing.{icmp_key, keys_by, keys_in, keys_of, one_key, raw_key, udp_key}
-use Rattle.net_host.specs.Indexing.{IsIndexed, are_filed, is_filed, is_kept, is_kept_of, is_noted, is_under}
+use Rattle.net_host.specs.Indexing.{IsIndexed, are_filed, is_filed, is_kept_of, is_noted, is_under}
 use Rattle.net_host.specs.Guards.{ended_if, has_ended, lawful_limit, phase_of, with_timeout}
 use Rattle.net_host.specs.Remembered.{moment_from}
 use Rattle.net_host.specs.Sights.{IsSightIn, IsSightOf}

@@ -9,7 +9,7 @@ use Rattle.host_index.specs.declared.entry.Entry.{Entry}
 use Rattle.net_host.specs.declared.key.Key.{Key}
 use Rattle.net_host.specs.declared.key.Key.TheVariants as key
 use Rattle.net_host.specs.declared.key.Keys.{Keys}
-use Rattle.host_index.specs.Entries.{KeepsElsewhere, entry_at, has}
+use Rattle.host_index.specs.Entries.{KeepsElsewhere, entry_at}
 use Rattle.net_host.specs.Indexing.{IsIndexed, IsLentAt, IsSettled, KeepsMarks, are_filed, is_filed, is_kept, is_kept_of, is_noted, is_noted_of, is_under, lent_of, no_keys}
 use Rattle.host_bounds.specs.Marking.{bit_of}
 use Rattle.net_host.specs.Walks.{Both, ChangesAt, ChangesEach}

@@ -7,7 +7,7 @@ use Rattle.sock_tcp.specs.declared.state.State.{State}
 use Rattle.sock_tcp.specs.declared.state.State.TheVariants as state
 use Rattle.smoltcp_socket.specs.declared.socket.Socket.{Socket}
 use Rattle.smoltcp_socket.specs.declared.socket.Socket.TheVariants as socket
-use Rattle.std.specs.Prelude.{Option, Some, None}
+use Rattle.std.specs.Prelude.{Option, Some}
 use Rattle.net_host.specs.Guards.{end_in, phase_of, since_in}
 use Rattle.net_host.specs.Remembered.{Remembered as Guard, moment_from, phase_from}
 use Rattle.net_host.specs.declared.guard.GuardSettings.{GuardSettings}

@@ -255,6 +255,8 @@ fn answer_segment<C: Context>(
 }
 
 /// The SYN|ACK that answers a SYN with this number.
+// Not inlined, as few segments come here.
+#[inline(never)]
 #[tactic(auto, using(crate::proofs::CookieAnswers::answer_fits))]
 pub(crate) fn answer_of<C: Context>(
     cx: &C,

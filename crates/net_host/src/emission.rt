@@ -80,6 +80,8 @@ fn emit_datagram(socket: &mut udp::Socket<'_>, wire: &mut Wire<'_>) -> Result<()
 }
 
 /// The same of a UDP socket.
+// Not inlined, so that the turn of a TCP socket stays short.
+#[inline(never)]
 pub(crate) fn emit_udp(
     socket: &mut udp::Socket<'_>,
     environment: &Environment,
@@ -116,6 +118,8 @@ fn emit_message(socket: &mut icmp::Socket<'_>, wire: &mut Wire<'_>) -> Result<()
 }
 
 /// The same of an ICMP socket.
+// Not inlined, so that the turn of a TCP socket stays short.
+#[inline(never)]
 pub(crate) fn emit_icmp(
     socket: &mut icmp::Socket<'_>,
     environment: &Environment,
@@ -151,6 +155,8 @@ fn emit_packet(socket: &mut raw::Socket<'_>, wire: &mut Wire<'_>) -> Result<(), 
 }
 
 /// The same of a raw socket.
+// Not inlined, so that the turn of a TCP socket stays short.
+#[inline(never)]
 pub(crate) fn emit_raw(
     socket: &mut raw::Socket<'_>,
     environment: &Environment,

@@ -7,6 +7,8 @@ ghost use Rattle.net_host.specs.Filing.{number_of, opened_by, raw_key, rest_by, 
 ghost use Rattle.net_host.specs.Filing.{server_key, udp_key};
 ghost use Rattle.net_host.specs.Indexing.{are_filed, is_under, no_keys};
 ghost use Rattle.net_host.specs.Looking.{sleeps};
+ghost use Rattle.sock_tcp.specs.Ends.{close_end};
+ghost use Rattle.sock_tcp.specs.declared.state.State.TheVariants.{TimeWait};
 
 use crate::filed::Keyed;
 use crate::key::{Key, Keys};
@@ -223,16 +225,24 @@ fn no_keys() -> Keys
     }
 }
 
-// Whether the place is filed under the keys of its socket and no others, told without making them: of a connection that
-// is not in TIME-WAIT, as most are that are lent. Where the answer is no, it says nothing.
+// Whether the place is filed under the keys of its socket and no others, told without making them. Where the answer is
+// no, it says nothing: so it does of sockets that listen, which are lent once.
 #[inline(always)]
 fn is_connection_filed<G>(tcp: &tcp::Socket<'_, G>, index: &Index, place: usize) -> bool
     ensures { result ≡ true → are_filed index.now place (keys_by tcp.now.control_block) ≡ true }
 {
     match tcp.state() {
-        State::Closed | State::Listen | State::TimeWait => false,
+        State::Closed => is_nowhere(index, place),
+        State::Listen => false,
+        State::TimeWait => is_tuple_filed(tcp, index, place) && is_rest_filed(tcp, index, place),
         _ => is_tuple_filed(tcp, index, place) && is_port_filed(tcp, index, place),
     }
+}
+
+// Whether the place is filed under no key.
+#[inline(always)]
+fn is_nowhere(index: &Index, place: usize) -> bool {
+    index.is_filed(Which::First, place, None) && index.is_filed(Which::Second, place, None)
 }
 
 #[inline(always)]
@@ -258,6 +268,23 @@ fn is_port_filed<G>(tcp: &tcp::Socket<'_, G>, index: &Index, place: usize) -> bo
         index.is_filed(Which::Second, place, None)
     } else {
         index.is_filed(Which::Second, place, Some(&server_key(port)))
+    }
+}
+
+// The same of one in TIME-WAIT, which is filed by its end where it listened.
+#[inline(always)]
+fn is_rest_filed<G>(tcp: &tcp::Socket<'_, G>, index: &Index, place: usize) -> bool
+    ensures { result ≡ true → is_under index.now place (second_by TimeWait (close_end tcp.now.control_block.timer)
+        tcp.now.control_block.listen_endpoint.port) ≡ true }
+{
+    match second_by(
+        State::TimeWait,
+        tcp.time_wait_end(),
+        tcp.listen_endpoint().port,
+    ) {
+        Key::Nothing => index.is_filed(Which::Second, place, None),
+        Key::Unknown => false,
+        Key::Under(key) => index.is_filed(Which::Second, place, Some(&key)),
     }
 }
 

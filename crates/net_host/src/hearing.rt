@@ -52,6 +52,8 @@ fn who_again<C: Context, G: TsvalSource>(
 }
 
 // Who takes the SYN before it.
+// Not inlined, as few segments come here.
+#[inline(never)]
 fn who_opens<C: Context, G: TsvalSource>(
     sockets: &SocketSet<'_, G>,
     cx: &C,
@@ -212,6 +214,8 @@ fn hear_both_anew<C: Context, G: TsvalSource>(
 }
 
 // An acknowledgement is believed.
+// Not inlined, as few segments come here.
+#[inline(never)]
 #[tactic(auto, using(crate::proofs::Touching::touches_none))]
 fn believe<C: Context, G: TsvalSource>(
     sockets: &mut SocketSet<'_, G>,

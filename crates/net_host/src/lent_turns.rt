@@ -57,6 +57,8 @@ fn watch_there<G: TsvalSource>(
     slots[i].watch(settings, now);
 }
 
+// Not inlined, as few looks come here.
+#[inline(never)]
 fn watch_lent<G: TsvalSource>(
     sockets: &mut SocketSet<'_, G>,
     i: usize,

@@ -20,6 +20,8 @@ pub(crate) fn passed<'p>(ip: &IpRepr, bytes: &'p [u8]) -> Option<(IpRepr, &'p [u
     }
 }
 
+// Not inlined, so that what a packet of IPv4 runs through stays short.
+#[inline(never)]
 fn passed_v6<'p>(header: &Ipv6Repr, bytes: &'p [u8]) -> Option<(IpRepr, &'p [u8])>
     ensures { option_map carried_of result
         ≡ passed_v6 header.now (behind_headers (number_of header.now.next_header) bytes.now) }

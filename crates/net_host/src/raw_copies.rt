@@ -87,6 +87,8 @@ fn copy_packet_to_listed<C: Context, G: TsvalSource>(
 }
 
 /// Each raw socket that accepts the packet takes a copy. Where each place is filed, the others are not looked at.
+// Not inlined, as few hosts have a raw socket.
+#[inline(never)]
 pub(crate) fn copy_packet_to<C: Context, G: TsvalSource>(
     slots: &mut Vec<Slot<'_, G>>,
     index: &Index,

@@ -164,6 +164,8 @@ impl<W: Words> Interface<W> {
         }
     }
 
+    // Not inlined, so that what a segment of TCP runs through stays short.
+    #[inline(never)]
     #[tactic(auto, using(crate::proofs::Touching::touches_none))]
     fn take_other<G: TsvalSource>(
         &mut self,
@@ -190,6 +192,8 @@ impl<W: Words> Interface<W> {
         )
     }
 
+    // Not inlined, as `take_other`.
+    #[inline(never)]
     #[tactic(auto, using(crate::proofs::Touching::touches_none))]
     fn take_udp<G: TsvalSource>(
         &mut self,
@@ -264,6 +268,8 @@ impl<W: Words> Interface<W> {
         }
     }
 
+    // Not inlined, as `take_other`.
+    #[inline(never)]
     #[tactic(auto, using(crate::proofs::Touching::touches_none))]
     fn take_icmp<G: TsvalSource>(
         &mut self,

@@ -313,6 +313,8 @@ pub(crate) fn hear_at<C: Context, G: TsvalSource>(
 }
 
 /// The socket at this place listens again, and takes the SYN.
+// Not inlined, as few segments come here.
+#[inline(never)]
 pub(crate) fn hear_anew_at<C: Context, G: TsvalSource>(
     sockets: &mut SocketSet<'_, G>,
     i: usize,
@@ -337,6 +339,8 @@ pub(crate) fn hear_anew_at<C: Context, G: TsvalSource>(
 }
 
 /// The RST that answers a segment for no socket, unless it is one itself, where the limit allows it.
+// Not inlined, as few segments come here.
+#[inline(never)]
 fn refuse(limit: &mut Limit, now: Instant, ip: &IpRepr, repr: &TcpRepr<'_>) -> Option<Reply>
     requires { length repr.now.payload.now ≤ 65535 }
     ensures answer { Refuses limit.old now ip.now (segment_of repr.now) result limit.new }
