@@ -226,23 +226,17 @@ fn no_keys() -> Keys
 }
 
 // Whether the place is filed under the keys of its socket and no others, told without making them. Where the answer is
-// no, it says nothing: so it does of sockets that listen, which are lent once.
+// no, it says nothing: so it is of sockets that listen, which are lent once, and of those that are closed, as a place
+// that was free is marked so until it is filed.
 #[inline(always)]
 fn is_connection_filed<G>(tcp: &tcp::Socket<'_, G>, index: &Index, place: usize) -> bool
     ensures { result ≡ true → are_filed index.now place (keys_by tcp.now.control_block) ≡ true }
 {
     match tcp.state() {
-        State::Closed => is_nowhere(index, place),
-        State::Listen => false,
+        State::Closed | State::Listen => false,
         State::TimeWait => is_tuple_filed(tcp, index, place) && is_rest_filed(tcp, index, place),
         _ => is_tuple_filed(tcp, index, place) && is_port_filed(tcp, index, place),
     }
-}
-
-// Whether the place is filed under no key.
-#[inline(always)]
-fn is_nowhere(index: &Index, place: usize) -> bool {
-    index.is_filed(Which::First, place, None) && index.is_filed(Which::Second, place, None)
 }
 
 #[inline(always)]
