@@ -108,13 +108,7 @@ impl<'a> End<'a> {
     }
 
     fn serve(&mut self, scratch: &mut [u8], source: &[u8], random: &mut Random, digest: &mut Digest) {
-        for _ in 0..64 {
-            let before = self.talk.sent();
-            self.talk.serve(&mut self.socket, scratch, source, random, digest);
-            if self.talk.sent() == before {
-                break;
-            }
-        }
+        self.talk.serve_pieces(&mut self.socket, scratch, source, random, digest, 64);
     }
 }
 

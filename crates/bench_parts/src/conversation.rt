@@ -65,11 +65,6 @@ impl Talk {
         self.received = 0;
     }
 
-    /// How many bytes of it were sent.
-    pub fn sent(&self) -> usize {
-        self.sent
-    }
-
     /// Adds what came of the conversation.
     pub fn add_to(&self, digest: &mut Digest) {
         digest.number(self.request as u64);
@@ -78,7 +73,7 @@ impl Talk {
         digest.number(self.received as u64);
     }
 
-    /// Lets the application read and write.
+    /// Lets the application read, and write a piece.
     pub fn serve(
         &mut self,
         socket: &mut Socket<'_, Clock>,
@@ -87,10 +82,23 @@ impl Talk {
         random: &mut Random,
         digest: &mut Digest,
     ) {
+        self.serve_pieces(socket, scratch, source, random, digest, 1);
+    }
+
+    /// The same, and it writes up to so many pieces, until it has no more to say or nothing is taken.
+    pub fn serve_pieces(
+        &mut self,
+        socket: &mut Socket<'_, Clock>,
+        scratch: &mut [u8],
+        source: &[u8],
+        random: &mut Random,
+        digest: &mut Digest,
+        pieces: u32,
+    ) {
         match (self.role, socket.state()) {
             (_, State::Closed | State::Listen | State::SynSent | State::SynReceived) => {}
-            (Role::Server, _) => self.answer(socket, scratch, source, random, digest),
-            (Role::Client, _) => self.ask(socket, scratch, source, random, digest),
+            (Role::Server, _) => self.answer(socket, scratch, source, random, digest, pieces),
+            (Role::Client, _) => self.ask(socket, scratch, source, random, digest, pieces),
             (Role::Sleeper, _) => {}
         }
     }
@@ -102,12 +110,13 @@ impl Talk {
         source: &[u8],
         random: &mut Random,
         digest: &mut Digest,
+        pieces: u32,
     ) {
         if self.sent == 0 {
             let head = head_of(self.request, self.answer);
             self.sent = socket.send_slice(&head).unwrap_or(0);
         }
-        self.send(socket, self.request, source, random);
+        self.send(socket, self.request, source, random, pieces);
         for _ in 0..PIECES {
             match socket.recv_slice(scratch) {
                 Ok(0) => break,
@@ -131,6 +140,7 @@ impl Talk {
         source: &[u8],
         random: &mut Random,
         digest: &mut Digest,
+        pieces: u32,
     ) {
         for _ in 0..PIECES {
             let Ok(count) = socket.recv_slice(scratch) else {
@@ -142,7 +152,7 @@ impl Talk {
             self.read(&scratch[..count.min(scratch.len())], digest);
         }
         if self.received > 0 && self.received >= self.request {
-            self.send(socket, self.answer, source, random);
+            self.send(socket, self.answer, source, random, pieces);
             if self.sent >= self.answer {
                 socket.close();
             }
@@ -167,14 +177,20 @@ impl Talk {
         total: usize,
         source: &[u8],
         random: &mut Random,
+        pieces: u32,
     ) {
-        let left = total.saturating_sub(self.sent);
-        if left == 0 {
-            return;
+        for _ in 0..pieces {
+            let left = total.saturating_sub(self.sent);
+            if left == 0 {
+                break;
+            }
+            let piece = random.piece(source, left);
+            let count = socket.send_slice(piece).unwrap_or(0);
+            if count == 0 {
+                break;
+            }
+            self.sent = self.sent.saturating_add(count);
         }
-        let piece = random.piece(source, left);
-        let count = socket.send_slice(piece).unwrap_or(0);
-        self.sent = self.sent.saturating_add(count);
     }
 }
 

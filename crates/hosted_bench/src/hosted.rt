@@ -175,14 +175,19 @@ impl Host<SocketSet<'_, Clock>> {
             else {
                 continue;
             };
+            let mut closed = false;
             if let Some(socket) = self.sockets.tcp_mut(*handle) {
                 // a socket in TIME-WAIT may have been taken for another connection
                 if talk.role == Role::Server && socket.state() == State::SynReceived {
                     talk.begin(0, 0);
                 }
-                serve_whole(talk, socket, scratch, source, random, digest);
+                // it is asked again only once its socket took a segment, so it writes all that it has to say
+                talk.serve_pieces(socket, scratch, source, random, digest, PIECES);
+                closed = socket.state() == State::Closed;
             }
-            self.look_at(place, digest)?;
+            if closed {
+                self.begin_anew(place, digest)?;
+            }
         }
         Ok(())
     }
@@ -190,7 +195,9 @@ impl Host<SocketSet<'_, Clock>> {
     fn look_at_each(&mut self, digest: &mut Digest) -> Result<(), AllocError> {
         self.idle.clear();
         for place in 0..self.talks.len() {
-            self.look_at(place, digest)?;
+            if self.state(place) == Some(State::Closed) {
+                self.begin_anew(place, digest)?;
+            }
         }
         Ok(())
     }
@@ -202,10 +209,8 @@ impl Host<SocketSet<'_, Clock>> {
         }
     }
 
-    fn look_at(&mut self, place: usize, digest: &mut Digest) -> Result<(), AllocError> {
-        if self.state(place) != Some(State::Closed) {
-            return Ok(());
-        }
+    // A socket that was closed listens, or is idle.
+    fn begin_anew(&mut self, place: usize, digest: &mut Digest) -> Result<(), AllocError> {
         let (Some(talk), Some(handle)) = (self.talks.get_mut(place), self.handles.get(place)) else {
             return Ok(());
         };
@@ -285,25 +290,6 @@ impl Host<SocketSet<'_, Clock>> {
             if let Some(state) = self.state(place) {
                 digest.bytes(state.name().as_bytes());
             }
-        }
-    }
-}
-
-// The application writes until it has no more to say, or nothing is taken: it is asked again only once its socket took
-// a segment.
-fn serve_whole(
-    talk: &mut Talk,
-    socket: &mut tcp::Socket<'_, Clock>,
-    scratch: &mut [u8],
-    source: &[u8],
-    random: &mut Random,
-    digest: &mut Digest,
-) {
-    for _ in 0..PIECES {
-        let before = talk.sent();
-        talk.serve(socket, scratch, source, random, digest);
-        if talk.sent() == before {
-            break;
         }
     }
 }
