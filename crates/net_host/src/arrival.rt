@@ -1,11 +1,13 @@
 //! Whether a packet is looked at, by its addresses.
 ghost use Rattle.std.specs.Prelude.{◌≡◌};
+ghost use Rattle.host_groups.specs.Joining.{has_group};
 ghost use Rattle.ip_wire.specs.Address.{all_zero};
 ghost use Rattle.net_host.specs.Arrivals.{is_martian, is_reserved, is_reserved_v4, is_reserved_v6, kind_of, refusal};
 ghost use Rattle.ip_wire.specs.IpHeader.{dst_addr_of, next_header_of};
 ghost use Rattle.ip_wire.specs.Protocol.{number_of};
 
 use crate::counters::Reason;
+use host_groups::Groups;
 use smoltcp_socket::Context;
 use smoltcp_socket::wire::{IpAddress, IpRepr, Ipv4Address, Ipv6Address};
 
@@ -13,13 +15,15 @@ use smoltcp_socket::wire::{IpAddress, IpRepr, Ipv4Address, Ipv6Address};
 /// many, to nobody, or come back (RFC 1122, section 3.2.1.3); or its destination is neither
 /// an address of the interface nor a broadcast, nor a group that was joined.
 #[tactic(auto, unfolding(crate::specs::Arrivals::refusal))]
-pub(crate) fn refusal<C: Context>(cx: &C, joined: bool, ip: &IpRepr) -> Option<Reason>
-    ensures { result ≡ refusal (C.facts cx.now) joined ip.now }
+pub(crate) fn refusal<C: Context>(cx: &C, groups: &Groups, ip: &IpRepr) -> Option<Reason>
+    ensures { result ≡ refusal (C.facts cx.now)
+        (has_group ⟦<IpAddress as PartialEq>⟧.eq groups.now (dst_addr_of ip.now)) ip.now }
 {
     if is_martian(cx, &ip.src_addr()) {
         return Some(Reason::Source);
     }
-    if !cx.has_ip_addr(ip.dst_addr()) && !cx.is_broadcast(&ip.dst_addr()) && !joined {
+    let to = ip.dst_addr();
+    if !cx.has_ip_addr(to) && !cx.is_broadcast(&to) && !groups.has(&to) {
         return Some(Reason::Destination);
     }
     None

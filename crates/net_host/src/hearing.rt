@@ -90,7 +90,8 @@ fn open_with<C: Context, G: TsvalSource>(
         sockets.new.slots.items }
 {
     let mut told = Told { cx, word: number };
-    hear_at(sockets, i, &mut told, true, ip, syn);
+    let mut answer = None;
+    hear_at(sockets, i, &mut told, true, ip, syn, &mut answer);
     let _ = pass_at(sockets, i, &mut told);
 }
 
@@ -152,11 +153,11 @@ fn hear_if<C: Context, G: TsvalSource>(
     ensures touched { Touches sockets.old.bounds sockets.old.slots.items sockets.new.bounds
         sockets.new.slots.items }
 {
+    let mut reply = None;
     if takes_there(&sockets.slots, i, cx, ip, repr) {
-        hear_at(sockets, i, cx, false, ip, repr)
-    } else {
-        None
+        hear_at(sockets, i, cx, false, ip, repr, &mut reply);
     }
+    reply
 }
 
 // The socket at this place hears the SYN before the segment, and then the segment.
@@ -242,7 +243,8 @@ fn believe<C: Context, G: TsvalSource>(
     }
 }
 
-// The segment goes to its taker, is answered or believed.
+// The segment goes to its taker, is answered or believed; the reply is written where it is wanted, as
+// `hear_at` does.
 #[tactic(auto, using(crate::proofs::Touching::touches_none))]
 fn take_heard<C: Context, G: TsvalSource>(
     sockets: &mut SocketSet<'_, G>,
@@ -251,28 +253,29 @@ fn take_heard<C: Context, G: TsvalSource>(
     heard: &Heard,
     ip: &IpRepr,
     repr: &TcpRepr<'_>,
-) -> Option<Reply>
+    reply: &mut Option<Reply>,
+)
     requires taker { IsTaker sockets.old.slots.items ip.now (segment_of repr.now) heard.now.taker }
     requires again { IsAgain heard.now.course sockets.old.slots.items ip.now (segment_of repr.now) heard.now.again }
     requires small { length repr.now.payload.now ≤ 65535 }
     ensures taken { TakenOn C.facts C.word_at G.tells heard.now.course heard.now.taker heard.now.again
-        sockets.old.slots.items cx.old limit.old ip.now (segment_of repr.now) result sockets.new.slots.items cx.new
+        sockets.old.slots.items cx.old limit.old ip.now (segment_of repr.now) reply.new sockets.new.slots.items cx.new
         limit.new }
-    ensures bare { ForSome result (λ r. r.1.payload.now ≡ []) }
-    ensures fits { ForSome (option_map reply_of result) (λ r. FitsPacket r.0 r.1) }
+    ensures bare { ForSome reply.new (λ r. r.1.payload.now ≡ []) }
+    ensures fits { ForSome (option_map reply_of reply.new) (λ r. FitsPacket r.0 r.1) }
     ensures touched { Touches sockets.old.bounds sockets.old.slots.items sockets.new.bounds
         sockets.new.slots.items }
 {
     match heard.course {
         Course::Plain | Course::Doubted => {
-            take_segment(sockets, cx, limit, heard.taker, ip, repr)
+            take_segment(sockets, cx, limit, heard.taker, ip, repr, reply);
         }
         Course::Answered(place, number) => {
             let room = room_at(&sockets.slots, place);
-            Some(answer_of(cx, room, number, ip, repr))
+            *reply = Some(answer_of(cx, room, number, ip, repr));
         }
         Course::Believed(class, number) => {
-            believe(sockets, cx, heard.again, class, number, ip, repr)
+            *reply = believe(sockets, cx, heard.again, class, number, ip, repr);
         }
     }
 }
@@ -328,7 +331,8 @@ pub(crate) fn hear_segment<C: Context, G: TsvalSource>(
     let caps = cx.checksum_caps();
     sockets.settle_for(connection_key(&ip.src_addr(), repr.dst_port, repr.src_port));
     let heard = heard_by(sockets, cx, cookies, ip, repr);
-    let reply = take_heard(sockets, cx, limit, &heard, ip, repr);
+    let mut reply = None;
+    take_heard(sockets, cx, limit, &heard, ip, repr, &mut reply);
     let len = put_reply(&reply, out, &caps);
     (heard, len)
 }

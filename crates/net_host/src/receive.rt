@@ -34,8 +34,9 @@ use smoltcp_socket::wire::{ChecksumCapabilities, IpAddress, IpRepr, TcpRepr, Udp
 use sock_tcp::TsvalSource;
 
 impl<W: Words> Interface<W> {
-    // The first row that fits.
-    #[tactic(auto, using(crate::proofs::Touching::touches_none))]
+    // The first row that fits. A packet of IPv4, which has no extension headers, goes on from here, so that the
+    // compiler knows the version in all that follows.
+    #[tactic(auto, using(crate::proofs::Touching::touches_none), unfolding(crate::specs::Passing::passed))]
     pub(crate) fn take_packet<G: TsvalSource>(
         &mut self,
         sockets: &mut SocketSet<'_, G>,
@@ -54,11 +55,16 @@ impl<W: Words> Interface<W> {
         let caps = self.inner.checksum_caps();
         match carried(packet, &caps) {
             None => self.drop_packet(Reason::Malformed),
+            Some((IpRepr::Ipv4(header), bytes)) => {
+                self.take_carried(sockets, &IpRepr::Ipv4(header), bytes, out)
+            }
             Some((ip, bytes)) => self.take_whole(sockets, &ip, bytes, out),
         }
     }
 
     // Behind its extension headers.
+    // Not inlined, so that what a packet of IPv4 runs through stays short.
+    #[inline(never)]
     #[tactic(auto, using(crate::proofs::Touching::touches_none))]
     fn take_whole<G: TsvalSource>(
         &mut self,
@@ -88,13 +94,8 @@ impl<W: Words> Interface<W> {
         0
     }
 
-    // Whether its destination is a group that was joined.
-    fn has_joined(&self, ip: &IpRepr) -> bool
-        ensures { result ≡ has_group ⟦<IpAddress as PartialEq>⟧.eq self.now.groups (dst_addr_of ip.now) }
-    {
-        self.groups.has(&ip.dst_addr())
-    }
-
+    // Inlined, as the rows that follow, where the version is known.
+    #[inline(always)]
     #[tactic(auto, using(crate::proofs::Touching::touches_none))]
     fn take_carried<G: TsvalSource>(
         &mut self,
@@ -112,13 +113,13 @@ impl<W: Words> Interface<W> {
         ensures touched { Touches sockets.old.bounds sockets.old.slots.items sockets.new.bounds
             sockets.new.slots.items }
     {
-        let joined = self.has_joined(ip);
-        match refusal(&self.inner, joined, ip) {
+        match refusal(&self.inner, &self.groups, ip) {
             Some(reason) => self.drop_packet(reason),
             None => self.take_looked_at(sockets, ip, bytes, out),
         }
     }
 
+    #[inline(always)]
     #[tactic(auto, using(crate::proofs::Touching::touches_then))]
     fn take_looked_at<G: TsvalSource>(
         &mut self,
@@ -139,6 +140,7 @@ impl<W: Words> Interface<W> {
         self.take_kind(sockets, kind, ip, bytes, out)
     }
 
+    #[inline(always)]
     #[tactic(auto, using(crate::proofs::Touching::touches_none))]
     fn take_kind<G: TsvalSource>(
         &mut self,
@@ -309,6 +311,7 @@ impl<W: Words> Interface<W> {
         put_answer(&answer, self.inner.ip_mtu(), out, &caps)
     }
 
+    #[inline(always)]
     #[tactic(auto, using(crate::proofs::Touching::touches_none))]
     fn take_tcp<G: TsvalSource>(
         &mut self,
@@ -332,6 +335,7 @@ impl<W: Words> Interface<W> {
         }
     }
 
+    #[inline(always)]
     #[tactic(auto, using(crate::proofs::Touching::touches_none))]
     fn take_short<G: TsvalSource>(
         &mut self,
@@ -356,6 +360,7 @@ impl<W: Words> Interface<W> {
         }
     }
 
+    #[inline(always)]
     fn take_segment<G: TsvalSource>(
         &mut self,
         sockets: &mut SocketSet<'_, G>,

@@ -64,17 +64,18 @@ impl<'a, G: TsvalSource> Slot<'a, G> {
         listening: bool,
         ip: &IpRepr,
         repr: &TcpRepr<'_>,
-    ) -> Option<Reply>
+        reply: &mut Option<Reply>,
+    )
         requires accepted { TakesSegment listening ip.now (segment_of repr.now) self.old }
         requires small { length repr.now.payload.now ≤ 65535 }
-        ensures heard { Hears C.facts C.word_at G.tells as_is self.old cx.old ip.now (segment_of repr.now) result
+        ensures heard { Hears C.facts C.word_at G.tells as_is self.old cx.old ip.now (segment_of repr.now) reply.new
             self.new cx.new }
-        ensures bare { ForSome result (λ r. r.1.payload.now ≡ []) }
-        ensures fits { ForSome (option_map reply_of result) (λ r. FitsPacket r.0 r.1) }
+        ensures bare { ForSome reply.new (λ r. r.1.payload.now ≡ []) }
+        ensures fits { ForSome (option_map reply_of reply.new) (λ r. FitsPacket r.0 r.1) }
     {
         match &mut self.socket {
-            Some(Socket::Tcp(tcp)) => tcp.process(cx, ip, repr),
-            _ => None,
+            Some(Socket::Tcp(tcp)) => *reply = tcp.process(cx, ip, repr),
+            _ => *reply = None,
         }
     }
 
@@ -255,16 +256,17 @@ fn hear_there<C: Context, G: TsvalSource>(
     listening: bool,
     ip: &IpRepr,
     repr: &TcpRepr<'_>,
-) -> Option<Reply>
+    reply: &mut Option<Reply>,
+)
     requires within { i < length slots.old.items }
     requires accepted { IfSome (slice_get slots.old.items i) (TakesSegment listening ip.now (segment_of repr.now)) }
     requires small { length repr.now.payload.now ≤ 65535 }
-    ensures heard { HearsAt C.facts C.word_at G.tells as_is slots.old.items i cx.old ip.now (segment_of repr.now) result
+    ensures heard { HearsAt C.facts C.word_at G.tells as_is slots.old.items i cx.old ip.now (segment_of repr.now) reply.new
         slots.new.items cx.new }
-    ensures bare { ForSome result (λ r. r.1.payload.now ≡ []) }
-    ensures fits { ForSome (option_map reply_of result) (λ r. FitsPacket r.0 r.1) }
+    ensures bare { ForSome reply.new (λ r. r.1.payload.now ≡ []) }
+    ensures fits { ForSome (option_map reply_of reply.new) (λ r. FitsPacket r.0 r.1) }
 {
-    slots[i].hear(cx, listening, ip, repr)
+    slots[i].hear(cx, listening, ip, repr, reply);
 }
 
 // The socket at this place listens again, and takes the SYN.
@@ -287,7 +289,8 @@ fn hear_anew_there<C: Context, G: TsvalSource>(
     slots[i].hear_anew(cx, ip, repr)
 }
 
-/// The socket at this place takes the segment.
+/// The socket at this place takes the segment. The reply is written where it is wanted: given back, it would be copied
+/// by each caller on the way, with nearly every packet.
 pub(crate) fn hear_at<C: Context, G: TsvalSource>(
     sockets: &mut SocketSet<'_, G>,
     i: usize,
@@ -295,21 +298,22 @@ pub(crate) fn hear_at<C: Context, G: TsvalSource>(
     listening: bool,
     ip: &IpRepr,
     repr: &TcpRepr<'_>,
-) -> Option<Reply>
+    reply: &mut Option<Reply>,
+)
     requires within { i < length sockets.old.slots.items }
     requires accepted { IfSome (slice_get sockets.old.slots.items i)
         (TakesSegment listening ip.now (segment_of repr.now)) }
     requires small { length repr.now.payload.now ≤ 65535 }
     ensures heard { HearsAt C.facts C.word_at G.tells as_is sockets.old.slots.items i cx.old ip.now
-        (segment_of repr.now) result
+        (segment_of repr.now) reply.new
         sockets.new.slots.items cx.new }
-    ensures bare { ForSome result (λ r. r.1.payload.now ≡ []) }
-    ensures fits { ForSome (option_map reply_of result) (λ r. FitsPacket r.0 r.1) }
+    ensures bare { ForSome reply.new (λ r. r.1.payload.now ≡ []) }
+    ensures fits { ForSome (option_map reply_of reply.new) (λ r. FitsPacket r.0 r.1) }
     ensures touched { Touches sockets.old.bounds sockets.old.slots.items sockets.new.bounds
         sockets.new.slots.items }
 {
     sockets.lend(i);
-    hear_there(&mut sockets.slots, i, cx, listening, ip, repr)
+    hear_there(&mut sockets.slots, i, cx, listening, ip, repr, reply);
 }
 
 /// The socket at this place listens again, and takes the SYN.
@@ -353,7 +357,7 @@ fn refuse(limit: &mut Limit, now: Instant, ip: &IpRepr, repr: &TcpRepr<'_>) -> O
     Some(tcp::Socket::rst_reply(ip, repr))
 }
 
-/// The segment goes to its taker, or is refused.
+/// The segment goes to its taker, or is refused; the reply is written where it is wanted, as `hear_at` does.
 #[tactic(auto, using(crate::proofs::Touching::touches_none))]
 pub(crate) fn take_segment<C: Context, G: TsvalSource>(
     sockets: &mut SocketSet<'_, G>,
@@ -362,21 +366,22 @@ pub(crate) fn take_segment<C: Context, G: TsvalSource>(
     taker: Taker,
     ip: &IpRepr,
     repr: &TcpRepr<'_>,
-) -> Option<Reply>
+    reply: &mut Option<Reply>,
+)
     requires taker { IsTaker sockets.old.slots.items ip.now (segment_of repr.now) taker }
     requires small { length repr.now.payload.now ≤ 65535 }
     ensures taken { TakenBy C.facts C.word_at G.tells taker sockets.old.slots.items cx.old limit.old ip.now
-        (segment_of repr.now) result sockets.new.slots.items cx.new limit.new }
-    ensures bare { ForSome result (λ r. r.1.payload.now ≡ []) }
-    ensures fits { ForSome (option_map reply_of result) (λ r. FitsPacket r.0 r.1) }
+        (segment_of repr.now) reply.new sockets.new.slots.items cx.new limit.new }
+    ensures bare { ForSome reply.new (λ r. r.1.payload.now ≡ []) }
+    ensures fits { ForSome (option_map reply_of reply.new) (λ r. FitsPacket r.0 r.1) }
     ensures touched { Touches sockets.old.bounds sockets.old.slots.items sockets.new.bounds
         sockets.new.slots.items }
 {
     match taker {
-        Taker::Connection(i) => hear_at(sockets, i, cx, false, ip, repr),
-        Taker::Listener(i) => hear_at(sockets, i, cx, true, ip, repr),
-        Taker::Reopened(i) | Taker::Reused(i) => hear_anew_at(sockets, i, cx, ip, repr),
-        Taker::Busy => None,
-        Taker::Nobody => refuse(limit, cx.now(), ip, repr),
+        Taker::Connection(i) => hear_at(sockets, i, cx, false, ip, repr, reply),
+        Taker::Listener(i) => hear_at(sockets, i, cx, true, ip, repr, reply),
+        Taker::Reopened(i) | Taker::Reused(i) => *reply = hear_anew_at(sockets, i, cx, ip, repr),
+        Taker::Busy => *reply = None,
+        Taker::Nobody => *reply = refuse(limit, cx.now(), ip, repr),
     }
 }

@@ -14,8 +14,8 @@ returns-clause-again g c = subst (λ s. IsAgain c.heard_by-heard.result.course s
 
 pub returns-clause-heard : goal.returns-clause-heard
 returns-clause-heard g c = record {
-  reply = c.take_heard-reply.result;
-  taken = subst (λ s. TakenOn g.C.Context.facts g.C.Context.word_at g.G.TsvalSource.tells c.heard_by-heard.result.course c.heard_by-heard.result.taker c.heard_by-heard.result.again s.items c.args.cx.now c.args.limit.now c.args.ip.now (segment_of c.args.repr.now) c.take_heard-reply.result c.take_heard-reply.new.sockets.slots.items c.take_heard-reply.new.cx c.take_heard-reply.new.limit) c.settle_for.ensures.slots c.take_heard-reply.ensures.taken;
+  reply = c.take_heard.new.reply;
+  taken = subst (λ s. TakenOn g.C.Context.facts g.C.Context.word_at g.G.TsvalSource.tells c.heard_by-heard.result.course c.heard_by-heard.result.taker c.heard_by-heard.result.again s.items c.args.cx.now c.args.limit.now c.args.ip.now (segment_of c.args.repr.now) c.take_heard.new.reply c.take_heard.new.sockets.slots.items c.take_heard.new.cx c.take_heard.new.limit) c.settle_for.ensures.slots c.take_heard.ensures.taken;
   len = c.put_reply-len.ensures.len;
-  octets = c.put_reply-len.ensures.bytes ∙ ap (λ caps. with_reply caps (option_map reply_of c.take_heard-reply.result) c.args.out.now) c.checksum_caps-caps.ensures;
+  octets = c.put_reply-len.ensures.bytes ∙ ap (λ caps. with_reply caps (option_map reply_of c.take_heard.new.reply) c.args.out.now) c.checksum_caps-caps.ensures;
 }
