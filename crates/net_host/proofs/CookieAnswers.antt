@@ -1,5 +1,5 @@
--- What answers a SYN fits a packet.
-use Rattle.std.proofs.Common.{◌≡◌, ℕ, ◌≤◌, None, refl, sym, subst, arith}
+-- What answers a SYN fits a packet; a segment for a connection is not answered so.
+use Rattle.std.proofs.Common.{◌≡◌, ℕ, ℤ, ◌≤◌, Option, Some, None, refl, sym, subst, arith}
 use Rattle.std.specs.Option.{ForSome}
 use Rattle.std.proofs.lemmas.Option.{none-some}
 use Rattle.ip_wire.specs.declared.repr.IpRepr.{IpRepr}
@@ -8,7 +8,10 @@ use Rattle.control_wire.specs.Fits.{FitsHeader, FitsPacket}
 use Rattle.control_wire.specs.Segment.{Segment}
 use Rattle.sock_core.specs.Facts.{Facts}
 use Rattle.sock_tcp.specs.Replies.{reply_ip}
-use Rattle.net_host.specs.Cookies.{answer_of, answer_segment}
+use Rattle.host_cookies.specs.declared.cookies.SynCookies.{SynCookies}
+use Rattle.net_host.specs.Cookies.{answer_of, answer_segment, course_of}
+use Rattle.net_host.specs.declared.cookies.Course.TheVariants as course
+use Rattle.net_host.specs.declared.segments.Taker.TheVariants as taker
 
 no_scale : ForSome None (λ n. n ≤ 14)
 no_scale n e = absurd (none-some n e)
@@ -22,3 +25,7 @@ packet_fits f room number (header.Ipv6 p) s = record { header = header_fits f ro
 
 pub answer_fits : (f : Facts) (room number : ℕ) (ip : IpRepr) (s : Segment) (out : IpRepr × Segment) → out ≡ answer_of f room number ip s → FitsPacket out.0 out.1
 answer_fits f room number ip s out e = subst (λ (r : IpRepr × Segment). FitsPacket r.0 r.1) (sym e) (packet_fits f room number ip s)
+
+pub connection_is_plain : (o : Option SynCookies) (i : ℕ) (now : ℤ) (ip : IpRepr) (s : Segment) → course.Plain ≡ course_of o (taker.Connection i) now ip s
+connection_is_plain None i now ip s = refl
+connection_is_plain (Some c) i now ip s = refl

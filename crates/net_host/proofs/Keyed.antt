@@ -20,12 +20,12 @@ use Rattle.net_host.specs.declared.key.Key.TheVariants as key
 use Rattle.net_host.specs.declared.slot.Slot.{Slot}
 use Rattle.net_host.specs.Datagrams as datagrams
 use Rattle.host_index.specs.Entries.{entry_at, has}
-use Rattle.net_host.specs.Entries.{FindsListed}
+use Rattle.net_host.specs.Entries.{FindsListed, IsFirstListed}
 use Rattle.net_host.specs.Filing.{connection_by, connection_key, first_by, listener_by, keys_in, keys_of, listener_key, number_of, udp_key}
 use Rattle.net_host.specs.Indexing.{are_filed, is_filed, is_under}
 use Rattle.net_host.specs.Finding.{key_of_segment}
 use Rattle.net_host.specs.Segments.{TakesIn}
-use Rattle.net_host.specs.Walks.{Finds}
+use Rattle.net_host.specs.Walks.{Finds, IsFirst}
 
 no_truth : false ≡ true → ⊥
 no_truth e = cc
@@ -103,6 +103,10 @@ module _ {G : Type 0} (P : Slot G → Type 0) (ss : List (Slot G)) (es : List En
     holds = h.holds;
     before = λ k less. none_at k (slice_get ss k) (filed k) (h.before k less);
   }
+
+  pub found_known : (r : Option ℕ) → IfSome r (λ i. IsFirstListed P ss es key i) → IfSome r (λ i. IsFirst P ss i)
+  found_known None h = tt
+  found_known (Some i) h = found (Some i) h
 
 -- ---- a UDP socket
 

@@ -13,9 +13,11 @@ use smoltcp_socket::wire::{IpAddress, IpRepr, Ipv4Address, Ipv6Address};
 
 /// Why the packet is dropped, if it is: its source is one that no single other host has, so that an answer would go to
 /// many, to nobody, or come back (RFC 1122, section 3.2.1.3); or its destination is neither
-/// an address of the interface nor a broadcast, nor a group that was joined.
+/// an address of the interface (`own`) nor a broadcast, nor a group that was joined.
+#[inline(always)]
 #[tactic(auto, unfolding(crate::specs::Arrivals::refusal))]
-pub(crate) fn refusal<C: Context>(cx: &C, groups: &Groups, ip: &IpRepr) -> Option<Reason>
+pub(crate) fn refusal<C: Context>(cx: &C, own: bool, groups: &Groups, ip: &IpRepr) -> Option<Reason>
+    requires { own ≡ (C.facts cx.now).has_address (dst_addr_of ip.now) }
     ensures { result ≡ refusal (C.facts cx.now)
         (has_group ⟦<IpAddress as PartialEq>⟧.eq groups.now (dst_addr_of ip.now)) ip.now }
 {
@@ -23,12 +25,13 @@ pub(crate) fn refusal<C: Context>(cx: &C, groups: &Groups, ip: &IpRepr) -> Optio
         return Some(Reason::Source);
     }
     let to = ip.dst_addr();
-    if !cx.has_ip_addr(to) && !cx.is_broadcast(&to) && !groups.has(&to) {
+    if !own && !cx.is_broadcast(&to) && !groups.has(&to) {
         return Some(Reason::Destination);
     }
     None
 }
 
+#[inline(always)]
 #[tactic(auto, unfolding(crate::specs::Arrivals::is_martian))]
 fn is_martian<C: Context>(cx: &C, addr: &IpAddress) -> bool
     ensures { result ≡ is_martian (C.facts cx.now) addr.now }
@@ -79,11 +82,12 @@ pub enum Kind {
     Foreign,
 }
 
-/// What the packet is looked at as.
-pub(crate) fn kind_in<C: Context>(cx: &C, ip: &IpRepr) -> Kind
-    ensures { result ≡ kind_of ((C.facts cx.now).has_address (dst_addr_of ip.now)) (number_of (next_header_of ip.now)) }
+/// What the packet is looked at as; `own` says whether it goes to an address of the interface.
+#[inline(always)]
+pub(crate) fn kind_in(own: bool, ip: &IpRepr) -> Kind
+    ensures { result ≡ kind_of own (number_of (next_header_of ip.now)) }
 {
-    kind_of(cx.has_ip_addr(ip.dst_addr()), u8::from(ip.next_header()))
+    kind_of(own, u8::from(ip.next_header()))
 }
 
 fn kind_of(own: bool, number: u8) -> Kind

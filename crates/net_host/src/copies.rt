@@ -46,6 +46,7 @@ fn is_lent_raw<G: TsvalSource>(slots: &[Slot<'_, G>], lent: &Option<usize>) -> b
 }
 
 /// Each raw socket that accepts the packet takes a copy.
+#[inline(always)]
 pub(crate) fn copy_packet<C: Context, G: TsvalSource>(
     sockets: &mut SocketSet<'_, G>,
     cx: &C,

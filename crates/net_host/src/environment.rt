@@ -65,11 +65,14 @@ impl Environment {
         self.mtu = mtu.min(65535).max(68);
     }
 
+    #[inline(always)]
     pub(crate) fn has_ip_addr(&self, addr: &IpAddress) -> bool
         ensures { result ≡ list_any (λ c. ⟦<IpAddress as PartialEq>⟧.eq c.address addr.now)
             self.entry.now.addresses.items }
     {
-        self.addresses.iter().any(|c: &IpCidr| c.address == *addr)
+        self.addresses
+            .iter()
+            .any(|c: &IpCidr| is_same_address(&c.address, addr))
     }
 
     pub(crate) fn source(&self, dst: &IpAddress) -> Option<IpAddress>
@@ -106,16 +109,30 @@ impl Environment {
         Some(found.address)
     }
 
+    #[inline(always)]
     pub(crate) fn is_broadcast(&self, addr: &IpAddress) -> bool
         ensures { result ≡ is_broadcast self.entry.now.addresses.items addr.now }
     {
         is_limited_broadcast(addr) || self.is_directed_broadcast(addr)
     }
 
+    #[inline(always)]
     fn is_directed_broadcast(&self, addr: &IpAddress) -> bool
         ensures { result ≡ list_any (λ c. is_directed c addr.now) self.entry.now.addresses.items }
     {
         self.addresses.iter().any(|c: &IpCidr| c.is_broadcast(addr))
+    }
+}
+
+// The same as `==`, without a call, as each packet has its addresses compared.
+#[inline(always)]
+fn is_same_address(a: &IpAddress, b: &IpAddress) -> bool
+    ensures { result ≡ ⟦<IpAddress as PartialEq>⟧.eq a.now b.now }
+{
+    match (a, b) {
+        (IpAddress::Ipv4(a), IpAddress::Ipv4(b)) => *a == *b,
+        (IpAddress::Ipv6(a), IpAddress::Ipv6(b)) => *a == *b,
+        _ => false,
     }
 }
 

@@ -1,8 +1,8 @@
 //! Walks through the places under a key.
-ghost use Rattle.std.specs.Prelude.{◌≡◌, ◌↔◌, IsTrue, nat_lt, if◌then◌else◌, Some, None, true};
+ghost use Rattle.std.specs.Prelude.{◌≡◌, ◌↔◌, IfSome, IsTrue, nat_lt, if◌then◌else◌, Some, None, true};
 ghost use Rattle.control_wire.specs.Segment.{segment_of};
 ghost use Rattle.host_index.specs.Entries.{IsSortedByRank, Splits, rank};
-ghost use Rattle.net_host.specs.Entries.{FindsEarliestListed, FindsListed, FindsUnder};
+ghost use Rattle.net_host.specs.Entries.{FindsEarliestListed, FindsListed, FindsUnder, IsFirstListed};
 ghost use Rattle.net_host.specs.Filing.{rest_major};
 ghost use Rattle.net_host.specs.Finding.{Fits, RestsAt, with_minor};
 ghost use Rattle.net_host.specs.Resting.{RestsUntil};
@@ -79,6 +79,7 @@ impl<'a, G: TsvalSource> Slot<'a, G> {
     }
 }
 
+#[inline(always)]
 fn fits_at<C: Context, G: TsvalSource>(
     slots: &[Slot<'_, G>],
     place: usize,
@@ -95,8 +96,34 @@ fn fits_at<C: Context, G: TsvalSource>(
     }
 }
 
-/// The first place under the key whose socket fits.
+/// The first place under the key, where that is known and its socket fits.
+#[inline(always)]
 #[tactic(auto, using(crate::proofs::Runs::known_fits))]
+pub(crate) fn known_in<C: Context, G: TsvalSource>(
+    slots: &[Slot<'_, G>],
+    index: &Index,
+    key: Entry,
+    cx: &C,
+    sought: Sought,
+    ip: &IpRepr,
+    repr: &TcpRepr<'_>,
+) -> Option<usize>
+    requires { key.place ≡ 0 }
+    ensures { IfSome result (λ i. IsFirstListed (Fits sought ip.now (segment_of repr.now)) slots.now index.now key i) }
+{
+    match index.known(key) {
+        Some(place) => {
+            if fits_at(slots, place, cx, sought, ip, repr) {
+                Some(place)
+            } else {
+                None
+            }
+        }
+        None => None,
+    }
+}
+
+/// The first place under the key whose socket fits.
 pub(crate) fn first_in<C: Context, G: TsvalSource>(
     slots: &[Slot<'_, G>],
     index: &Index,
@@ -109,12 +136,10 @@ pub(crate) fn first_in<C: Context, G: TsvalSource>(
     requires { key.place ≡ 0 }
     ensures { FindsListed (Fits sought ip.now (segment_of repr.now)) slots.now index.now key result }
 {
-    if let Some(place) = index.known(key) {
-        if fits_at(slots, place, cx, sought, ip, repr) {
-            return Some(place);
-        }
+    match known_in(slots, index, key, cx, sought, ip, repr) {
+        Some(place) => Some(place),
+        None => first_from(slots, index, index.lower(key), key, cx, sought, ip, repr),
     }
-    first_from(slots, index, index.lower(key), key, cx, sought, ip, repr)
 }
 
 // The same, from where the entries under the key begin. Apart from `first_in`, which mostly knows the place, so that it

@@ -113,9 +113,10 @@ impl<W: Words> Interface<W> {
         ensures touched { Touches sockets.old.bounds sockets.old.slots.items sockets.new.bounds
             sockets.new.slots.items }
     {
-        match refusal(&self.inner, &self.groups, ip) {
+        let own = self.inner.has_ip_addr(ip.dst_addr());
+        match refusal(&self.inner, own, &self.groups, ip) {
             Some(reason) => self.drop_packet(reason),
-            None => self.take_looked_at(sockets, ip, bytes, out),
+            None => self.take_looked_at(sockets, own, ip, bytes, out),
         }
     }
 
@@ -124,11 +125,14 @@ impl<W: Words> Interface<W> {
     fn take_looked_at<G: TsvalSource>(
         &mut self,
         sockets: &mut SocketSet<'_, G>,
+        own: bool,
         ip: &IpRepr,
         bytes: &[u8],
         out: &mut [u8],
     ) -> usize
-        requires { 100 ≤ length out.old }
+        requires own { own ≡ (facts_by ⟦<IpAddress as PartialEq>⟧.eq self.old.inner.environment).has_address
+            (dst_addr_of ip.now) }
+        requires room { 100 ≤ length out.old }
         ensures within { result ≤ length out.old }
         ensures table { TakesCarried ⟦<IpAddress as PartialEq>⟧.eq W.word_at G.tells ip.now bytes.now self.old
             sockets.old.slots.items out.old result self.new sockets.new.slots.items out.new }
@@ -136,7 +140,7 @@ impl<W: Words> Interface<W> {
             sockets.new.slots.items }
     {
         copy_packet(sockets, &self.inner, ip, bytes);
-        let kind = kind_in(&self.inner, ip);
+        let kind = kind_in(own, ip);
         self.take_kind(sockets, kind, ip, bytes, out)
     }
 

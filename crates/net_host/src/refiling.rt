@@ -17,6 +17,7 @@ fn entry_at(key: &Entry, place: usize) -> Entry
 }
 
 // Whether the place is filed under this key and no other. Where the answer is no, it says nothing.
+#[inline(always)]
 fn has_key(index: &Index, which: Which, place: usize, key: &Key) -> bool
     ensures { result ≡ true → is_under index.now place key.now ≡ true }
 {

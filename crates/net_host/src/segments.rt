@@ -10,10 +10,10 @@ ghost use Rattle.net_host.specs.Resting.{Rests, anew, is_opening};
 ghost use Rattle.net_host.specs.Segments.{Hears, HearsAt, IsTaker, NoneTakes, Refuses, TakenBy};
 ghost use Rattle.net_host.specs.Segments.{TakesSegment, as_is};
 ghost use Rattle.net_host.specs.Touching.{Touches};
-ghost use Rattle.net_host.specs.Walks.{Finds, Nowhere};
+ghost use Rattle.net_host.specs.Walks.{Finds, IsFirst, Nowhere};
 
 use crate::filing::{connection_key, listener_key};
-use crate::find::{Sought, first_in};
+use crate::find::{Sought, first_in, known_in};
 use crate::limit::Limit;
 use crate::rest::{any_server, oldest, opens};
 use crate::set::SocketSet;
@@ -74,7 +74,11 @@ impl<'a, G: TsvalSource> Slot<'a, G> {
         ensures fits { ForSome (option_map reply_of reply.new) (λ r. FitsPacket r.0 r.1) }
     {
         match &mut self.socket {
-            Some(Socket::Tcp(tcp)) => *reply = tcp.process(cx, ip, repr),
+            Some(Socket::Tcp(tcp)) => match tcp.process(cx, ip, repr) {
+                // apart, as mostly nothing is answered, and a copy of nothing is as long as one of an answer
+                Some(answer) => *reply = Some(answer),
+                None => *reply = None,
+            },
             _ => *reply = None,
         }
     }
@@ -202,6 +206,60 @@ pub(crate) fn who_takes<C: Context, G: TsvalSource>(
     }
 }
 
+// The place of the connection that takes the segment, where it is known.
+#[inline(always)]
+fn known_connection<C: Context, G: TsvalSource>(
+    sockets: &SocketSet<'_, G>,
+    cx: &C,
+    ip: &IpRepr,
+    repr: &TcpRepr<'_>,
+) -> Option<usize>
+    requires settled { IsSettled (λ s. keys_of s) sockets.now.complete sockets.now.slots.items sockets.now.index
+        sockets.now.free }
+    requires complete { sockets.now.complete ≡ true }
+    ensures { IfSome result (λ i. IsFirst (TakesSegment false ip.now (segment_of repr.now)) sockets.now.slots.items i) }
+{
+    let key = connection_key(&ip.src_addr(), repr.dst_port, repr.src_port);
+    known_in(
+        &sockets.slots,
+        &sockets.index,
+        key,
+        cx,
+        Sought::Connection,
+        ip,
+        repr,
+    )
+}
+
+/// The connection that takes the segment, by one look where its place is known, as mostly. Where the answer is none, it
+/// says nothing.
+#[inline(always)]
+pub(crate) fn known_taker<C: Context, G: TsvalSource>(
+    sockets: &SocketSet<'_, G>,
+    cx: &C,
+    ip: &IpRepr,
+    repr: &TcpRepr<'_>,
+) -> Option<usize>
+    requires { IsSettled (λ s. keys_of s) sockets.now.complete sockets.now.slots.items sockets.now.index
+        sockets.now.free }
+    ensures { IfSome result
+        (λ i. IsTaker sockets.now.slots.items ip.now (segment_of repr.now) (Taker.Connection i)) }
+{
+    if !sockets.complete {
+        return None;
+    }
+    match known_connection(sockets, cx, ip, repr) {
+        Some(i) => {
+            if sockets.slots[i].reopens(ip, repr) {
+                None
+            } else {
+                Some(i)
+            }
+        }
+        None => None,
+    }
+}
+
 // Who takes a segment that is for no connection.
 fn listener<C: Context, G: TsvalSource>(
     sockets: &SocketSet<'_, G>,
@@ -291,6 +349,7 @@ fn hear_anew_there<C: Context, G: TsvalSource>(
 
 /// The socket at this place takes the segment. The reply is written where it is wanted: given back, it would be copied
 /// by each caller on the way, with nearly every packet.
+#[inline(always)]
 pub(crate) fn hear_at<C: Context, G: TsvalSource>(
     sockets: &mut SocketSet<'_, G>,
     i: usize,

@@ -4,7 +4,7 @@ use Rattle.sock_tcp.specs.Process.{reply_of}
 use Rattle.net_host.specs.Cookies.{IsAgain, TakenOn}
 use Rattle.net_host.specs.Segments.{IsTaker}
 use Rattle.net_host.specs.Wire.{with_reply}
-use Rattle.net_host.proofs.hearing.hear_segment.Goals as goal
+use Rattle.net_host.proofs.hearing.hear_sought.Goals as goal
 
 pub returns-clause-taker : goal.returns-clause-taker
 returns-clause-taker g c = subst (λ s. IsTaker s.items c.args.ip.now (segment_of c.args.repr.now) c.heard_by-heard.result.taker) c.settle_for.ensures.slots c.heard_by-heard.ensures.taker
