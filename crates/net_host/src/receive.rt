@@ -315,7 +315,8 @@ impl<W: Words> Interface<W> {
         put_answer(&answer, self.inner.ip_mtu(), out, &caps)
     }
 
-    #[inline(always)]
+    // Not inlined, as it has what a segment runs through, and two callers: one of each version of IP.
+    #[inline(never)]
     #[tactic(auto, using(crate::proofs::Touching::touches_none))]
     fn take_tcp<G: TsvalSource>(
         &mut self,
