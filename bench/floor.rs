@@ -108,7 +108,7 @@ impl<'a> End<'a> {
     }
 
     fn serve(&mut self, scratch: &mut [u8], source: &[u8], random: &mut Random, digest: &mut Digest) {
-        self.talk.serve_pieces(&mut self.socket, scratch, source, random, digest, 64);
+        self.talk.serve_whole(&mut self.socket, scratch, source, random, digest);
     }
 }
 

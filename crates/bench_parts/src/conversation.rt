@@ -9,6 +9,9 @@ use smoltcp_socket::wire::IpListenEndpoint;
 // How many pieces are read at one moment.
 const PIECES: u32 = 16;
 
+// How many pieces are written at one moment, where all is.
+const WRITTEN: u32 = 64;
+
 // How many bytes of a request say how long it is, and how long its answer.
 const HEAD: usize = 8;
 
@@ -73,7 +76,7 @@ impl Talk {
         digest.number(self.received as u64);
     }
 
-    /// Lets the application read, and write a piece.
+    /// Lets the application read and write.
     pub fn serve(
         &mut self,
         socket: &mut Socket<'_, Clock>,
@@ -82,24 +85,45 @@ impl Talk {
         random: &mut Random,
         digest: &mut Digest,
     ) {
-        self.serve_pieces(socket, scratch, source, random, digest, 1);
+        match (self.role, socket.state()) {
+            (_, State::Closed | State::Listen | State::SynSent | State::SynReceived) => {}
+            (Role::Server, _) => self.answer(socket, scratch, source, random, digest),
+            (Role::Client, _) => self.ask(socket, scratch, source, random, digest),
+            (Role::Sleeper, _) => {}
+        }
     }
 
-    /// The same, and it writes up to so many pieces, until it has no more to say or nothing is taken.
-    pub fn serve_pieces(
+    /// The same, and what it has to say is written whole, or until nothing is taken.
+    pub fn serve_whole(
         &mut self,
         socket: &mut Socket<'_, Clock>,
         scratch: &mut [u8],
         source: &[u8],
         random: &mut Random,
         digest: &mut Digest,
-        pieces: u32,
     ) {
-        match (self.role, socket.state()) {
-            (_, State::Closed | State::Listen | State::SynSent | State::SynReceived) => {}
-            (Role::Server, _) => self.answer(socket, scratch, source, random, digest, pieces),
-            (Role::Client, _) => self.ask(socket, scratch, source, random, digest, pieces),
-            (Role::Sleeper, _) => {}
+        let before = self.sent;
+        self.serve(socket, scratch, source, random, digest);
+        if self.sent > before {
+            self.send_rest(socket, source, random);
+        }
+    }
+
+    // Piece after piece of what is left, and a server closes behind it.
+    fn send_rest(&mut self, socket: &mut Socket<'_, Clock>, source: &[u8], random: &mut Random) {
+        let total = match self.role {
+            Role::Server => self.answer,
+            _ => self.request,
+        };
+        for _ in 0..WRITTEN {
+            let before = self.sent;
+            self.send(socket, total, source, random);
+            if self.sent == before {
+                break;
+            }
+        }
+        if self.role == Role::Server && self.sent >= total {
+            socket.close();
         }
     }
 
@@ -110,13 +134,12 @@ impl Talk {
         source: &[u8],
         random: &mut Random,
         digest: &mut Digest,
-        pieces: u32,
     ) {
         if self.sent == 0 {
             let head = head_of(self.request, self.answer);
             self.sent = socket.send_slice(&head).unwrap_or(0);
         }
-        self.send(socket, self.request, source, random, pieces);
+        self.send(socket, self.request, source, random);
         for _ in 0..PIECES {
             match socket.recv_slice(scratch) {
                 Ok(0) => break,
@@ -140,7 +163,6 @@ impl Talk {
         source: &[u8],
         random: &mut Random,
         digest: &mut Digest,
-        pieces: u32,
     ) {
         for _ in 0..PIECES {
             let Ok(count) = socket.recv_slice(scratch) else {
@@ -152,7 +174,7 @@ impl Talk {
             self.read(&scratch[..count.min(scratch.len())], digest);
         }
         if self.received > 0 && self.received >= self.request {
-            self.send(socket, self.answer, source, random, pieces);
+            self.send(socket, self.answer, source, random);
             if self.sent >= self.answer {
                 socket.close();
             }
@@ -177,20 +199,14 @@ impl Talk {
         total: usize,
         source: &[u8],
         random: &mut Random,
-        pieces: u32,
     ) {
-        for _ in 0..pieces {
-            let left = total.saturating_sub(self.sent);
-            if left == 0 {
-                break;
-            }
-            let piece = random.piece(source, left);
-            let count = socket.send_slice(piece).unwrap_or(0);
-            if count == 0 {
-                break;
-            }
-            self.sent = self.sent.saturating_add(count);
+        let left = total.saturating_sub(self.sent);
+        if left == 0 {
+            return;
         }
+        let piece = random.piece(source, left);
+        let count = socket.send_slice(piece).unwrap_or(0);
+        self.sent = self.sent.saturating_add(count);
     }
 }
 

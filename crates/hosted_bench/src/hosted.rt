@@ -23,9 +23,6 @@ const PACKET: usize = 1500;
 // At most so many packets of a host go out at one moment.
 const PACKETS: u32 = 100_000;
 
-// An application writes at most so many pieces when it is asked.
-const PIECES: u32 = 64;
-
 // Every so many moments each socket is looked at, as a timer may have closed it.
 const ROUND: u32 = 100;
 
@@ -182,7 +179,7 @@ impl Host<SocketSet<'_, Clock>> {
                     talk.begin(0, 0);
                 }
                 // it is asked again only once its socket took a segment, so it writes all that it has to say
-                talk.serve_pieces(socket, scratch, source, random, digest, PIECES);
+                talk.serve_whole(socket, scratch, source, random, digest);
                 closed = socket.state() == State::Closed;
             }
             if closed {
