@@ -70,7 +70,7 @@ impl FirstMark {
 }
 
 // The next place from one on that may be marked, of so many.
-#[inline(never)]
+#[inline(always)]
 fn mark_behind(marks: &Marks, start: usize, count: usize) -> usize
     ensures { (k : ℕ) → start ≤ k → k < result → k < count → bit_of marks.now k ≡ 0 }
 {

@@ -4,3 +4,4 @@ pub mod Written
 pub mod TcpTrips
 pub mod UdpTrips
 pub mod PacketTrips
+pub mod PseudoSums

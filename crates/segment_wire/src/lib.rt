@@ -3,6 +3,7 @@
 
 pub mod options;
 pub mod packet;
+mod pseudo;
 pub mod round_trips;
 pub mod tcp;
 pub mod udp;

@@ -20,7 +20,6 @@ use ip_wire::{
 };
 
 /// Writes an IP header and a segment behind it, whose bytes the header counts.
-#[tactic(auto, using(crate::proofs::Written::payload_behind))]
 pub fn emit_tcp(ip: &IpRepr, repr: &TcpRepr<'_>, buffer: &mut [u8], caps: &ChecksumCapabilities)
     requires counted { payload_len_of ip.now
         ≡ segment_header_len (segment_of repr.now) + length repr.now.payload.now }
@@ -29,13 +28,32 @@ pub fn emit_tcp(ip: &IpRepr, repr: &TcpRepr<'_>, buffer: &mut [u8], caps: &Check
     requires room { length buffer.old ≡ header_len_of ip.now + payload_len_of ip.now }
     ensures { buffer.new ≡ tcp_packet caps.now ip.now (segment_of repr.now) }
 {
-    put(buffer, ip.header_len() + repr.header_len(), repr.payload);
-    emit_tcp_front(ip, repr, buffer, caps);
+    emit_tcp_with(ip, repr, repr.header_len(), buffer, caps);
+}
+
+/// The same, where the caller has worked out already how many bytes the segment's header has, with its options.
+#[tactic(auto, using(crate::proofs::Written::payload_behind))]
+pub fn emit_tcp_with(
+    ip: &IpRepr,
+    repr: &TcpRepr<'_>,
+    header_len: usize,
+    buffer: &mut [u8],
+    caps: &ChecksumCapabilities,
+)
+    requires header { header_len ≡ segment_header_len (segment_of repr.now) }
+    requires counted { payload_len_of ip.now
+        ≡ segment_header_len (segment_of repr.now) + length repr.now.payload.now }
+    requires protocol { next_header_of ip.now ≡ Tcp }
+    requires options { options_len (segment_of repr.now) ≤ 40 }
+    requires room { length buffer.old ≡ header_len_of ip.now + payload_len_of ip.now }
+    ensures { buffer.new ≡ tcp_packet caps.now ip.now (segment_of repr.now) }
+{
+    put(buffer, ip.header_len() + header_len, repr.payload);
+    emit_headers(ip, repr, header_len, buffer, caps);
 }
 
 /// Writes an IP header and the header of a segment before a copy of its payload, which stands in `buffer` already,
 /// behind as many bytes as both headers have. The packet is then that of [`emit_tcp`].
-#[tactic(auto, using(crate::proofs::Written::behind_both))]
 pub fn emit_tcp_front(
     ip: &IpRepr,
     repr: &TcpRepr<'_>,
@@ -51,15 +69,31 @@ pub fn emit_tcp_front(
         ≡ repr.now.payload.now }
     ensures { buffer.new ≡ tcp_packet caps.now ip.now (segment_of repr.now) }
 {
+    emit_headers(ip, repr, repr.header_len(), buffer, caps);
+}
+
+// The same with the length of the segment's header.
+#[tactic(auto, using(crate::proofs::Written::behind_both))]
+fn emit_headers(
+    ip: &IpRepr,
+    repr: &TcpRepr<'_>,
+    header_len: usize,
+    buffer: &mut [u8],
+    caps: &ChecksumCapabilities,
+)
+    requires header { header_len ≡ segment_header_len (segment_of repr.now) }
+    requires counted { payload_len_of ip.now
+        ≡ segment_header_len (segment_of repr.now) + length repr.now.payload.now }
+    requires protocol { next_header_of ip.now ≡ Tcp }
+    requires options { options_len (segment_of repr.now) ≤ 40 }
+    requires room { length buffer.old ≡ header_len_of ip.now + payload_len_of ip.now }
+    requires payload { drop (header_len_of ip.now + segment_header_len (segment_of repr.now)) buffer.old
+        ≡ repr.now.payload.now }
+    ensures { buffer.new ≡ tcp_packet caps.now ip.now (segment_of repr.now) }
+{
     ip.emit(buffer, caps);
     let start = ip.header_len();
-    tcp::emit_front(
-        repr,
-        &mut buffer[start..],
-        &ip.src_addr(),
-        &ip.dst_addr(),
-        caps,
-    );
+    tcp::emit_behind(ip, repr, header_len, &mut buffer[start..], caps);
 }
 
 /// Writes an IP header and a datagram behind it, whose bytes the header counts.
@@ -101,7 +135,7 @@ pub fn parse_tcp<'a>(
     let Some((ip, bytes)) = carried_if(packet, 6, caps) else {
         return Err(Error);
     };
-    let repr = tcp::parse(bytes, &ip.src_addr(), &ip.dst_addr(), caps)?;
+    let repr = tcp::parse_behind(&ip, bytes, caps)?;
     Ok((ip, repr))
 }
 

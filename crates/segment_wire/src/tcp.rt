@@ -1,21 +1,25 @@
 //! TCP segments as bytes (RFC 9293, section 3.1).
 ghost use Rattle.std.specs.Prelude.{◌≡◌, ◌+◌, ◌-◌, ◌≤◌, ◌++◌, ◌/◌, ◌*◌, IsTrue, true, drop, take, length};
 ghost use Rattle.ip_wire.specs.Checksum.{is_received, is_sent};
+ghost use Rattle.ip_wire.specs.IpHeader.{dst_addr_of, src_addr_of};
 ghost use Rattle.ip_wire.specs.Octets.{be16};
+ghost use Rattle.ip_wire.specs.Sum.{pseudo_sum};
+ghost use Rattle.ip_wire.specs.declared.address.IpAddress.{IpAddress};
 ghost use Rattle.control_wire.specs.Segment.{options_len, segment_header_len, segment_of};
-ghost use Rattle.control_wire.specs.Source.{tcp_header_len};
-ghost use Rattle.segment_wire.specs.Options.{options_octets};
+ghost use Rattle.control_wire.specs.Source.{sum_holds, tcp_header_len};
+ghost use Rattle.segment_wire.specs.Options.{no_options, options_octets, options_read};
 ghost use Rattle.segment_wire.specs.Tcp.{ack_bit, ack_field, ack_of, control_bits, control_of, is_head, options_of};
-ghost use Rattle.segment_wire.specs.Tcp.{filled, read_as, segment_at, tcp_checksum, tcp_header, tcp_octets, tcp_parsed};
+ghost use Rattle.segment_wire.specs.Tcp.{filled, read_as, segment_at, segment_if, tcp_checksum, tcp_header, tcp_octets, tcp_parsed};
 ghost use Rattle.segment_wire.specs.Tcp.{tcp_with};
 
 use crate::options::{TcpOptions, be32_at, read_options};
+use crate::pseudo::pseudo_sum_of;
 use crate::write::{fill_checksum, header_sum, write_front};
 use control_wire::source::{at_most_one, sum_holds};
 use control_wire::{TcpControl, TcpRepr, TcpSeqNumber};
 use ip_wire::octets::{be16_at, behind, put, word};
-use ip_wire::sum::pseudo_sum;
-use ip_wire::{ChecksumCapabilities, Error, IpAddress};
+use ip_wire::sum::{pseudo_sum, sum_after};
+use ip_wire::{ChecksumCapabilities, Error, IpAddress, IpRepr};
 
 /// Writes the segment into `buffer_len` bytes, between these two addresses.
 ///
@@ -57,25 +61,43 @@ pub fn emit_front(
     let header_len = repr.header_len();
     write_front(repr, header_len, buffer);
     if caps.tcp.tx() {
-        write_checksum(repr, header_len, buffer, src_addr, dst_addr);
+        let start = pseudo_sum(src_addr, dst_addr, 6, buffer.len());
+        write_checksum(repr, header_len, start, buffer);
     }
 }
 
-// Writes the checksum of a segment that has 0 in its place.
-fn write_checksum(
+/// Writes the segment's header, of so many bytes, as [`emit_front`], behind this IP header, which has the addresses.
+#[tactic(auto, unfolding(crate::specs::Tcp::tcp_with))]
+pub(crate) fn emit_behind(
+    ip: &IpRepr,
     repr: &TcpRepr<'_>,
-    header_len: usize,
+    len: usize,
     buffer: &mut [u8],
-    src_addr: &IpAddress,
-    dst_addr: &IpAddress,
+    caps: &ChecksumCapabilities,
 )
+    requires counted { len ≡ segment_header_len (segment_of repr.now) }
+    requires room { segment_header_len (segment_of repr.now) ≤ length buffer.old }
+    requires payload { drop (segment_header_len (segment_of repr.now)) buffer.old ≡ repr.now.payload.now }
+    requires options { options_len (segment_of repr.now) ≤ 40 }
+    ensures { buffer.new ≡ tcp_octets (is_sent caps.now.tcp) (src_addr_of ip.now) (dst_addr_of ip.now)
+        (segment_of repr.now) }
+{
+    write_front(repr, len, buffer);
+    if caps.tcp.tx() {
+        let start = pseudo_sum_of(ip, buffer.len());
+        write_checksum(repr, len, start, buffer);
+    }
+}
+
+// Writes the checksum of a segment that has 0 in its place, behind a pseudo header of this sum.
+fn write_checksum(repr: &TcpRepr<'_>, header_len: usize, start: u16, buffer: &mut [u8])
     requires counted { header_len ≡ segment_header_len (segment_of repr.now) }
     requires written { buffer.old ≡ tcp_with (segment_of repr.now) 0 }
     requires room { 20 ≤ length buffer.old }
     requires options { options_len (segment_of repr.now) ≤ 40 }
-    ensures { buffer.new ≡ tcp_octets true src_addr.now dst_addr.now (segment_of repr.now) }
+    ensures { (src dst : IpAddress) → start ≡ pseudo_sum src dst 6 (length buffer.old)
+        → buffer.new ≡ tcp_octets true src dst (segment_of repr.now) }
 {
-    let start = pseudo_sum(src_addr, dst_addr, 6, buffer.len());
     let front = header_sum(start, repr, header_len);
     fill_checksum(front, buffer);
 }
@@ -96,6 +118,39 @@ pub fn parse<'a>(
     if !is_head(bytes) || (caps.tcp.rx() && !sum_holds(bytes, src_addr, dst_addr, 6)) {
         return Err(Error);
     }
+    read(bytes)
+}
+
+/// The segment that the bytes spell behind this IP header, as [`parse`] between its addresses.
+pub fn parse_behind<'a>(
+    ip: &IpRepr,
+    bytes: &'a [u8],
+    caps: &ChecksumCapabilities,
+) -> Result<TcpRepr<'a>, Error>
+    ensures { read_as segment_of result
+        ≡ tcp_parsed (is_received caps.now.tcp) (src_addr_of ip.now) (dst_addr_of ip.now) bytes.now }
+{
+    if !is_head(bytes) || (caps.tcp.rx() && !sum_holds_behind(ip, bytes)) {
+        return Err(Error);
+    }
+    read(bytes)
+}
+
+// Whether the checksum verifies.
+fn sum_holds_behind(ip: &IpRepr, bytes: &[u8]) -> bool
+    ensures { result ≡ sum_holds (src_addr_of ip.now) (dst_addr_of ip.now) 6 bytes.now }
+{
+    sum_after(pseudo_sum_of(ip, bytes.len()), bytes) == 0xffff
+}
+
+// The segment that the bytes spell, where its options are whole.
+#[inline(always)]
+fn read<'a>(bytes: &'a [u8]) -> Result<TcpRepr<'a>, Error>
+    requires least { 20 ≤ tcp_header_len bytes.now }
+    requires fits { tcp_header_len bytes.now ≤ length bytes.now }
+    ensures { read_as segment_of result
+        ≡ segment_if bytes.now (options_read 0 no_options (options_of bytes.now)) }
+{
     match read_options(options_of(bytes)) {
         Some(options) => Ok(segment_at(bytes, &options)),
         None => Err(Error),

@@ -3,4 +3,4 @@ use Rattle.segment_wire.proofs.Written.{filled}
 use Rattle.segment_wire.proofs.tcp.write_checksum.Goals as goal
 
 pub returns : goal.returns
-returns c = filled c.args.src_addr.now c.args.dst_addr.now (segment_of c.args.repr.now) c.args.buffer.now c.fill_checksum.new.buffer c.pseudo_sum-start.result c.header_sum-front.result c.requires.written c.pseudo_sum-start.ensures c.header_sum-front.ensures c.fill_checksum.ensures
+returns c = λ src dst e. filled src dst (segment_of c.args.repr.now) c.args.buffer.now c.fill_checksum.new.buffer c.args.start c.header_sum-front.result c.requires.written e c.header_sum-front.ensures c.fill_checksum.ensures
