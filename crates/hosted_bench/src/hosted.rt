@@ -155,6 +155,7 @@ impl<'a> Host<SocketSet<'a, Clock>> {
 
 impl Host<SocketSet<'_, Clock>> {
     // A socket that was closed listens, or is idle. The application of one that may have changed reads and writes.
+    #[inline(always)]
     fn serve(
         &mut self,
         scratch: &mut [u8],

@@ -70,9 +70,7 @@ impl Environment {
         ensures { result ≡ list_any (λ c. ⟦<IpAddress as PartialEq>⟧.eq c.address addr.now)
             self.entry.now.addresses.items }
     {
-        self.addresses
-            .iter()
-            .any(|c: &IpCidr| is_same_address(&c.address, addr))
+        has_address(&self.addresses, addr)
     }
 
     pub(crate) fn source(&self, dst: &IpAddress) -> Option<IpAddress>
@@ -122,6 +120,19 @@ impl Environment {
     {
         self.addresses.iter().any(|c: &IpCidr| c.is_broadcast(addr))
     }
+}
+
+// A loop of its own takes the place of the library's `any`, which is called.
+#[inline(always)]
+fn has_address(addresses: &[IpCidr], addr: &IpAddress) -> bool
+    ensures { result ≡ list_any (λ c. ⟦<IpAddress as PartialEq>⟧.eq c.address addr.now) addresses.now }
+{
+    for i in 0..addresses.len() {
+        if is_same_address(&addresses[i].address, addr) {
+            return true;
+        }
+    }
+    false
 }
 
 // The same as `==`, without a call, as each packet has its addresses compared.

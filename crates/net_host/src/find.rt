@@ -124,6 +124,7 @@ pub(crate) fn known_in<C: Context, G: TsvalSource>(
 }
 
 /// The first place under the key whose socket fits.
+#[inline(always)]
 pub(crate) fn first_in<C: Context, G: TsvalSource>(
     slots: &[Slot<'_, G>],
     index: &Index,
@@ -142,9 +143,8 @@ pub(crate) fn first_in<C: Context, G: TsvalSource>(
     }
 }
 
-// The same, from where the entries under the key begin. Apart from `first_in`, which mostly knows the place, so that it
-// saves few registers.
-#[inline(never)]
+// The same, from where the entries under the key begin.
+#[inline(always)]
 fn first_from<C: Context, G: TsvalSource>(
     slots: &[Slot<'_, G>],
     index: &Index,

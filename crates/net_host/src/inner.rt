@@ -26,6 +26,7 @@ impl<W: Words> Context for InterfaceInner<W> {
         self.environment.now
     }
 
+    #[inline(always)]
     fn has_ip_addr(&self, addr: IpAddress) -> bool {
         self.environment.has_ip_addr(&addr)
     }

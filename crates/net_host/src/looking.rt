@@ -11,7 +11,7 @@ use crate::lent_turns::watch_at;
 use crate::limits::Limits;
 use crate::set::SocketSet;
 use crate::slot::Slot;
-use crate::turn::{delayed, is_reached};
+use crate::turn::is_reached;
 use smoltcp_socket::time::Instant;
 use smoltcp_socket::{Context, PollAt};
 use sock_tcp::TsvalSource;
@@ -42,8 +42,10 @@ impl<'a, G: TsvalSource> Slot<'a, G> {
     {
         let now = cx.now();
         let asked = self.asked(cx);
-        let poll = delayed(self.guard.may_take_turn(now), now, asked);
-        (asked, is_reached(poll, now))
+        (
+            asked,
+            is_reached(asked, now) && self.guard.may_take_turn(now),
+        )
     }
 }
 

@@ -334,13 +334,12 @@ impl<W: Words> Interface<W> {
             sockets.new.slots.items }
     {
         let caps = self.inner.checksum_caps();
-        match tcp::parse(bytes, &ip.src_addr(), &ip.dst_addr(), &caps) {
+        match tcp::parse_behind(ip, bytes, &caps) {
             Err(_) => self.drop_packet(Reason::Segment),
             Ok(repr) => self.take_short(sockets, ip, &repr, out),
         }
     }
 
-    #[inline(always)]
     #[tactic(auto, using(crate::proofs::Touching::touches_none))]
     fn take_short<G: TsvalSource>(
         &mut self,

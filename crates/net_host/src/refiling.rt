@@ -29,6 +29,7 @@ fn has_key(index: &Index, which: Which, place: usize, key: &Key) -> bool
 }
 
 // What the place is filed under is removed, unless it is this key.
+#[inline(always)]
 fn unfile(index: &mut Index, which: Which, place: usize, key: &Key)
     ensures { KeepsElsewhere place index.old index.new }
 {
@@ -37,6 +38,7 @@ fn unfile(index: &mut Index, which: Which, place: usize, key: &Key)
     }
 }
 
+#[inline(always)]
 fn file(index: &mut Index, which: Which, place: usize, key: &Key) -> bool
     ensures filed { result ≡ true → is_under index.new place key.now ≡ true }
     ensures kept { Keeps index.old index.new }

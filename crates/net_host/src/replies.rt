@@ -4,12 +4,12 @@ ghost use Rattle.std.specs.Option.{ForSome};
 ghost use Rattle.ip_wire.specs.Checksum.{is_sent};
 ghost use Rattle.ip_wire.specs.Packet.{header_octets};
 ghost use Rattle.control_wire.specs.Fits.{FitsPacket};
-ghost use Rattle.control_wire.specs.Segment.{segment_of};
+ghost use Rattle.control_wire.specs.Segment.{segment_header_len, segment_of};
 ghost use Rattle.sock_tcp.specs.Process.{reply_of};
 ghost use Rattle.net_host.specs.Wire.{CountsDatagram, IsCounted, packet_len, raw_len, reply_len, with_datagram};
 ghost use Rattle.net_host.specs.Wire.{with_raw, with_reply, with_segment};
 
-use segment_wire::packet::{emit_tcp, emit_udp};
+use segment_wire::packet::{emit_tcp_with, emit_udp};
 use smoltcp_socket::wire::{ChecksumCapabilities, IpRepr, TcpRepr, UdpRepr};
 use sock_tcp::Reply;
 
@@ -29,8 +29,28 @@ pub(crate) fn put_segment(
     ensures len { result ≡ packet_len ip.now }
     ensures bytes { out.new ≡ with_segment caps.now ip.now (segment_of repr.now) out.old }
 {
+    put_segment_with(ip, repr, repr.header_len(), out, caps)
+}
+
+/// The same, where it was worked out already how many bytes the segment's header has. Not inlined, as two ways lead
+/// here.
+#[inline(never)]
+pub(crate) fn put_segment_with(
+    ip: &IpRepr,
+    repr: &TcpRepr<'_>,
+    header_len: usize,
+    out: &mut [u8],
+    caps: &ChecksumCapabilities,
+) -> usize
+    requires header { header_len ≡ segment_header_len (segment_of repr.now) }
+    requires counted { IsCounted ip.now (segment_of repr.now) }
+    requires room { packet_len ip.now ≤ length out.old }
+    ensures within { result ≤ length out.old }
+    ensures len { result ≡ packet_len ip.now }
+    ensures bytes { out.new ≡ with_segment caps.now ip.now (segment_of repr.now) out.old }
+{
     let whole = ip.header_len() + ip.payload_len();
-    emit_tcp(ip, repr, &mut out[..whole], caps);
+    emit_tcp_with(ip, repr, header_len, &mut out[..whole], caps);
     whole
 }
 

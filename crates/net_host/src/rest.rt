@@ -36,6 +36,7 @@ fn is_above(a: TcpSeqNumber, b: TcpSeqNumber) -> bool
 }
 
 // Whether the segment is for a listener on this endpoint.
+#[inline(always)]
 fn is_to_listener(endpoint: &IpListenEndpoint, ip: &IpRepr, repr: &TcpRepr<'_>) -> bool
     ensures { IsTrue result ↔ IsToListener endpoint.now ip.now (segment_of repr.now) }
 {

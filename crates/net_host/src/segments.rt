@@ -110,6 +110,7 @@ impl<'a, G: TsvalSource> Slot<'a, G> {
 }
 
 // The first socket that takes the segment, of those that listen or of the others.
+#[inline(always)]
 fn first_taker<C: Context, G: TsvalSource>(
     sockets: &SocketSet<'_, G>,
     cx: &C,
@@ -319,8 +320,8 @@ fn hear_there<C: Context, G: TsvalSource>(
     requires within { i < length slots.old.items }
     requires accepted { IfSome (slice_get slots.old.items i) (TakesSegment listening ip.now (segment_of repr.now)) }
     requires small { length repr.now.payload.now ≤ 65535 }
-    ensures heard { HearsAt C.facts C.word_at G.tells as_is slots.old.items i cx.old ip.now (segment_of repr.now) reply.new
-        slots.new.items cx.new }
+    ensures heard { HearsAt C.facts C.word_at G.tells as_is slots.old.items i cx.old ip.now (segment_of repr.now)
+        reply.new slots.new.items cx.new }
     ensures bare { ForSome reply.new (λ r. r.1.payload.now ≡ []) }
     ensures fits { ForSome (option_map reply_of reply.new) (λ r. FitsPacket r.0 r.1) }
 {

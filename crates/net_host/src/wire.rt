@@ -1,6 +1,6 @@
 //! The context of a dispatch, which writes what is emitted into a buffer.
 ghost use Rattle.std.specs.Prelude.{◌≡◌, ◌↔◌, ◌≤◌, IsTrue, length};
-ghost use Rattle.control_wire.specs.Segment.{segment_of};
+ghost use Rattle.control_wire.specs.Segment.{segment_header_len, segment_of};
 ghost use Rattle.net_host.specs.Addresses.{as_v4, as_v6, source_of};
 ghost use Rattle.net_host.specs.Facts.{facts_by};
 ghost use Rattle.net_host.specs.Sheets.{Writes, WritesDatagram, WritesMessage, WritesRaw};
@@ -11,7 +11,7 @@ ghost use Rattle.net_host.specs.SheetOf.{KeepsWire, sheet_of};
 use crate::environment::Environment;
 use crate::inner::{source_v4, source_v6};
 use crate::messages::put_message;
-use crate::replies::{put_datagram, put_raw, put_segment};
+use crate::replies::{put_datagram, put_raw, put_segment_with};
 use smoltcp_socket::Context;
 use smoltcp_socket::time::Instant;
 use smoltcp_socket::wire::{
@@ -36,11 +36,12 @@ pub struct Wire<'w> {
 const LONGEST_HEADER: usize = 60;
 
 // Whether the header counts the segment.
-fn is_counted(ip: &IpRepr, repr: &TcpRepr<'_>) -> bool
+fn is_counted(ip: &IpRepr, repr: &TcpRepr<'_>, header_len: usize) -> bool
+    requires { header_len ≡ segment_header_len (segment_of repr.now) }
     ensures { IsTrue result ↔ IsCounted ip.now (segment_of repr.now) }
 {
-    repr.header_len() <= LONGEST_HEADER
-        && ip.payload_len() == repr.buffer_len()
+    header_len <= LONGEST_HEADER
+        && ip.payload_len() == header_len + repr.payload.len()
         && ip.next_header() == IpProtocol::Tcp
 }
 
@@ -118,11 +119,14 @@ impl<'w> Wire<'w> {
             (sheet_of self.new) }
         ensures kept { KeepsWire self.old self.new }
     {
-        if !is_counted(ip, repr) || self.out.len() < ip.header_len() + ip.payload_len() {
+        let header_len = repr.header_len();
+        if !is_counted(ip, repr, header_len)
+            || self.out.len() < ip.header_len() + ip.payload_len()
+        {
             return Err(TooShort);
         }
         let caps = self.environment.checksums;
-        self.len = put_segment(ip, repr, self.out, &caps);
+        self.len = put_segment_with(ip, repr, header_len, self.out, &caps);
         Ok(())
     }
 }
