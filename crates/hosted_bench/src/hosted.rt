@@ -154,7 +154,8 @@ impl<'a> Host<SocketSet<'a, Clock>> {
 }
 
 impl Host<SocketSet<'_, Clock>> {
-    // A socket that was closed listens, or is idle. The application of one that may have changed reads and writes.
+    // A socket that was closed listens, or is idle. The application of one that may have changed reads and writes, until
+    // it has closed.
     #[inline(always)]
     fn serve(
         &mut self,
@@ -169,25 +170,39 @@ impl Host<SocketSet<'_, Clock>> {
                 break;
             };
             from = place.saturating_add(1);
-            let (Some(talk), Some(handle)) = (self.talks.get_mut(place), self.handles.get(place))
-            else {
-                continue;
-            };
-            let mut closed = false;
-            if let Some(socket) = self.sockets.tcp_mut(*handle) {
-                // a socket in TIME-WAIT may have been taken for another connection
-                if talk.role == Role::Server && socket.state() == State::SynReceived {
-                    talk.begin(0, 0);
+            match self.state(place) {
+                Some(State::Closed) => self.begin_anew(place, digest)?,
+                Some(state) if !is_closing(state) => {
+                    self.serve_at(place, scratch, source, random, digest);
                 }
-                // it is asked again only once its socket took a segment, so it writes all that it has to say
-                talk.serve_whole(socket, scratch, source, random, digest);
-                closed = socket.state() == State::Closed;
-            }
-            if closed {
-                self.begin_anew(place, digest)?;
+                _ => {}
             }
         }
         Ok(())
+    }
+
+    // Lets the application of the socket at this place read and write.
+    #[inline(always)]
+    fn serve_at(
+        &mut self,
+        place: usize,
+        scratch: &mut [u8],
+        source: &[u8],
+        random: &mut Random,
+        digest: &mut Digest,
+    ) {
+        let (Some(talk), Some(handle)) = (self.talks.get_mut(place), self.handles.get(place)) else {
+            return;
+        };
+        let Some(socket) = self.sockets.tcp_mut(*handle) else {
+            return;
+        };
+        // a socket in TIME-WAIT may have been taken for another connection
+        if talk.role == Role::Server && socket.state() == State::SynReceived {
+            talk.begin(0, 0);
+        }
+        // it is asked again only once its socket took a segment, so it writes all that it has to say
+        talk.serve_whole(socket, scratch, source, random, digest);
     }
 
     fn look_at_each(&mut self, digest: &mut Digest) -> Result<(), AllocError> {
@@ -290,6 +305,14 @@ impl Host<SocketSet<'_, Clock>> {
             }
         }
     }
+}
+
+// Whether the application has closed, so that it has read and written all.
+fn is_closing(state: State) -> bool {
+    matches!(
+        state,
+        State::FinWait1 | State::FinWait2 | State::Closing | State::LastAck | State::TimeWait
+    )
 }
 
 // The way of packets.
