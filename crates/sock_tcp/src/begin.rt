@@ -133,6 +133,7 @@ impl<'a> ControlBlock<'a> {
     }
 
     // What the moments that have passed change.
+    #[inline(always)]
     #[tactic(auto, unfolding(crate::specs::Begin::after_timers))]
     fn heed_timers(&mut self, now: Instant)
         requires { IsMoment now.micros }

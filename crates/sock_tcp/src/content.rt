@@ -324,9 +324,8 @@ impl<'a> ControlBlock<'a> {
         }
     }
 
-    // Makes it the header of a packet with a payload of so many bytes. Not inlined: each version writes its own fields
-    // then, where inlined code merges the two and copies what differs.
-    #[inline(never)]
+    // Makes it the header of a packet with a payload of so many bytes.
+    #[inline(always)]
     fn fill_header(&self, tuple: &Tuple, payload_len: usize, header: &mut IpRepr)
         requires { SameVersion tuple.now.local.addr tuple.now.remote.addr }
         ensures { header.new ≡ ip_header tuple.now.local.addr tuple.now.remote.addr IpProtocol.Tcp payload_len

@@ -142,6 +142,7 @@ impl<'a> ControlBlock<'a> {
     }
 
     // The bytes that the window takes, the first of them so far past RCV.NXT; an ACK tells of a gap.
+    #[inline(always)]
     #[tactic(auto, unfolding(crate::specs::Inside::bytes_taken))]
     fn take_bytes(&mut self, now: Instant, offset: usize, bytes: &[u8]) -> Answer
         requires moment { IsMoment now.micros }
@@ -192,6 +193,7 @@ impl<'a> ControlBlock<'a> {
     }
 
     // The window test, and the cut.
+    #[inline(always)]
     fn process_passed<C: Context>(
         &mut self,
         cx: &mut C,
@@ -306,7 +308,7 @@ impl<'a> ControlBlock<'a> {
         }
     }
 
-    #[inline(never)]
+    #[inline(always)]
     #[tactic(auto, unfolding(crate::specs::Process::processed_by))]
     pub(crate) fn process<C: Context>(
         &mut self,

@@ -20,6 +20,7 @@ pub enum Verdict {
 
 impl<'a> ControlBlock<'a> {
     // The first row that fits.
+    #[inline(always)]
     #[tactic(auto, unfolding(crate::specs::Verdict::verdict_at))]
     pub(crate) fn verdict(&self, control: TcpControl, ack: Option<TcpSeqNumber>) -> Verdict
         ensures { result ≡ verdict_of self.now control ack }
