@@ -47,22 +47,22 @@ IsGreatestOf m bs start end = (n : ℤ) → n ≤ℤ latest → IsBelow n bs sta
 abbrev pub first_top : ℕ → ℤ
 first_top count = if nat_eq count 0 then latest else at_once
 
--- ---- levels: 32 bounds of one have one of the next, which none of them is less than
+-- ---- levels: 16 bounds of one have one of the next, which none of them is less than
 
 abbrev pub Reaches : List ℤ → List ℤ → Type 0
-Reaches low high = (k : ℕ) → k < length low → k / 32 < length high
+Reaches low high = (k : ℕ) → k < length low → k / 16 < length high
 
 abbrev pub Covers : List ℤ → List ℤ → Type 0
-Covers low high = (k : ℕ) → k < length low → bound_at high (k / 32) ≤ℤ bound_at low k
+Covers low high = (k : ℕ) → k < length low → bound_at high (k / 16) ≤ℤ bound_at low k
 
 -- but for this place
 abbrev pub CoversBut : ℕ → List ℤ → List ℤ → Type 0
 CoversBut place low high =
-    (k : ℕ) → k < length low → nat_eq k place ≡ false → bound_at high (k / 32) ≤ℤ bound_at low k
+    (k : ℕ) → k < length low → nat_eq k place ≡ false → bound_at high (k / 16) ≤ℤ bound_at low k
 
 -- a moment is below the places that have this one above them
 abbrev pub IsBelowIn : ℤ → List ℤ → ℕ → Type 0
-IsBelowIn n low j = (k : ℕ) → k < length low → k / 32 ≡ j → n ≤ℤ bound_at low k
+IsBelowIn n low j = (k : ℕ) → k < length low → k / 16 ≡ j → n ≤ℤ bound_at low k
 
 -- none that is later than the one above them is
 abbrev pub Nears : List ℤ → List ℤ → Type 0
@@ -71,7 +71,7 @@ Nears low high = (j : ℕ) → j < length high → (n : ℤ) → n ≤ℤ latest
 -- where this place had this bound
 abbrev pub IsBelowInBut : ℕ → ℤ → ℤ → List ℤ → ℕ → Type 0
 IsBelowInBut place was n low j =
-    (k : ℕ) → k < length low → k / 32 ≡ j → n ≤ℤ (if nat_eq k place then was else bound_at low k)
+    (k : ℕ) → k < length low → k / 16 ≡ j → n ≤ℤ (if nat_eq k place then was else bound_at low k)
 
 abbrev pub NearsBut : ℕ → ℤ → List ℤ → List ℤ → Type 0
 NearsBut place was low high =

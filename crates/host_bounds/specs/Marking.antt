@@ -1,6 +1,6 @@
 -- Marks of places, as bits in words of 64.
-use Rattle.std.specs.Prelude.{ℕ, ℤ, ◌≡◌, ◌/◌, ◌%◌, ◌<◌, ◌≤ℤ◌, nat_eq, suc, Bool, true, false, List, [], ◌∷◌, length, get_or}
-use Rattle.std.specs.Prelude.{if◌then◌else◌}
+use Rattle.std.specs.Prelude.{ℕ, ℤ, ◌≡◌, ◌/◌, ◌%◌, ◌<◌, ◌≤ℤ◌, nat_eq, suc, Bool, true, false, List, [], ◌∷◌, length}
+use Rattle.std.specs.Prelude.{get_or, if◌then◌else◌}
 use Rattle.std.specs.Int.{bit_at}
 use Rattle.std.specs.List.{All}
 use Rattle.host_bounds.specs.Bounding.{at_once, bound_at}

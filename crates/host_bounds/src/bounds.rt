@@ -32,7 +32,7 @@ impl Model for Bounds {
 }
 
 impl Bounds {
-    /// Bounds of so many places, each of which is to be asked at once. They take 8.4 bytes a place.
+    /// Bounds of so many places, each of which is to be asked at once. They take 8.7 bytes a place.
     pub fn new(alloc: Global, count: usize) -> Result<Bounds, AllocError>
         ensures len { IfOk result (λ b. length b ≡ count) }
         ensures least { IfOk result (λ b. All (λ m. m ≡ at_once) b) }
@@ -70,7 +70,7 @@ impl Bounds {
     pub fn put_at_once(&mut self, place: usize)
         ensures { self.new ≡ slice_set self.old place at_once }
     {
-        if place < self.len() {
+        if place < self.len() && self.get(place) != i64::MIN {
             self.mark(place);
         }
     }

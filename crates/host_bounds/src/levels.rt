@@ -1,4 +1,4 @@
-//! Bounds of 32 places each, above those of the places.
+//! Bounds of 16 places each, above those of the places.
 ghost use Rattle.std.specs.Prelude.{ℤ, ◌≡◌, ◌≤◌, ◌≤ℤ◌, ◌<◌, ◌/◌, IfOk, length};
 ghost use Rattle.std.specs.List.{All};
 ghost use Rattle.host_bounds.specs.Bounding.{Covers, CoversBut, FindsReached, IsBelow, IsBelowIn, IsGreatestOf};
@@ -8,7 +8,7 @@ ghost use Rattle.host_bounds.specs.Bounding.{Nears, NearsBut, Reaches, at_once, 
 use std::alloc::{AllocError, Global};
 
 /// How many places have one bound above them.
-pub const FAN_OUT: usize = 32;
+pub const FAN_OUT: usize = 16;
 
 /// So many bounds, all the least.
 pub(crate) fn least_bounds(alloc: Global, count: usize) -> Result<Vec<i64>, AllocError>
@@ -52,11 +52,11 @@ pub(crate) fn first_between(bounds: &[i64], start: usize, end: usize, now: i64) 
     None
 }
 
-// The least bound of the 32 places that this one is among.
+// The least bound of the 16 places that this one is among.
 fn least_beside(bounds: &[i64], place: usize) -> i64
     requires { place < length bounds.now }
-    ensures below { IsBelowIn result bounds.now (place / 32) }
-    ensures greatest { (n : ℤ) → n ≤ℤ latest → IsBelowIn n bounds.now (place / 32) → n ≤ℤ result }
+    ensures below { IsBelowIn result bounds.now (place / 16) }
+    ensures greatest { (n : ℤ) → n ≤ℤ latest → IsBelowIn n bounds.now (place / 16) → n ≤ℤ result }
 {
     let start = place - place % FAN_OUT;
     let end = bounds.len().min(start + FAN_OUT);
@@ -68,12 +68,12 @@ pub(crate) fn mend(low: &[i64], high: &mut Vec<i64>, place: usize, was: i64) -> 
     requires within { place < length low.now }
     requires reaches { Reaches low.now high.old.items }
     requires others { CoversBut place low.now high.old.items }
-    requires was { bound_at high.old.items (place / 32) ≤ℤ was }
+    requires was { bound_at high.old.items (place / 16) ≤ℤ was }
     requires near { NearsBut place was low.now high.old.items }
-    ensures result { result ≡ bound_at high.old.items (place / 32) }
+    ensures result { result ≡ bound_at high.old.items (place / 16) }
     ensures covers { Covers low.now high.new.items }
     ensures near { Nears low.now high.new.items }
-    ensures kept { KeepsBut (place / 32) high.old.items high.new.items }
+    ensures kept { KeepsBut (place / 16) high.old.items high.new.items }
 {
     let above = place / FAN_OUT;
     let old = high[above];

@@ -12,9 +12,9 @@ use std::marker::Model;
 #[derive(Drop)]
 pub(crate) struct Times {
     places: Vec<i64>,
-    // of each 32 places, none of which has a lower one
+    // of each 16 places, none of which has a lower one
     blocks: Vec<i64>,
-    // of each 32 blocks
+    // of each 16 blocks
     groups: Vec<i64>,
     // of all groups
     top: i64,
@@ -32,7 +32,7 @@ impl Model for Times {
 }
 
 impl Times {
-    /// Times of so many places, each of which is to be asked at once. They take 8.3 bytes a place.
+    /// Times of so many places, each of which is to be asked at once. They take 8.5 bytes a place.
     pub(crate) fn new(alloc: Global, count: usize) -> Result<Times, AllocError>
         ensures len { IfOk result (λ b. length b ≡ count) }
         ensures least { IfOk result (λ b. All (λ m. m ≡ at_once) b) }
@@ -69,8 +69,10 @@ impl Times {
         let was = self.places[place];
         self.places[place] = bound;
         let was = mend(&self.places, &mut self.blocks, place, was);
-        mend(&self.blocks, &mut self.groups, place / FAN_OUT, was);
-        self.top = least_between(&self.groups, 0, self.groups.len());
+        let was = mend(&self.blocks, &mut self.groups, place / FAN_OUT, was);
+        if self.groups[place / FAN_OUT / FAN_OUT] != was {
+            self.top = least_between(&self.groups, 0, self.groups.len());
+        }
     }
 
     /// The bound of a place; the least where it is not there.
@@ -143,8 +145,8 @@ fn first_top(count: usize) -> i64
 fn next_block(places: &[i64], blocks: &[i64], place: usize, stop: usize, now: i64) -> usize
     requires covers { Covers places.now blocks.now }
     requires within { stop ≤ length blocks.now }
-    requires there { place / 32 < stop }
-    requires after { now <ℤ bound_at blocks.now (place / 32) }
+    requires there { place / 16 < stop }
+    requires after { now <ℤ bound_at blocks.now (place / 16) }
     ensures behind { place ≤ result }
     ensures before { (k : ℕ) → place ≤ k → k < result → k < length places.now → now <ℤ bound_at places.now k }
 {
