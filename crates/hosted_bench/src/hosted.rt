@@ -1,4 +1,5 @@
-//! The conversations of `sock_bench`, on the hosts of `net_host`: only the sockets that may have changed are looked at.
+//! The conversations of `sock_bench`, on the hosts of `net_host`: only the sockets that may have changed are looked
+//! at.
 ghost use Rattle.std.specs.Prelude.{◌≤◌, length};
 
 use bench_parts::clock::Clock;
@@ -154,8 +155,8 @@ impl<'a> Host<SocketSet<'a, Clock>> {
 }
 
 impl Host<SocketSet<'_, Clock>> {
-    // A socket that was closed listens, or is idle. The application of one that may have changed reads and writes, until
-    // it has closed.
+    // A socket that was closed listens, or is idle. The application of one that may have changed reads and writes, from
+    // when it is open until it has closed.
     #[inline(always)]
     fn serve(
         &mut self,
@@ -172,13 +173,23 @@ impl Host<SocketSet<'_, Clock>> {
             from = place.saturating_add(1);
             match self.state(place) {
                 Some(State::Closed) => self.begin_anew(place, digest)?,
-                Some(state) if !is_closing(state) => {
+                Some(State::SynReceived) => self.await_request(place),
+                Some(State::Established | State::CloseWait) => {
                     self.serve_at(place, scratch, source, random, digest);
                 }
                 _ => {}
             }
         }
         Ok(())
+    }
+
+    // A connection was opened here: a socket in TIME-WAIT may have been taken for another one.
+    fn await_request(&mut self, place: usize) {
+        if let Some(talk) = self.talks.get_mut(place)
+            && talk.role == Role::Server
+        {
+            talk.begin(0, 0);
+        }
     }
 
     // Lets the application of the socket at this place read and write.
@@ -197,10 +208,6 @@ impl Host<SocketSet<'_, Clock>> {
         let Some(socket) = self.sockets.tcp_mut(*handle) else {
             return;
         };
-        // a socket in TIME-WAIT may have been taken for another connection
-        if talk.role == Role::Server && socket.state() == State::SynReceived {
-            talk.begin(0, 0);
-        }
         // it is asked again only once its socket took a segment, so it writes all that it has to say
         talk.serve_whole(socket, scratch, source, random, digest);
     }
@@ -305,14 +312,6 @@ impl Host<SocketSet<'_, Clock>> {
             }
         }
     }
-}
-
-// Whether the application has closed, so that it has read and written all.
-fn is_closing(state: State) -> bool {
-    matches!(
-        state,
-        State::FinWait1 | State::FinWait2 | State::Closing | State::LastAck | State::TimeWait
-    )
 }
 
 // The way of packets.
