@@ -16,8 +16,8 @@ use std::marker::Model;
 // Among how many numbers one is looked for that goes.
 const WINDOW: usize = 32;
 
-// So far before the place of the order where the last one went: first keys go as their connections came, and second ones
-// both where a connection opens and where it rests.
+// So far before the place of the order where the last one went: first keys go as their connections came, and second
+// ones both where a connection opens and where it rests.
 const BEFORE_FIRST: usize = 3;
 
 const BEFORE_SECOND: usize = 16;

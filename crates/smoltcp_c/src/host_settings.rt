@@ -17,7 +17,8 @@ use net_host::SynCookies;
 pub extern "C" fn smoltcp_host_set_mtu_nonnull(h: &mut HostHandle, mtu: usize) -> i64
     ensures answer { result ≡ pos 0 }
     ensures mtu { (interface h.new).inner.environment.mtu ≡ max 68 (min mtu 65535) }
-    ensures environment { ((interface h.new).inner.environment.addresses ≡ (interface h.old).inner.environment.addresses)
+    ensures environment { ((interface h.new).inner.environment.addresses
+        ≡ (interface h.old).inner.environment.addresses)
         × ((interface h.new).inner.environment.now ≡ (interface h.old).inner.environment.now)
         × ((interface h.new).inner.environment.checksums ≡ (interface h.old).inner.environment.checksums)
         × ((interface h.new).inner.words ≡ (interface h.old).inner.words) }
