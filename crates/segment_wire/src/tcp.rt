@@ -8,9 +8,9 @@ ghost use Rattle.ip_wire.specs.declared.address.IpAddress.{IpAddress};
 ghost use Rattle.control_wire.specs.Segment.{options_len, segment_header_len, segment_of};
 ghost use Rattle.control_wire.specs.Source.{sum_holds, tcp_header_len};
 ghost use Rattle.segment_wire.specs.Options.{no_options, options_octets, options_read};
-ghost use Rattle.segment_wire.specs.Tcp.{ack_bit, ack_field, ack_of, control_bits, control_of, is_head, options_of};
-ghost use Rattle.segment_wire.specs.Tcp.{filled, read_as, segment_at, segment_if, tcp_checksum, tcp_header, tcp_octets, tcp_parsed};
-ghost use Rattle.segment_wire.specs.Tcp.{tcp_with};
+ghost use Rattle.segment_wire.specs.Tcp.{ack_bit, ack_field, ack_of, control_bits, control_of};
+ghost use Rattle.segment_wire.specs.Tcp.{filled, is_head, options_of, read_as, segment_at, segment_if};
+ghost use Rattle.segment_wire.specs.Tcp.{tcp_checksum, tcp_header, tcp_octets, tcp_parsed, tcp_with};
 
 use crate::options::{TcpOptions, be32_at, read_options};
 use crate::pseudo::pseudo_sum_of;

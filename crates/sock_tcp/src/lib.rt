@@ -61,6 +61,7 @@ pub use ended::Ended;
 pub use error::{ConnectError, ListenError, RecvError, SendError};
 pub use generator::{Generator, TsvalSource};
 pub use negotiated::Negotiated;
+pub use process::Answer;
 pub use reply::Reply;
 pub use rules::{Rules, RulesError};
 pub use settings::CongestionControl;

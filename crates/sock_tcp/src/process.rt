@@ -30,7 +30,7 @@ use net_base::time::Instant;
 use sock_core::Context;
 
 /// How a segment is answered.
-#[derive(Clone, Copy)]
+#[derive(Debug, Clone, Copy, PartialEq, Eq)]
 pub enum Answer {
     /// Not at all.
     Nothing,

@@ -177,11 +177,14 @@ impl<'a, G: TsvalSource> Socket<'a, G> {
         with_header(ip_repr, reply)
     }
 
-    // The reply to a segment that is answered so. Not inlined: most segments have no reply, and the space for one is
-    // cleared where it is made.
+    /// The second half of [`Socket::process`]: the segment that answers one which [`Socket::take_segment`] took and said
+    /// to be answered so, if any; it has no payload. An acknowledgement becomes the last sent.
+    ///
+    /// The answer can be written as a packet.
+    // Not inlined: most segments have no reply, and the space for one is cleared where it is made.
     #[inline(never)]
     #[tactic(auto, using(crate::proofs::FittingReplies::rst_sent))]
-    pub(crate) fn reply_by(
+    pub fn reply_by(
         &mut self,
         answer: Answer,
         ip_repr: &IpRepr,

@@ -368,10 +368,13 @@ fn note_end(place: &mut Option<Ended>, ended: Option<Ended>)
 }
 
 impl<'a, G: TsvalSource> Socket<'a, G> {
-    // What a segment changes, and how it is answered.
+    /// The first half of [`Socket::process`], for a caller that wants no room for a reply where there is none, as mostly:
+    /// takes a segment that `accepts` holds of, with a payload of at most 65535 bytes, and tells how it is answered.
+    ///
+    /// Unless that is by nothing, the next call is [`Socket::reply_by`], which gives the answer.
     #[inline(always)]
     #[tactic(auto, using(crate::proofs::Stamping::still_stamped))]
-    fn take_segment<C: Context>(
+    pub fn take_segment<C: Context>(
         &mut self,
         cx: &mut C,
         ip_repr: &IpRepr,
