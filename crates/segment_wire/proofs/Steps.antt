@@ -4,7 +4,8 @@ use Rattle.std.specs.Prelude.{Option, Some, None, nat_le, ◌==◌}
 use Rattle.std.proofs.lemmas.Bool.Decides.{nat_tests}
 use Rattle.std.proofs.lemmas.List.{drop-drop, drop_more, length-drop}
 use Rattle.control_wire.specs.Source.{is_option}
-use Rattle.segment_wire.specs.Options.{option_size, options_read, with_option}
+use Rattle.segment_wire.specs.Options.{no_options, option_size, options_read, with_option}
+use Rattle.segment_wire.specs.Tcp.{segment_at, segment_if}
 use Rattle.segment_wire.specs.declared.options.TcpOptions.{TcpOptions}
 
 skipped : (n : ℕ) (o : TcpOptions) (xs : List ℕ) → n ≤ length xs → options_read n o xs ≡ options_read 0 o (drop n xs)
@@ -115,3 +116,8 @@ ended_at xs i o h z = ap (options_read 0 o) (two_at xs i h) ∙ zero_case (get_o
   where
     zero_case : (kind len : ℕ) (rest : List ℕ) (o : TcpOptions) → kind ≡ 0 → options_read 0 o (kind ∷ len ∷ rest) ≡ Some o
     zero_case kind len rest o e = rw e refl
+
+-- no options
+pub bare_read : (octets xs : List ℕ) → length xs ≡ 0 → Some (segment_at octets no_options) ≡ segment_if octets (options_read 0 no_options xs)
+bare_read octets [] h = refl
+bare_read octets (x ∷ xs) h = absurd (omega arith)

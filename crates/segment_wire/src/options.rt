@@ -34,7 +34,7 @@ pub struct TcpOptions {
 pub fn read_options(options: &[u8]) -> Option<TcpOptions>
     ensures { result ≡ options_read 0 no_options options.now }
 {
-    let mut found = none();
+    let mut found = no_options();
     let mut at = 0;
     while at + 1 < options.len() {
         if options[at] == 0 {
@@ -57,7 +57,8 @@ pub fn read_options(options: &[u8]) -> Option<TcpOptions>
     }
 }
 
-fn none() -> TcpOptions
+/// None of them.
+pub(crate) fn no_options() -> TcpOptions
     ensures { result ≡ no_options }
 {
     TcpOptions {

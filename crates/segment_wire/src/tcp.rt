@@ -12,7 +12,7 @@ ghost use Rattle.segment_wire.specs.Tcp.{ack_bit, ack_field, ack_of, control_bit
 ghost use Rattle.segment_wire.specs.Tcp.{filled, is_head, options_of, read_as, segment_at, segment_if};
 ghost use Rattle.segment_wire.specs.Tcp.{tcp_checksum, tcp_header, tcp_octets, tcp_parsed, tcp_with};
 
-use crate::options::{TcpOptions, be32_at, read_options};
+use crate::options::{TcpOptions, be32_at, no_options, read_options};
 use crate::pseudo::pseudo_sum_of;
 use crate::write::{fill_checksum, header_sum, write_front};
 use control_wire::source::{at_most_one, sum_holds};
@@ -143,15 +143,21 @@ fn sum_holds_behind(ip: &IpRepr, bytes: &[u8]) -> bool
     sum_after(pseudo_sum_of(ip, bytes.len()), bytes) == 0xffff
 }
 
-// The segment that the bytes spell, where its options are whole.
+// The segment that the bytes spell, where its options are whole. With no options, as mostly, nothing is written that is
+// read again from where it stands.
 #[inline(always)]
+#[tactic(auto, using(crate::proofs::Steps::bare_read))]
 fn read<'a>(bytes: &'a [u8]) -> Result<TcpRepr<'a>, Error>
     requires least { 20 ≤ tcp_header_len bytes.now }
     requires fits { tcp_header_len bytes.now ≤ length bytes.now }
     ensures { read_as segment_of result
         ≡ segment_if bytes.now (options_read 0 no_options (options_of bytes.now)) }
 {
-    match read_options(options_of(bytes)) {
+    let octets = options_of(bytes);
+    if octets.is_empty() {
+        return Ok(segment_at(bytes, &no_options()));
+    }
+    match read_options(octets) {
         Some(options) => Ok(segment_at(bytes, &options)),
         None => Err(Error),
     }
@@ -230,6 +236,7 @@ fn options_of(bytes: &[u8]) -> &[u8]
     &bytes[20..header]
 }
 
+#[inline(always)]
 fn segment_at<'a>(bytes: &'a [u8], options: &TcpOptions) -> TcpRepr<'a>
     requires least { 20 ≤ tcp_header_len bytes.now }
     requires fits { tcp_header_len bytes.now ≤ length bytes.now }
