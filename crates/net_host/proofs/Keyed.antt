@@ -1,5 +1,5 @@
 -- A socket that takes a segment is filed under the key of the segment.
-use Rattle.std.proofs.Common.{◌≡◌, ℕ, ◌+◌, ◌*◌, List, true, false, Option, Some, None, sym, subst}
+use Rattle.std.proofs.Common.{◌≡◌, ◌∙◌, ℕ, ◌+◌, ◌*◌, List, true, false, Option, Some, None, sym, subst}
 use Rattle.std.specs.Prelude.{IfSome, slice_get}
 use Rattle.std.proofs.lemmas.Bool.{and_parts}
 use Rattle.ip_wire.specs.declared.endpoint.IpListenEndpoint.{IpListenEndpoint}
@@ -19,13 +19,14 @@ use Rattle.host_index.specs.declared.entry.Entry.{Entry}
 use Rattle.net_host.specs.declared.key.Key.TheVariants as key
 use Rattle.net_host.specs.declared.slot.Slot.{Slot}
 use Rattle.net_host.specs.Datagrams as datagrams
+use Rattle.host_index.specs.Entries as entries
 use Rattle.host_index.specs.Entries.{entry_at, has}
-use Rattle.net_host.specs.Entries.{FindsListed, IsFirstListed}
+use Rattle.net_host.specs.Entries.{FindsListed}
 use Rattle.net_host.specs.Filing.{connection_by, connection_key, first_by, listener_by, keys_in, keys_of, listener_key, number_of, udp_key}
-use Rattle.net_host.specs.Indexing.{are_filed, is_filed, is_under}
+use Rattle.net_host.specs.Indexing.{AreFiledBefore, are_filed, is_filed, is_under}
 use Rattle.net_host.specs.Finding.{key_of_segment}
-use Rattle.net_host.specs.Segments.{TakesIn}
-use Rattle.net_host.specs.Walks.{Finds, IsFirst}
+use Rattle.net_host.specs.Segments.{TakesIn, TakesSegment}
+use Rattle.net_host.specs.Walks.{Finds, IsAt, IsFirst}
 
 no_truth : false ≡ true → ⊥
 no_truth e = cc
@@ -104,9 +105,17 @@ module _ {G : Type 0} (P : Slot G → Type 0) (ss : List (Slot G)) (es : List En
     before = λ k less. none_at k (slice_get ss k) (filed k) (h.before k less);
   }
 
-  pub found_known : (r : Option ℕ) → IfSome r (λ i. IsFirstListed P ss es key i) → IfSome r (λ i. IsFirst P ss i)
-  found_known None h = tt
-  found_known (Some i) h = found (Some i) h
+-- the first place under the key, where each before it is filed
+pub known_connection : {G : Type 0} (ss : List (Slot G)) (es : List Entry) (ip : IpRepr) (s : Segment) (i : ℕ) → AreFiledBefore (λ x. keys_of x) i ss es → entries.IsFirst es (key_of_segment ip s) i → IsAt (TakesSegment false ip s) ss i → IsFirst (TakesSegment false ip s) ss i
+known_connection {G = G} ss es ip s i filed first at = record {
+  within = at.within;
+  holds = at.holds;
+  before = λ k less. none (slice_get ss k) k (filed k less) (first.before k less);
+}
+  where
+    none : (o : Option (Slot G)) (k : ℕ) → is_filed (λ x. keys_of x) es k o ≡ true → has es (entry_at (key_of_segment ip s) k) ≡ false → IfSome o (λ x. TakesSegment false ip s x → ⊥)
+    none None k f h = tt
+    none (Some x) k f h = λ p. no_truth (sym h ∙ connection_in es k ip s x.socket f p)
 
 -- ---- a UDP socket
 

@@ -31,3 +31,4 @@ pub mod Believed
 pub mod Lawful
 pub mod Polled
 pub mod Touching
+pub mod KnownAnswers

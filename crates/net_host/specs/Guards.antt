@@ -1,5 +1,5 @@
 -- The limits that a host sets its TCP connections.
-use Rattle.std.specs.Prelude.{ℕ, min, ◌==◌, ◌&&◌, nat_lt, Bool, true, false, length, Option, Some, None, if◌then◌else◌}
+use Rattle.std.specs.Prelude.{ℕ, min, ◌/◌, ◌%◌, ◌==◌, ◌&&◌, nat_lt, Bool, true, false, length, Option, Some, None, if◌then◌else◌}
 use Rattle.net_base.specs.declared.time.Duration.{Duration}
 use Rattle.net_base.specs.declared.time.Instant.{Instant}
 use Rattle.control_wire.specs.Seq.{seq_eq}
@@ -33,6 +33,10 @@ usual = record {
 
 abbrev pub no_limits : GuardSettings
 no_limits = record { handshake = None; closing = None; window = None; timeout = None }
+
+-- whether there is the one of this place, as they are stored: one number of digits
+abbrev pub is_given : ℕ → ℕ → Bool
+is_given given place = given / place % 2 == 1
 
 -- as it is stored: whether there is one, and its microseconds
 abbrev pub limit_from : Bool → ℕ → Option Duration

@@ -1,5 +1,5 @@
 -- Places that are filed in an index under their keys.
-use Rattle.std.specs.Prelude.{ℕ, ◌≡◌, ◌/◌, ◌&&◌, ◌||◌, not, nat_eq, nat_lt, Bool, true, false, List, length, Option}
+use Rattle.std.specs.Prelude.{ℕ, ◌≡◌, ◌<◌, ◌/◌, ◌&&◌, ◌||◌, not, nat_eq, nat_lt, Bool, true, false, List, length, Option}
 use Rattle.std.specs.Prelude.{Some, None, slice_get, if◌then◌else◌}
 use Rattle.host_bounds.specs.Marking.{bit_of}
 use Rattle.host_index.specs.Entries.{entry_at, has}
@@ -29,6 +29,10 @@ is_filed keys_of es k (Some s) = are_filed es k (keys_of s)
 -- each place is filed under its keys
 abbrev pub AreFiled : {X : Type 0} → (X → Keys) → List X → List Entry → Type 0
 AreFiled keys_of ss es = (k : ℕ) → is_filed keys_of es k (slice_get ss k) ≡ true
+
+-- each before the place i
+abbrev pub AreFiledBefore : {X : Type 0} → (X → Keys) → ℕ → List X → List Entry → Type 0
+AreFiledBefore keys_of i ss es = (k : ℕ) → k < i → is_filed keys_of es k (slice_get ss k) ≡ true
 
 -- ---- filing
 

@@ -37,3 +37,4 @@ pub mod Unsent
 pub mod Walks
 pub mod Watching
 pub mod Wire
+pub mod Answered

@@ -12,11 +12,12 @@ ghost use Rattle.net_host.specs.Resting.{Rests, anew, is_opening};
 ghost use Rattle.net_host.specs.Segments.{IsTaker, TakesSegment, as_is};
 ghost use Rattle.net_host.specs.Touching.{Touches};
 
+use crate::answered::hear_out_there;
 use crate::cookies::{Course, Told, answer_of, course_of, room_at, syn_before};
 use crate::filing::connection_key;
 use crate::limit::Limit;
 use crate::replies::put_reply;
-use crate::segments::{Taker, hear_anew_at, hear_at, known_taker, take_segment, who_takes};
+use crate::segments::{Taker, hear_anew_at, hear_at, take_segment, who_takes};
 use crate::set::SocketSet;
 use crate::slot::Slot;
 use crate::unsent::pass_at;
@@ -305,48 +306,11 @@ fn heard_by<C: Context, G: TsvalSource>(
     }
 }
 
-/// A segment arrives: who took it, and the length of the packet that answers it, at the beginning of `out`, or 0.
+/// The connection at this place, which takes the segment, hears it: the length of the packet that answers it, at the
+/// beginning of `out`, or 0.
 #[inline(always)]
-#[tactic(auto, using(crate::proofs::CookieAnswers::connection_is_plain))]
-pub(crate) fn hear_segment<C: Context, G: TsvalSource>(
-    sockets: &mut SocketSet<'_, G>,
-    cx: &mut C,
-    limit: &mut Limit,
-    cookies: &Option<SynCookies>,
-    ip: &IpRepr,
-    repr: &TcpRepr<'_>,
-    out: &mut [u8],
-) -> (Heard, usize)
-    requires small { length repr.now.payload.now ≤ 65535 }
-    requires room { 100 ≤ length out.old }
-    ensures within { result.1 ≤ length out.old }
-    ensures course { result.0.course ≡ course_of cookies.now result.0.taker (C.facts cx.old).now ip.now
-        (segment_of repr.now) }
-    ensures taker { IsTaker sockets.old.slots.items ip.now (segment_of repr.now) result.0.taker }
-    ensures again { IsAgain result.0.course sockets.old.slots.items ip.now (segment_of repr.now) result.0.again }
-    ensures heard { AnswersSegment C.facts C.word_at G.tells result.0.course result.0.taker result.0.again
-        sockets.old.slots.items cx.old limit.old ip.now (segment_of repr.now) out.old result.1 sockets.new.slots.items
-        cx.new limit.new out.new }
-    ensures touched { Touches sockets.old.bounds sockets.old.slots.items sockets.new.bounds
-        sockets.new.slots.items }
-{
-    sockets.settle();
-    match known_taker(sockets, cx, ip, repr) {
-        Some(i) => {
-            let heard = Heard {
-                course: Course::Plain,
-                taker: Taker::Connection(i),
-                again: Taker::Nobody,
-            };
-            (heard, hear_known(sockets, i, cx, ip, repr, out))
-        }
-        None => hear_sought(sockets, cx, limit, cookies, ip, repr, out),
-    }
-}
-
-// The connection at this place hears the segment: the length of the packet that answers it.
-#[inline(always)]
-fn hear_known<C: Context, G: TsvalSource>(
+#[tactic(auto, using(crate::proofs::KnownAnswers::known_answers))]
+pub(crate) fn hear_known<C: Context, G: TsvalSource>(
     sockets: &mut SocketSet<'_, G>,
     i: usize,
     cx: &mut C,
@@ -364,16 +328,13 @@ fn hear_known<C: Context, G: TsvalSource>(
     ensures touched { Touches sockets.old.bounds sockets.old.slots.items sockets.new.bounds
         sockets.new.slots.items }
 {
-    let caps = cx.checksum_caps();
-    let mut reply = None;
-    hear_at(sockets, i, cx, false, ip, repr, &mut reply);
-    put_reply(&reply, out, &caps)
+    sockets.lend(i);
+    hear_out_there(&mut sockets.slots, i, cx, ip, repr, out)
 }
 
-// The same, where who takes it is looked for.
-// Not inlined, so that what a segment for a connection runs through stays short.
-#[inline(never)]
-fn hear_sought<C: Context, G: TsvalSource>(
+/// A segment arrives, and who takes it is looked for: who took it, and the length of the packet that answers it, at the
+/// beginning of `out`, or 0.
+pub(crate) fn hear_sought<C: Context, G: TsvalSource>(
     sockets: &mut SocketSet<'_, G>,
     cx: &mut C,
     limit: &mut Limit,

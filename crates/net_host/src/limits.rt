@@ -1,15 +1,15 @@
 //! The limits that a host sets its TCP connections, as numbers.
-ghost use Rattle.std.specs.Prelude.{◌≡◌, true};
+ghost use Rattle.std.specs.Prelude.{◌≡◌, ◌<◌, if◌then◌else◌, true};
 ghost use Rattle.control_wire.specs.declared.seq_number.TcpSeqNumber.{TcpSeqNumber};
-ghost use Rattle.net_host.specs.Guards.{lawful_limit, limit_from, limit_of};
+ghost use Rattle.net_host.specs.Guards.{is_given, lawful_limit, limit_from, limit_of};
 ghost use Rattle.net_host.specs.Remembered.{phase_from};
 
 use crate::guard::{GuardSettings, Kind};
 use net_base::time::Duration;
 use std::marker::Model;
 
-/// The limits of `GuardSettings`. Each `emit` compares them with those that its set was asked under last: eight numbers
-/// side by side, which takes a third of what four `Option`s do.
+/// The limits of `GuardSettings`. Each `emit` compares them with those that its set was asked under last: five numbers
+/// side by side, which takes a fifth of what four `Option`s do.
 #[derive(Drop)]
 pub struct Limits {
     // in microseconds; anything where there is none
@@ -17,24 +17,21 @@ pub struct Limits {
     closing: u64,
     window: u64,
     timeout: u64,
-    // whether there is one
-    has_handshake: bool,
-    has_closing: bool,
-    has_window: bool,
-    has_timeout: bool,
+    // whether there is one: 1, 2, 4 and 8 of those that there are
+    given: u8,
 }
 
 impl Model for Limits {
-    ghost use Rattle.net_host.specs.Guards.{limit_from};
+    ghost use Rattle.net_host.specs.Guards.{is_given, limit_from};
     ghost use Rattle.net_host.specs.declared.guard.GuardSettings.{GuardSettings};
 
     ghost Value = { GuardSettings };
 
     ghost view = { λ l. record {
-      handshake = limit_from l.has_handshake l.handshake;
-      closing = limit_from l.has_closing l.closing;
-      window = limit_from l.has_window l.window;
-      timeout = limit_from l.has_timeout l.timeout;
+      handshake = limit_from (is_given l.given 1) l.handshake;
+      closing = limit_from (is_given l.given 2) l.closing;
+      window = limit_from (is_given l.given 4) l.window;
+      timeout = limit_from (is_given l.given 8) l.timeout;
     } };
 }
 
@@ -58,6 +55,30 @@ fn limit_from(given: bool, micros: u64) -> Option<Duration>
     }
 }
 
+// Whether there is which, as one number.
+fn given_of(handshake: bool, closing: bool, window: bool, timeout: bool) -> u8
+    ensures handshake { is_given result 1 ≡ handshake }
+    ensures closing { is_given result 2 ≡ closing }
+    ensures window { is_given result 4 ≡ window }
+    ensures timeout { is_given result 8 ≡ timeout }
+{
+    digit(handshake, 1) + digit(closing, 2) + digit(window, 4) + digit(timeout, 8)
+}
+
+fn digit(given: bool, place: u8) -> u8
+    ensures { result ≡ (if given then place else 0) }
+{
+    if given { place } else { 0 }
+}
+
+// Whether there is the one of this place.
+fn is_given(given: u8, place: u8) -> bool
+    requires { 0 < place }
+    ensures { result ≡ is_given given place }
+{
+    given / place % 2 == 1
+}
+
 impl Limits {
     /// The same as numbers.
     pub fn of(settings: &GuardSettings) -> Limits
@@ -72,10 +93,7 @@ impl Limits {
             closing,
             window,
             timeout,
-            has_handshake,
-            has_closing,
-            has_window,
-            has_timeout,
+            given: given_of(has_handshake, has_closing, has_window, has_timeout),
         }
     }
 
@@ -84,10 +102,10 @@ impl Limits {
         ensures { result ≡ self.now }
     {
         GuardSettings {
-            handshake: limit_from(self.has_handshake, self.handshake),
-            closing: limit_from(self.has_closing, self.closing),
-            window: limit_from(self.has_window, self.window),
-            timeout: limit_from(self.has_timeout, self.timeout),
+            handshake: limit_from(is_given(self.given, 1), self.handshake),
+            closing: limit_from(is_given(self.given, 2), self.closing),
+            window: limit_from(is_given(self.given, 4), self.window),
+            timeout: limit_from(is_given(self.given, 8), self.timeout),
         }
     }
 
@@ -99,9 +117,9 @@ impl Limits {
     {
         match kind {
             Kind::Free => (false, 0),
-            Kind::Handshake => (self.has_handshake, self.handshake),
-            Kind::Stuck => (self.has_window, self.window),
-            _ => (self.has_closing, self.closing),
+            Kind::Handshake => (is_given(self.given, 1), self.handshake),
+            Kind::Stuck => (is_given(self.given, 4), self.window),
+            _ => (is_given(self.given, 2), self.closing),
         }
     }
 
@@ -109,7 +127,7 @@ impl Limits {
     pub(crate) fn timeout(&self) -> Option<Duration>
         ensures { result ≡ self.now.timeout }
     {
-        limit_from(self.has_timeout, self.timeout)
+        limit_from(is_given(self.given, 8), self.timeout)
     }
 
     // Whether the numbers are the same; they may differ where there is no limit.
@@ -120,9 +138,6 @@ impl Limits {
             && self.closing == other.closing
             && self.window == other.window
             && self.timeout == other.timeout
-            && self.has_handshake == other.has_handshake
-            && self.has_closing == other.has_closing
-            && self.has_window == other.has_window
-            && self.has_timeout == other.has_timeout
+            && self.given == other.given
     }
 }

@@ -19,11 +19,11 @@ use crate::arrival::{Kind, kind_in, refusal};
 use crate::cookies::Course;
 use crate::copies::{copy_mail, copy_packet, hear_datagram_of};
 use crate::counters::{Counters, Reason};
-use crate::hearing::{Heard, hear_segment};
+use crate::hearing::{Heard, hear_known, hear_sought};
 use crate::interface::Interface;
 use crate::messages::{Mail, echoed, mail_in, put_answer};
 use crate::passing::passed;
-use crate::segments::Taker;
+use crate::segments::{Taker, known_taker};
 use crate::set::SocketSet;
 use crate::unreachable::{Unmet, tell_sender};
 use host_context::Words;
@@ -364,6 +364,7 @@ impl<W: Words> Interface<W> {
         }
     }
 
+    // One for a connection whose place is known goes a short way.
     #[inline(always)]
     fn take_segment<G: TsvalSource>(
         &mut self,
@@ -381,7 +382,31 @@ impl<W: Words> Interface<W> {
         ensures touched { Touches sockets.old.bounds sockets.old.slots.items sockets.new.bounds
             sockets.new.slots.items }
     {
-        let (heard, len) = hear_segment(
+        match known_taker(sockets, &self.inner, ip, repr) {
+            Some(i) => hear_known(sockets, i, &mut self.inner, ip, repr, out),
+            None => self.seek_taker(sockets, ip, repr, out),
+        }
+    }
+
+    // Not inlined, so that what a segment for a connection runs through stays short.
+    #[inline(never)]
+    fn seek_taker<G: TsvalSource>(
+        &mut self,
+        sockets: &mut SocketSet<'_, G>,
+        ip: &IpRepr,
+        repr: &TcpRepr<'_>,
+        out: &mut [u8],
+    ) -> usize
+        requires small { length repr.now.payload.now ≤ 65535 }
+        requires room { 100 ≤ length out.old }
+        ensures within { result ≤ length out.old }
+        ensures table { TakesSegment ⟦<IpAddress as PartialEq>⟧.eq W.word_at G.tells ip.now (segment_of repr.now)
+            self.old
+            sockets.old.slots.items out.old result self.new sockets.new.slots.items out.new }
+        ensures touched { Touches sockets.old.bounds sockets.old.slots.items sockets.new.bounds
+            sockets.new.slots.items }
+    {
+        let (heard, len) = hear_sought(
             sockets,
             &mut self.inner,
             &mut self.resets,

@@ -6,14 +6,14 @@ ghost use Rattle.control_wire.specs.Segment.{segment_of};
 ghost use Rattle.sock_tcp.specs.Process.{reply_of};
 ghost use Rattle.net_host.specs.Filing.{keys_of};
 ghost use Rattle.net_host.specs.Indexing.{IsSettled};
-ghost use Rattle.net_host.specs.Resting.{Rests, anew, is_opening};
+ghost use Rattle.net_host.specs.Resting.{Reopens, Rests, anew, is_opening};
 ghost use Rattle.net_host.specs.Segments.{Hears, HearsAt, IsTaker, NoneTakes, Refuses, TakenBy};
 ghost use Rattle.net_host.specs.Segments.{TakesSegment, as_is};
 ghost use Rattle.net_host.specs.Touching.{Touches};
-ghost use Rattle.net_host.specs.Walks.{Finds, IsFirst, Nowhere};
+ghost use Rattle.net_host.specs.Walks.{Finds, IsAt, Nowhere};
 
 use crate::filing::{connection_key, listener_key};
-use crate::find::{Sought, first_in, known_in};
+use crate::find::{Sought, first_in};
 use crate::limit::Limit;
 use crate::rest::{any_server, oldest, opens};
 use crate::set::SocketSet;
@@ -207,57 +207,42 @@ pub(crate) fn who_takes<C: Context, G: TsvalSource>(
     }
 }
 
-// The place of the connection that takes the segment, where it is known.
+// Whether the connection at this place takes the segment, as it is.
 #[inline(always)]
-fn known_connection<C: Context, G: TsvalSource>(
-    sockets: &SocketSet<'_, G>,
+fn goes_on_with<C: Context, G: TsvalSource>(
+    slots: &[Slot<'_, G>],
+    i: usize,
     cx: &C,
     ip: &IpRepr,
     repr: &TcpRepr<'_>,
-) -> Option<usize>
-    requires settled { IsSettled (λ s. keys_of s) sockets.now.complete sockets.now.slots.items sockets.now.index
-        sockets.now.free }
-    requires complete { sockets.now.complete ≡ true }
-    ensures { IfSome result (λ i. IsFirst (TakesSegment false ip.now (segment_of repr.now)) sockets.now.slots.items i) }
+) -> bool
+    ensures taken { result ≡ true → IsAt (TakesSegment false ip.now (segment_of repr.now)) slots.now i }
+    ensures open { result ≡ true → IfSome (slice_get slots.now i) (λ x. Reopens ip.now (segment_of repr.now) x → ⊥) }
 {
-    let key = connection_key(&ip.src_addr(), repr.dst_port, repr.src_port);
-    known_in(
-        &sockets.slots,
-        &sockets.index,
-        key,
-        cx,
-        Sought::Connection,
-        ip,
-        repr,
-    )
+    match slots.get(i) {
+        Some(slot) => slot.takes_segment(cx, false, ip, repr) && !slot.reopens(ip, repr),
+        None => false,
+    }
 }
 
 /// The connection that takes the segment, by one look where its place is known, as mostly. Where the answer is none, it
 /// says nothing.
 #[inline(always)]
 pub(crate) fn known_taker<C: Context, G: TsvalSource>(
-    sockets: &SocketSet<'_, G>,
+    sockets: &mut SocketSet<'_, G>,
     cx: &C,
     ip: &IpRepr,
     repr: &TcpRepr<'_>,
 ) -> Option<usize>
-    requires { IsSettled (λ s. keys_of s) sockets.now.complete sockets.now.slots.items sockets.now.index
-        sockets.now.free }
-    ensures { IfSome result
-        (λ i. IsTaker sockets.now.slots.items ip.now (segment_of repr.now) (Taker.Connection i)) }
+    ensures slots { sockets.new.slots ≡ sockets.old.slots }
+    ensures bounds { sockets.new.bounds ≡ sockets.old.bounds }
+    ensures taker { IfSome result
+        (λ i. IsTaker sockets.old.slots.items ip.now (segment_of repr.now) (Taker.Connection i)) }
 {
-    if !sockets.complete {
-        return None;
-    }
-    match known_connection(sockets, cx, ip, repr) {
-        Some(i) => {
-            if sockets.slots[i].reopens(ip, repr) {
-                None
-            } else {
-                Some(i)
-            }
-        }
-        None => None,
+    let key = connection_key(&ip.src_addr(), repr.dst_port, repr.src_port);
+    match sockets.known_place(key) {
+        Some(i) if sockets.complete && goes_on_with(&sockets.slots, i, cx, ip, repr) => Some(i),
+        _ => None,
     }
 }
 

@@ -26,20 +26,28 @@ pub struct Sight {
     pub(crate) end: i64,
 }
 
-// By the state alone; `Stuck` where it is for the window and the bytes that wait to say.
+// By the state alone, in the order of the states.
+const KINDS: [Kind; 11] = [
+    Kind::Free,
+    Kind::Free,
+    Kind::Free,
+    Kind::Handshake,
+    Kind::Stuck,
+    Kind::FinWait1,
+    Kind::FinWait2,
+    Kind::Stuck,
+    Kind::Closing,
+    Kind::LastAck,
+    Kind::Free,
+];
+
+// By the state alone; `Stuck` where it is for the window and the bytes that wait to say. Read from a table, so that
+// what follows does not go a way of its own for each state.
 #[inline(always)]
 fn kind_in(state: State) -> Kind
     ensures { result ≡ kind_in state }
 {
-    match state {
-        State::SynReceived => Kind::Handshake,
-        State::FinWait1 => Kind::FinWait1,
-        State::FinWait2 => Kind::FinWait2,
-        State::Closing => Kind::Closing,
-        State::LastAck => Kind::LastAck,
-        State::Established | State::CloseWait => Kind::Stuck,
-        _ => Kind::Free,
-    }
+    KINDS[state as usize]
 }
 
 #[inline(always)]
