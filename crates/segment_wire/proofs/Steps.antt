@@ -1,11 +1,12 @@
 -- Options are read one by one.
 use Rattle.std.proofs.Common.{ℕ, suc, zero, ◌+◌, ◌-◌, ◌<◌, ◌≤◌, Bool, true, false, List, [], ◌∷◌, ◌≡◌, ◌≢◌, length, drop, get_or, refl, ap, sym, ◌∙◌, arith}
-use Rattle.std.specs.Prelude.{Option, Some, None, nat_le, ◌==◌}
+use Rattle.std.specs.Prelude.{Option, Some, None, nat_le, option_map, ◌==◌}
 use Rattle.std.proofs.lemmas.Bool.Decides.{nat_tests}
 use Rattle.std.proofs.lemmas.List.{drop-drop, drop_more, length-drop}
 use Rattle.control_wire.specs.Source.{is_option}
+use Rattle.control_wire.specs.Segment.{Segment}
 use Rattle.segment_wire.specs.Options.{no_options, option_size, options_read, with_option}
-use Rattle.segment_wire.specs.Tcp.{segment_at, segment_if}
+use Rattle.segment_wire.specs.Tcp.{filled, segment_at, segment_if, with_options}
 use Rattle.segment_wire.specs.declared.options.TcpOptions.{TcpOptions}
 
 skipped : (n : ℕ) (o : TcpOptions) (xs : List ℕ) → n ≤ length xs → options_read n o xs ≡ options_read 0 o (drop n xs)
@@ -117,7 +118,11 @@ ended_at xs i o h z = ap (options_read 0 o) (two_at xs i h) ∙ zero_case (get_o
     zero_case : (kind len : ℕ) (rest : List ℕ) (o : TcpOptions) → kind ≡ 0 → options_read 0 o (kind ∷ len ∷ rest) ≡ Some o
     zero_case kind len rest o e = rw e refl
 
--- no options
-pub bare_read : (octets xs : List ℕ) → length xs ≡ 0 → Some (segment_at octets no_options) ≡ segment_if octets (options_read 0 no_options xs)
-bare_read octets [] h = refl
-bare_read octets (x ∷ xs) h = absurd (omega arith)
+-- a segment that was filled without options, where there are none, and where there may be some
+pub bare_filled : (octets xs : List ℕ) (s : Segment) → s ≡ segment_at octets no_options → length xs ≡ 0 → filled true s ≡ segment_if octets (options_read 0 no_options xs)
+bare_filled octets [] s is h = ap (λ t. Some t) is
+bare_filled octets (x ∷ xs) s is h = absurd (omega arith)
+
+pub options_filled : (octets : List ℕ) (o : Option TcpOptions) (s : Segment) → s ≡ segment_at octets no_options → option_map (with_options s) o ≡ segment_if octets o
+options_filled octets None s is = refl
+options_filled octets (Some o) s is = ap (λ t. Some (with_options t o)) is

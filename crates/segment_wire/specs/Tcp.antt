@@ -91,6 +91,17 @@ segment_at octets o =
       payload = drop (tcp_header_len octets) octets;
     }
 
+-- a segment with these options in place of its own
+abbrev pub with_options : Segment → TcpOptions → Segment
+with_options s o =
+    record s {
+      window_scale = o.window_scale;
+      max_seg_size = o.max_seg_size;
+      sack_permitted = o.sack_permitted;
+      sack_ranges = o.sack_ranges;
+      timestamp = o.timestamp;
+    }
+
 abbrev pub segment_if : List ℕ → Option TcpOptions → Option Segment
 segment_if octets None = None
 segment_if octets (Some o) = Some (segment_at octets o)

@@ -1,5 +1,5 @@
 //! TCP segments as bytes (RFC 9293, section 3.1).
-ghost use Rattle.std.specs.Prelude.{◌≡◌, ◌+◌, ◌-◌, ◌≤◌, ◌++◌, ◌/◌, ◌*◌, IsTrue, true, drop, take, length};
+ghost use Rattle.std.specs.Prelude.{◌≡◌, ◌+◌, ◌-◌, ◌≤◌, ◌++◌, ◌/◌, ◌*◌, IsTrue, true, drop, take, length, option_map};
 ghost use Rattle.ip_wire.specs.Checksum.{is_received, is_sent};
 ghost use Rattle.ip_wire.specs.IpHeader.{dst_addr_of, src_addr_of};
 ghost use Rattle.ip_wire.specs.Octets.{be16};
@@ -10,7 +10,7 @@ ghost use Rattle.control_wire.specs.Source.{sum_holds, tcp_header_len};
 ghost use Rattle.segment_wire.specs.Options.{no_options, options_octets, options_read};
 ghost use Rattle.segment_wire.specs.Tcp.{ack_bit, ack_field, ack_of, control_bits, control_of};
 ghost use Rattle.segment_wire.specs.Tcp.{filled, is_head, options_of, read_as, segment_at, segment_if};
-ghost use Rattle.segment_wire.specs.Tcp.{tcp_checksum, tcp_header, tcp_octets, tcp_parsed, tcp_with};
+ghost use Rattle.segment_wire.specs.Tcp.{tcp_checksum, tcp_header, tcp_octets, tcp_parsed, tcp_with, with_options};
 
 use crate::options::{TcpOptions, be32_at, no_options, read_options};
 use crate::pseudo::pseudo_sum_of;
@@ -136,6 +136,52 @@ pub fn parse_behind<'a>(
     read(bytes)
 }
 
+/// Reads the segment that the bytes spell behind this IP header, as [`parse_behind`], into `repr`. Whether there is one:
+/// else `repr` has no meaning.
+///
+/// So a segment without options, as most, is written once, where it is wanted.
+#[inline(always)]
+#[tactic(auto, using(crate::proofs::Steps::bare_filled, crate::proofs::Steps::options_filled))]
+pub fn parse_behind_into<'a>(
+    repr: &mut TcpRepr<'a>,
+    ip: &IpRepr,
+    bytes: &'a [u8],
+    caps: &ChecksumCapabilities,
+) -> bool
+    ensures { filled result (segment_of repr.new)
+        ≡ tcp_parsed (is_received caps.now.tcp) (src_addr_of ip.now) (dst_addr_of ip.now) bytes.now }
+{
+    if !is_head(bytes) || (caps.tcp.rx() && !sum_holds_behind(ip, bytes)) {
+        return false;
+    }
+    fill(repr, bytes, &no_options());
+    let octets = options_of(bytes);
+    if octets.is_empty() {
+        return true;
+    }
+    fill_options(repr, octets)
+}
+
+// Sets the fields of the options. Not inlined, so that a segment without any is read by short code.
+#[inline(never)]
+fn fill_options(repr: &mut TcpRepr<'_>, octets: &[u8]) -> bool
+    ensures { filled result (segment_of repr.new)
+        ≡ option_map (with_options (segment_of repr.old)) (options_read 0 no_options octets.now) }
+{
+    match read_options(octets) {
+        Some(options) => {
+            repr.window_scale = options.window_scale;
+            repr.max_seg_size = options.max_seg_size;
+            repr.sack_permitted = options.sack_permitted;
+            let ranges = options.sack_ranges;
+            repr.sack_ranges = ranges;
+            repr.timestamp = options.timestamp;
+            true
+        }
+        None => false,
+    }
+}
+
 // Whether the checksum verifies.
 fn sum_holds_behind(ip: &IpRepr, bytes: &[u8]) -> bool
     ensures { result ≡ sum_holds (src_addr_of ip.now) (dst_addr_of ip.now) 6 bytes.now }
@@ -143,21 +189,15 @@ fn sum_holds_behind(ip: &IpRepr, bytes: &[u8]) -> bool
     sum_after(pseudo_sum_of(ip, bytes.len()), bytes) == 0xffff
 }
 
-// The segment that the bytes spell, where its options are whole. With no options, as mostly, nothing is written that is
-// read again from where it stands.
+// The segment that the bytes spell, where its options are whole.
 #[inline(always)]
-#[tactic(auto, using(crate::proofs::Steps::bare_read))]
 fn read<'a>(bytes: &'a [u8]) -> Result<TcpRepr<'a>, Error>
     requires least { 20 ≤ tcp_header_len bytes.now }
     requires fits { tcp_header_len bytes.now ≤ length bytes.now }
     ensures { read_as segment_of result
         ≡ segment_if bytes.now (options_read 0 no_options (options_of bytes.now)) }
 {
-    let octets = options_of(bytes);
-    if octets.is_empty() {
-        return Ok(segment_at(bytes, &no_options()));
-    }
-    match read_options(octets) {
+    match read_options(options_of(bytes)) {
         Some(options) => Ok(segment_at(bytes, &options)),
         None => Err(Error),
     }
@@ -190,6 +230,7 @@ pub fn parse_into<'a>(
 }
 
 // Sets each field.
+#[inline(always)]
 fn fill<'a>(repr: &mut TcpRepr<'a>, bytes: &'a [u8], options: &TcpOptions)
     requires least { 20 ≤ tcp_header_len bytes.now }
     requires fits { tcp_header_len bytes.now ≤ length bytes.now }
@@ -236,7 +277,6 @@ fn options_of(bytes: &[u8]) -> &[u8]
     &bytes[20..header]
 }
 
-#[inline(always)]
 fn segment_at<'a>(bytes: &'a [u8], options: &TcpOptions) -> TcpRepr<'a>
     requires least { 20 ≤ tcp_header_len bytes.now }
     requires fits { tcp_header_len bytes.now ≤ length bytes.now }
