@@ -136,8 +136,8 @@ pub fn parse_behind<'a>(
     read(bytes)
 }
 
-/// Reads the segment that the bytes spell behind this IP header, as [`parse_behind`], into `repr`. Whether there is one:
-/// else `repr` has no meaning.
+/// Reads the segment that the bytes spell behind this IP header, as [`parse_behind`], into `repr`. Whether there is
+/// one: else `repr` has no meaning.
 ///
 /// So a segment without options, as most, is written once, where it is wanted.
 #[inline(always)]
