@@ -151,7 +151,10 @@ pub fn parse_behind_into<'a>(
     ensures { filled result (segment_of repr.new)
         ≡ tcp_parsed (is_received caps.now.tcp) (src_addr_of ip.now) (dst_addr_of ip.now) bytes.now }
 {
-    if !is_head(bytes) || (caps.tcp.rx() && !sum_holds_behind(ip, bytes)) {
+    if !is_head(bytes) {
+        return false;
+    }
+    if caps.tcp.rx() && !sum_holds_behind(ip, bytes) {
         return false;
     }
     fill(repr, bytes, &no_options());
