@@ -247,19 +247,3 @@ module _ {X : Type 0} (keys_of : X → Keys) where
   pub settled_before : (complete : Bool) (ss : List X) (es : List Entry) (ws : List ℕ) (known : Option ℕ) → IsSettled keys_of complete ss es ws → complete ≡ true → IfSome known (λ i. AreFiledBefore keys_of i ss es)
   settled_before complete ss es ws None h c = tt
   settled_before complete ss es ws (Some i) h c = λ k less. all_filed complete ss es ws c h k
-
-  -- where one is lent, each before it is
-  pub lent_before : (complete : Bool) (lent : Option ℕ) (ss : List X) (es : List Entry) (ws : List ℕ) (known : Option ℕ) → IsIndexed keys_of complete lent ss es ws → IfSome known (λ i. lent ≡ Some i) → complete ≡ true → IfSome known (λ i. AreFiledBefore keys_of i ss es)
-  lent_before complete lent ss es ws None h is c = tt
-  lent_before false lent ss es ws (Some i) h is c = absurd (false_not_true c)
-  lent_before true lent ss es ws (Some i) h is c = λ k less. all_but k (other k less) (subst (λ l. IsIndexed keys_of true l ss es ws) is h k)
-    where
-      other : (k : ℕ) → k < i → nat_eq k i ≡ false
-      other k less = grind (arith, less)
-
-      all_but : (k : ℕ) → nat_eq k i ≡ false → (if nat_eq k i then nat_lt (k / 64) (length ws) else is_kept_of keys_of true es ws k (slice_get ss k)) ≡ true → is_filed keys_of es k (slice_get ss k) ≡ true
-      all_but k e f = kept_filed k (slice_get ss k) (subst (λ b. (if b then nat_lt (k / 64) (length ws) else is_kept_of keys_of true es ws k (slice_get ss k)) ≡ true) e f)
-        where
-          kept_filed : (k : ℕ) (o : Option X) → is_kept_of keys_of true es ws k o ≡ true → is_filed keys_of es k o ≡ true
-          kept_filed k None f = refl
-          kept_filed k (Some x) f = (and_parts (are_filed es k (keys_of x)) (is_noted ws k (keys_of x).free) f).0

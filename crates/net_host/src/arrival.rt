@@ -9,7 +9,7 @@ ghost use Rattle.ip_wire.specs.Protocol.{number_of};
 use crate::counters::Reason;
 use host_groups::Groups;
 use smoltcp_socket::Context;
-use smoltcp_socket::wire::{IpAddress, IpRepr, Ipv4Address, Ipv6Address};
+use smoltcp_socket::wire::{IpAddress, IpProtocol, IpRepr, Ipv4Address, Ipv6Address};
 
 /// Why the packet is dropped, if it is: its source is one that no single other host has, so that an answer would go to
 /// many, to nobody, or come back (RFC 1122, section 3.2.1.3); or its destination is neither
@@ -82,12 +82,24 @@ pub enum Kind {
     Foreign,
 }
 
-/// What the packet is looked at as; `own` says whether it goes to an address of the interface.
+/// What the packet is looked at as; `own` says whether it goes to an address of the interface. A TCP segment, as most,
+/// is told by one look.
 #[inline(always)]
 pub(crate) fn kind_in(own: bool, ip: &IpRepr) -> Kind
     ensures { result ≡ kind_of own (number_of (next_header_of ip.now)) }
 {
-    kind_of(own, u8::from(ip.next_header()))
+    match (own, ip.next_header()) {
+        (true, IpProtocol::Tcp) => Kind::Tcp,
+        (own, protocol) => kind_by(own, protocol),
+    }
+}
+
+// Not inlined, so that what a segment of TCP runs through stays short.
+#[inline(never)]
+fn kind_by(own: bool, protocol: IpProtocol) -> Kind
+    ensures { result ≡ kind_of own (number_of protocol) }
+{
+    kind_of(own, u8::from(protocol))
 }
 
 fn kind_of(own: bool, number: u8) -> Kind

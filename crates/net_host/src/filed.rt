@@ -1,6 +1,6 @@
 //! Places that are filed in an index under their keys.
 ghost use Rattle.std.specs.Prelude.{ℕ, ℤ, Bool, ◌≡◌, ◌&&◌, ◌<◌, ◌/◌, IfSome, IsSome, length, get_or, slice_get, true};
-ghost use Rattle.std.specs.Prelude.{None, Some, false, slice_set};
+ghost use Rattle.std.specs.Prelude.{None, false, slice_set};
 ghost use Rattle.std.specs.List.{All};
 ghost use Rattle.net_host.specs.Indexing.{AreFiledBefore, IsIndexed, IsLentAt, IsSettled, KeepsMarks, are_filed};
 ghost use Rattle.net_host.specs.Indexing.{is_filed, is_noted, is_noted_of, lent_of, no_keys};
@@ -120,8 +120,7 @@ impl<T: Keyed> Filed<T> {
         self.index.seek(key);
     }
 
-    /// The first place under this key, where that is known, once each place before it is filed. Where it is the place
-    /// that was lent, as mostly, that need not be filed as it is now.
+    /// The first place under this key, where that is known, once the place that was lent is filed.
     #[inline(always)]
     #[tactic(auto, using(crate::proofs::Places::settled_before))]
     pub(crate) fn known_place(&mut self, key: Entry) -> Option<usize>
@@ -132,39 +131,7 @@ impl<T: Keyed> Filed<T> {
         ensures filed { self.new.complete ≡ true
             → IfSome result (λ i. AreFiledBefore T.keys_of i self.new.slots.items self.new.index) }
     {
-        let known = self.index.known(key);
-        if self.settled {
-            return known;
-        }
-        if self.is_lent_there(known) {
-            return known;
-        }
-        self.settle_and_know(key)
-    }
-
-    // Whether this place is lent.
-    #[inline(always)]
-    fn is_lent_there(&self, place: Option<usize>) -> bool
-        ensures { result ≡ true → IfSome place (λ i. self.now.lent ≡ Some i) }
-    {
-        match (place, self.lent) {
-            (Some(place), Some(lent)) => place == lent,
-            _ => false,
-        }
-    }
-
-    // Apart from `known_place`, which mostly need not settle anything.
-    #[inline(never)]
-    #[tactic(auto, using(crate::proofs::Places::settled_before))]
-    fn settle_and_know(&mut self, key: Entry) -> Option<usize>
-        ensures slots { self.new.slots ≡ self.old.slots }
-        ensures terms { self.new.terms ≡ self.old.terms }
-        ensures bounds { self.new.bounds ≡ self.old.bounds }
-        ensures known { IfSome result (λ i. IsFirst self.new.index key i) }
-        ensures filed { self.new.complete ≡ true
-            → IfSome result (λ i. AreFiledBefore T.keys_of i self.new.slots.items self.new.index) }
-    {
-        self.settle_lent();
+        self.settle();
         self.index.known(key)
     }
 

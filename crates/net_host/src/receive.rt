@@ -334,10 +334,11 @@ impl<W: Words> Interface<W> {
             sockets.new.slots.items }
     {
         let caps = self.inner.checksum_caps();
-        match tcp::parse_behind(ip, bytes, &caps) {
-            Err(_) => self.drop_packet(Reason::Segment),
-            Ok(repr) => self.take_short(sockets, ip, &repr, out),
+        let mut repr = TcpRepr::bare(0, 0);
+        if !tcp::parse_behind_into(&mut repr, ip, bytes, &caps) {
+            return self.drop_packet(Reason::Segment);
         }
+        self.take_short(sockets, ip, &repr, out)
     }
 
     #[tactic(auto, using(crate::proofs::Touching::touches_none))]

@@ -27,7 +27,7 @@ pub struct Sight {
 }
 
 // By the state alone, in the order of the states.
-const KINDS: [Kind; 11] = [
+static KINDS: [Kind; 11] = [
     Kind::Free,
     Kind::Free,
     Kind::Free,
