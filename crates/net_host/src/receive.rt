@@ -30,7 +30,9 @@ use host_context::Words;
 use segment_wire::packet::carried;
 use segment_wire::{tcp, udp};
 use smoltcp_socket::Context;
-use smoltcp_socket::wire::{ChecksumCapabilities, IpAddress, IpRepr, TcpRepr, UdpRepr};
+use smoltcp_socket::wire::{
+    ChecksumCapabilities, IpAddress, IpRepr, TcpControl, TcpRepr, TcpSeqNumber, UdpRepr,
+};
 use sock_tcp::TsvalSource;
 
 impl<W: Words> Interface<W> {
@@ -334,7 +336,7 @@ impl<W: Words> Interface<W> {
             sockets.new.slots.items }
     {
         let caps = self.inner.checksum_caps();
-        let mut repr = TcpRepr::bare(0, 0);
+        let mut repr = unread(bytes);
         if !tcp::parse_behind_into(&mut repr, ip, bytes, &caps) {
             return self.drop_packet(Reason::Segment);
         }
@@ -418,6 +420,24 @@ impl<W: Words> Interface<W> {
         );
         count_heard(&mut self.counters, &heard);
         len
+    }
+}
+
+// What a segment is read into.
+fn unread(bytes: &[u8]) -> TcpRepr<'_> {
+    TcpRepr {
+        src_port: 0,
+        dst_port: 0,
+        control: TcpControl::None,
+        seq_number: TcpSeqNumber(0),
+        ack_number: None,
+        window_len: 0,
+        window_scale: None,
+        max_seg_size: None,
+        sack_permitted: false,
+        sack_ranges: [None, None, None],
+        timestamp: None,
+        payload: bytes,
     }
 }
 
