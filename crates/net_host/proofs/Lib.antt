@@ -1,4 +1,5 @@
 pub mod Idle
+pub mod SameNumbers
 pub mod Changes
 pub mod Sleepers
 pub mod Sights

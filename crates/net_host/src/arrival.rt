@@ -1,9 +1,9 @@
 //! Whether a packet is looked at, by its addresses.
-ghost use Rattle.std.specs.Prelude.{◌≡◌};
+ghost use Rattle.std.specs.Prelude.{◌≡◌, false};
 ghost use Rattle.host_groups.specs.Joining.{has_group};
 ghost use Rattle.ip_wire.specs.Address.{all_zero};
 ghost use Rattle.net_host.specs.Arrivals.{is_martian, is_reserved, is_reserved_v4, is_reserved_v6, kind_of, refusal};
-ghost use Rattle.ip_wire.specs.IpHeader.{dst_addr_of, next_header_of};
+ghost use Rattle.ip_wire.specs.IpHeader.{dst_addr_of, next_header_of, src_addr_of};
 ghost use Rattle.ip_wire.specs.Protocol.{number_of};
 
 use crate::counters::Reason;
@@ -24,8 +24,24 @@ pub(crate) fn refusal<C: Context>(cx: &C, own: bool, groups: &Groups, ip: &IpRep
     if is_martian(cx, &ip.src_addr()) {
         return Some(Reason::Source);
     }
+    if own {
+        return None;
+    }
+    refusal_elsewhere(cx, groups, ip)
+}
+
+// The same where the source is none of these, and the destination no own address.
+// Not inlined, as few packets come here.
+#[inline(never)]
+#[tactic(auto, unfolding(crate::specs::Arrivals::refusal))]
+fn refusal_elsewhere<C: Context>(cx: &C, groups: &Groups, ip: &IpRepr) -> Option<Reason>
+    requires source { is_martian (C.facts cx.now) (src_addr_of ip.now) ≡ false }
+    requires elsewhere { (C.facts cx.now).has_address (dst_addr_of ip.now) ≡ false }
+    ensures { result ≡ refusal (C.facts cx.now)
+        (has_group ⟦<IpAddress as PartialEq>⟧.eq groups.now (dst_addr_of ip.now)) ip.now }
+{
     let to = ip.dst_addr();
-    if !own && !cx.is_broadcast(&to) && !groups.has(&to) {
+    if !cx.is_broadcast(&to) && !groups.has(&to) {
         return Some(Reason::Destination);
     }
     None

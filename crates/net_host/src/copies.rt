@@ -13,36 +13,18 @@ use crate::filing::{raw_key, udp_key};
 use crate::messages::{Mail, copy_to};
 use crate::raw_copies::copy_packet_to;
 use crate::set::SocketSet;
-use crate::slot::Slot;
 use smoltcp_socket::Context;
 use smoltcp_socket::wire::{IpRepr, UdpRepr};
 use sock_tcp::TsvalSource;
 
-// Whether no socket is a raw one, by one look at the index and one at the place that was lent. Where the answer is no,
-// it says nothing.
+// Whether no socket is a raw one, by one look at the index. Where the answer is no, it says nothing.
 fn has_no_raw<G: TsvalSource>(sockets: &SocketSet<'_, G>) -> bool
+    requires { IsSettled (λ s. keys_of s) sockets.now.complete sockets.now.slots.items sockets.now.index
+        sockets.now.free }
     ensures { result ≡ true → (k : ℕ) → IfSome (slice_get sockets.now.slots.items k) (λ s. is_raw s ≡ false) }
 {
     let _count = sockets.slots.len(); // for its bound
-    if !sockets.complete {
-        return false;
-    }
-    if !sockets.index.is_behind(raw_key()) {
-        return false;
-    }
-    !is_lent_raw(&sockets.slots, &sockets.lent)
-}
-
-fn is_lent_raw<G: TsvalSource>(slots: &[Slot<'_, G>], lent: &Option<usize>) -> bool
-    ensures { result ≡ false → IfSome lent.now (λ l. IfSome (slice_get slots.now l) (λ s. is_raw s ≡ false)) }
-{
-    match lent {
-        Some(place) => match slots.get(*place) {
-            Some(slot) => slot.is_raw(),
-            None => false,
-        },
-        None => false,
-    }
+    sockets.complete && sockets.index.is_behind(raw_key())
 }
 
 /// Each raw socket that accepts the packet takes a copy.
@@ -58,10 +40,10 @@ pub(crate) fn copy_packet<C: Context, G: TsvalSource>(
     ensures touched { Touches sockets.old.bounds sockets.old.slots.items sockets.new.bounds
         sockets.new.slots.items }
 {
+    sockets.settle(); // a place that was lent may have a raw socket now
     if has_no_raw(sockets) {
         return;
     }
-    sockets.settle();
     sockets.settled = false;
     let complete = sockets.complete;
     copy_packet_to(

@@ -1,6 +1,7 @@
 //! What an interface knows of its network.
 ghost use Rattle.std.specs.Prelude.{◌≡◌, max, min, pos, option_map};
 ghost use Rattle.std.specs.Option.{ForSome};
+ghost use Rattle.std.specs.Str.{bytes_eq};
 ghost use Rattle.std.specs.List.{find, list_any};
 ghost use Rattle.ip_wire.specs.Address.{SameVersion, same_version};
 ghost use Rattle.ip_wire.specs.Checksum.{all_checksums};
@@ -10,6 +11,7 @@ ghost use Rattle.net_host.specs.Moments.{lawful_micros};
 ghost use Rattle.net_host.specs.Addresses.{covers, is_broadcast, is_directed, source_of};
 
 use crate::cidr::{IpCidr, is_limited_broadcast};
+use ip_wire::octets::be32_at;
 use smoltcp_socket::time::Instant;
 use smoltcp_socket::wire::{ChecksumCapabilities, IpAddress};
 
@@ -118,7 +120,7 @@ impl Environment {
     fn is_directed_broadcast(&self, addr: &IpAddress) -> bool
         ensures { result ≡ list_any (λ c. is_directed c addr.now) self.entry.now.addresses.items }
     {
-        self.addresses.iter().any(|c: &IpCidr| c.is_broadcast(addr))
+        has_directed(&self.addresses, addr)
     }
 }
 
@@ -135,16 +137,37 @@ fn has_address(addresses: &[IpCidr], addr: &IpAddress) -> bool
     false
 }
 
+#[inline(always)]
+fn has_directed(addresses: &[IpCidr], addr: &IpAddress) -> bool
+    ensures { result ≡ list_any (λ c. is_directed c addr.now) addresses.now }
+{
+    for i in 0..addresses.len() {
+        if addresses[i].is_broadcast(addr) {
+            return true;
+        }
+    }
+    false
+}
+
 // The same as `==`, without a call, as each packet has its addresses compared.
 #[inline(always)]
 fn is_same_address(a: &IpAddress, b: &IpAddress) -> bool
     ensures { result ≡ ⟦<IpAddress as PartialEq>⟧.eq a.now b.now }
 {
     match (a, b) {
-        (IpAddress::Ipv4(a), IpAddress::Ipv4(b)) => *a == *b,
+        (IpAddress::Ipv4(a), IpAddress::Ipv4(b)) => are_same_octets(&a.0, &b.0),
         (IpAddress::Ipv6(a), IpAddress::Ipv6(b)) => *a == *b,
         _ => false,
     }
+}
+
+// The same as `==`, as numbers: the compiler compares single bytes else.
+#[inline(always)]
+fn are_same_octets(a: &[u8; 4], b: &[u8; 4]) -> bool
+    ensures { result ≡ bytes_eq a.now b.now }
+{
+    let _numbers = (be32_at(a, 0), be32_at(b, 0)); // for their bytes' range
+    u32::from_be_bytes(*a) == u32::from_be_bytes(*b)
 }
 
 // No moment is further from zero, in microseconds: some 36,000 years.

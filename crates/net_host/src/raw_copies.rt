@@ -2,7 +2,7 @@
 ghost use Rattle.std.specs.Prelude.{◌≡◌, ◌<◌, length, true};
 ghost use Rattle.net_host.specs.Filing.{keys_of};
 ghost use Rattle.net_host.specs.Indexing.{AreFiled};
-ghost use Rattle.net_host.specs.RawCopies.{CopiesPacket, TakesCopy, is_raw};
+ghost use Rattle.net_host.specs.RawCopies.{CopiesPacket, TakesCopy};
 ghost use Rattle.net_host.specs.Walks.{ChangesAt, ChangesEach};
 
 use crate::filing::raw_key;
@@ -14,12 +14,6 @@ use smoltcp_socket::{Context, Socket, raw};
 use sock_tcp::TsvalSource;
 
 impl<'a, G: TsvalSource> Slot<'a, G> {
-    pub(crate) fn is_raw(&self) -> bool
-        ensures { result ≡ is_raw self.now }
-    {
-        matches!(&self.socket, Some(Socket::Raw(_)))
-    }
-
     fn copy_packet<C: Context>(&mut self, cx: &C, ip: &IpRepr, payload: &[u8])
         ensures { CopiesPacket (C.facts cx.now) ip.now payload.now self.old self.new }
     {

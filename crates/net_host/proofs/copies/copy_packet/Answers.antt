@@ -1,4 +1,6 @@
-use Rattle.std.proofs.Common.{◌∙◌, sym, refl}
+use Rattle.std.proofs.Common.{◌∙◌, sym, subst, refl}
+use Rattle.net_host.specs.RawCopies.{CopiesPacket}
+use Rattle.net_host.specs.Walks.{ChangesEach}
 use Rattle.net_host.specs.Filing.{keys_of}
 use Rattle.net_host.proofs.Sleepers.{each_len}
 use Rattle.net_host.proofs.KeptKeys.{copies_keep, none_copied}
@@ -7,7 +9,7 @@ use Rattle.net_host.proofs.Places.{all_filed, unsettled}
 use Rattle.net_host.proofs.copies.copy_packet.Goals as goal
 
 pub returns-then-has_no_raw-clause-copied : goal.returns-then-has_no_raw-clause-copied
-returns-then-has_no_raw-clause-copied g c = none_copied (g.C.Context.facts c.args.cx.now) c.args.ip.now c.args.payload.now c.args.sockets.now.slots.items (c.has_no_raw.ensures c.if-has_no_raw.true)
+returns-then-has_no_raw-clause-copied g c = subst (λ v. ChangesEach (CopiesPacket (g.C.Context.facts c.args.cx.now) c.args.ip.now c.args.payload.now) v.items c.settle.new.self.slots.items) c.settle.ensures.slots (none_copied (g.C.Context.facts c.args.cx.now) c.args.ip.now c.args.payload.now c.settle.new.self.slots.items (c.has_no_raw.ensures c.if-has_no_raw.true))
 
 pub copy_packet_to-requires : goal.copy_packet_to-requires
 copy_packet_to-requires g c = λ whole. all_filed (λ s. keys_of s) c.settle.new.self.complete c.settle.new.self.slots.items c.settle.new.self.index c.settle.new.self.free whole c.settle.ensures.settled
