@@ -106,10 +106,25 @@ word_of_carries n k =
     sym (ap word_of e ∙ carried (n + k) k (omega arith))
 
 -- the upper half of a wide sum added to the lower one
-pub halves : (n : ℕ) → word_of (n % 4294967296 + n / 4294967296) ≡ word_of n
-halves n =
-    let e : n ≡ n % 4294967296 + n / 4294967296 + 65535 * (65537 * (n / 4294967296)) = omega arith in
+pub halves : (n m : ℕ) → word_of (n % 4294967296 + n / 4294967296 + m) ≡ word_of (n + m)
+halves n m =
+    let e : n + m ≡ n % 4294967296 + n / 4294967296 + m + 65535 * (65537 * (n / 4294967296)) = omega arith in
     grind (arith, nat_tests)
+
+pub quarters : (n : ℕ) → word_of (n % 65536 + n / 65536) ≡ word_of n
+quarters n =
+    let e : n % 65536 + 65536 * (n / 65536) ≡ n = omega arith in
+    word_of_carries (n % 65536) (n / 65536) ∙ ap word_of e
+
+-- two words and their carry
+two_added : (n : ℕ) → n < 131071 → (n + n / 65536) % 65536 ≡ word_of n
+two_added n h = grind (arith, nat_tests)
+
+pub turned : (n : ℕ) → n < 4294967296 → (n + (n % 65536 * 65536 + n / 65536)) / 65536 % 65536 ≡ word_of n
+turned n h =
+    let both = n % 65536 + n / 65536 in
+    let e : (n + (n % 65536 * 65536 + n / 65536)) / 65536 % 65536 ≡ (both + both / 65536) % 65536 = omega (arith, h) in
+    e ∙ two_added both (omega (arith, h)) ∙ quarters n
 
 pub halves_swapped : (s n : ℕ) → swapped_word s (n % 4294967296 + n / 4294967296) ≡ swapped_word s n
 halves_swapped s n =
@@ -151,19 +166,15 @@ number_more s n xs i j h k e =
     ∙ ap (λ v. sum_after v (drop j xs))
     (ap word_of apart ∙ word_of_carries (s + 256 * (n + low)) (256 * high) ∙ ap word_of number)
 
--- the quarters of a wide sum added up
-pub quarters_swapped : (s n : ℕ) → swapped_word s (n % 18446744073709551616 % 4294967296 + n % 18446744073709551616 / 4294967296
-    + (n / 18446744073709551616 % 4294967296 + n / 18446744073709551616 / 4294967296)) ≡ swapped_word s n
-quarters_swapped s n =
-    let low = n % 18446744073709551616 in
-    let high = n / 18446744073709551616 in
-    let b = low / 4294967296 in
-    let c = high % 4294967296 in
-    let d = high / 4294967296 in
-    let q = low % 4294967296 + b + (c + d) in
-    let e : s + 256 * n ≡ s + 256 * q
-    + 65535 * (16777472 * b + 72058693566333184 * c + 309489732259886631936327936 * d) = omega arith in
+-- the halves of a wider sum added up, and the halves of that
+wide_halves_swapped : (s n : ℕ) → swapped_word s (n % 18446744073709551616 + n / 18446744073709551616) ≡ swapped_word s n
+wide_halves_swapped s n =
+    let e : s + 256 * n ≡ s + 256 * (n % 18446744073709551616 + n / 18446744073709551616) + 65535 * (72058693566333184 * (n / 18446744073709551616)) = omega arith in
     grind (arith, nat_tests)
+
+pub carried_swapped : (s n m : ℕ) → m ≡ n % 18446744073709551616 + n / 18446744073709551616
+    → swapped_word s (m % 18446744073709551616 + m / 18446744073709551616) ≡ swapped_word s n
+carried_swapped s n m e = wide_halves_swapped s m ∙ ap (swapped_word s) e ∙ wide_halves_swapped s n
 
 -- eight octets more, as one number
 eight_more : (s n : ℕ) (xs : List ℕ) (i j : ℕ) → ((k : ℕ) → k < length xs → get_or xs k 0 < 256) → i + 8 ≤ length xs
@@ -197,6 +208,78 @@ thirty_two_more s n xs i h k =
 pub four_octets_more : (s n : ℕ) (xs : List ℕ) (i : ℕ) → ((k : ℕ) → k < length xs → get_or xs k 0 < 256) → i + 4 ≤ length xs
     → sum_after (swapped_word s (n + le32_at xs i)) (drop (i + 4) xs) ≡ sum_after (swapped_word s n) (drop i xs)
 four_octets_more s n xs i h k = sym (number_more s n xs i (i + 4) h k refl)
+
+-- the last bytes: four, two and one, where the number of bytes has that bit
+pub last_four : (s n : ℕ) (xs : List ℕ) → ((k : ℕ) → k < length xs → get_or xs k 0 < 256) → 4 ≤ length xs % 8
+    → sum_after (swapped_word s (n + le32_at xs (length xs / 8 * 8))) (drop (length xs / 4 * 4) xs)
+    ≡ sum_after (swapped_word s n) (drop (length xs / 8 * 8) xs)
+last_four s n xs h k = sym (number_more s n xs (length xs / 8 * 8) (length xs / 4 * 4) h (omega (arith, k)) (omega (arith, k)))
+
+pub no_four : (s n : ℕ) (xs : List ℕ) → length xs % 8 < 4
+    → sum_after (swapped_word s n) (drop (length xs / 4 * 4) xs) ≡ sum_after (swapped_word s n) (drop (length xs / 8 * 8) xs)
+no_four s n xs k =
+    let e : length xs / 4 * 4 ≡ length xs / 8 * 8 = omega (arith, k) in
+    ap (λ i. sum_after (swapped_word s n) (drop i xs)) e
+
+pub last_pair : (s n : ℕ) (xs : List ℕ) → ((k : ℕ) → k < length xs → get_or xs k 0 < 256) → 2 ≤ length xs % 4
+    → sum_after (swapped_word s (n + le16_at xs (length xs / 4 * 4))) (drop (length xs / 2 * 2) xs)
+    ≡ sum_after (swapped_word s n) (drop (length xs / 4 * 4) xs)
+last_pair s n xs h k = sym (two_more s n xs (length xs / 4 * 4) (length xs / 2 * 2) h (omega (arith, k)) (omega (arith, k)))
+
+pub no_pair : (s n : ℕ) (xs : List ℕ) → length xs % 4 < 2
+    → sum_after (swapped_word s n) (drop (length xs / 2 * 2) xs) ≡ sum_after (swapped_word s n) (drop (length xs / 4 * 4) xs)
+no_pair s n xs k =
+    let e : length xs / 2 * 2 ≡ length xs / 4 * 4 = omega (arith, k) in
+    ap (λ i. sum_after (swapped_word s n) (drop i xs)) e
+
+pub last_one : (s n : ℕ) (xs : List ℕ) → ((k : ℕ) → k < length xs → get_or xs k 0 < 256) → 1 ≤ length xs % 2
+    → swapped_word s (n + get_or xs (length xs - 1) 0) ≡ sum_after (swapped_word s n) (drop (length xs / 2 * 2) xs)
+last_one s n xs h k =
+    let i = length xs - 1 in
+    let b = get_or xs i 0 in
+    let small : b < 256 = h i (omega (arith, k)) in
+    let whole : s + 256 * n + 256 * b ≡ s + 256 * (n + b) = omega arith in
+    let place : length xs / 2 * 2 ≡ i = omega (arith, k) in
+    let end : length xs ≤ i + 1 = omega (arith, k) in
+    sym (ap (λ j. sum_after (swapped_word s n) (drop j xs)) place
+    ∙ ap (sum_after (swapped_word s n)) (drop_more xs i 0 (omega (arith, k)) ∙ ap (λ ys. b ∷ ys) (drop_all (i + 1) xs end))
+    ∙ word_of_more (s + 256 * n) (256 * b) (omega (arith, small)) ∙ ap word_of whole)
+
+pub no_one : (s n : ℕ) (xs : List ℕ) → length xs % 2 ≡ 0 → swapped_word s n ≡ sum_after (swapped_word s n) (drop (length xs / 2 * 2) xs)
+no_one s n xs k = ap (sum_after (swapped_word s n)) (sym (drop_all (length xs / 2 * 2) xs (omega (arith, k))))
+
+-- the 20 octets of a header
+pub twenty_octets : (xs : List ℕ) → ((k : ℕ) → k < length xs → get_or xs k 0 < 256) → length xs ≡ 20
+    → swapped_word 0 (le32_at xs 0 + le32_at xs 4 + le32_at xs 8 + le32_at xs 12 + le32_at xs 16) ≡ sum_after 0 xs
+twenty_octets xs h e =
+    let a = le32_at xs 0 in
+    let b = le32_at xs 4 in
+    let c = le32_at xs 8 in
+    let d = le32_at xs 12 in
+    let zero-start : swapped_word 0 0 ≡ 0 = swapped_word_zero 0 (omega arith) in
+    let all : 0 + a + b + c + d + le32_at xs 16 ≡ a + b + c + d + le32_at xs 16 = omega arith in
+    sym (ap (λ v. sum_after v xs) (sym zero-start)
+    ∙ number_more 0 0 xs 0 4 h (omega (arith, e)) refl
+    ∙ number_more 0 (0 + a) xs 4 8 h (omega (arith, e)) refl
+    ∙ number_more 0 (0 + a + b) xs 8 12 h (omega (arith, e)) refl
+    ∙ number_more 0 (0 + a + b + c) xs 12 16 h (omega (arith, e)) refl
+    ∙ number_more 0 (0 + a + b + c + d) xs 16 20 h (omega (arith, e)) refl
+    ∙ ap (sum_after (swapped_word 0 (0 + a + b + c + d + le32_at xs 16))) (drop_all 20 xs (omega (arith, e)))
+    ∙ ap (swapped_word 0) all)
+
+-- the four octets of an address
+pub four_swapped : (s n : ℕ) (xs : List ℕ) → ((k : ℕ) → k < length xs → get_or xs k 0 < 256) → length xs ≡ 4
+    → sum_after (swapped_word s n) xs ≡ swapped_word s (n + le32_at xs 0)
+four_swapped s n xs h e =
+    number_more s n xs 0 4 h (omega (arith, e)) refl ∙ ap (sum_after (swapped_word s (n + le32_at xs 0))) (drop_all 4 xs (omega (arith, e)))
+
+-- nothing to be read, and nothing before
+pub after_nothing : (s : ℕ) (xs : List ℕ) → length xs ≡ 0 → s ≡ sum_after s xs
+after_nothing s [] e = refl
+after_nothing s (x ∷ xs) e = absurd (omega (arith, e))
+
+pub after_start : (s : ℕ) (xs : List ℕ) → s < 65536 → sum_after (swapped_word s 0) xs ≡ sum_after s xs
+after_start s xs h = ap (λ v. sum_after v xs) (swapped_word_zero s h)
 
 -- four octets more to a word, as one number in network order
 number_after : (n : ℕ) (xs : List ℕ) (i j : ℕ) → ((k : ℕ) → k < length xs → get_or xs k 0 < 256) → i + 4 ≤ length xs
@@ -273,6 +356,18 @@ pub two_after : (n : ℕ) (xs ys : List ℕ) (a b : ℕ) → length xs ≡ 4
     → word_of (n + a + b) ≡ sum_after (word_of n) (xs ++ ys)
 two_after n xs ys a b l p q =
     sym (continues (word_of n) xs ys (omega (arith, l)) ∙ ap (λ v. sum_after v ys) (p n) ∙ q (n + a))
+
+-- the same, where what they add is read with the low octet first
+pub addresses_after : (n h : ℕ) (xs ys : List ℕ) (a b : ℕ) → length xs ≡ 4 → ((m : ℕ) → word_of (h + m) ≡ word_of (n + m))
+    → ((s t : ℕ) → sum_after (swapped_word s t) xs ≡ swapped_word s (t + a))
+    → ((s t : ℕ) → sum_after (swapped_word s t) ys ≡ swapped_word s (t + b))
+    → swapped_word h (a + b) ≡ sum_after (word_of n) (xs ++ ys)
+addresses_after n h xs ys a b l e p q =
+    let none : n + 256 * 0 ≡ n = omega arith in
+    let all : n + 256 * (0 + a + b) ≡ n + 256 * (a + b) = omega arith in
+    sym (continues (word_of n) xs ys (omega (arith, l))
+    ∙ ap (λ v. sum_after (sum_after v xs) ys) (sym (ap word_of none))
+    ∙ ap (λ v. sum_after v ys) (p n 0) ∙ q n (0 + a) ∙ ap word_of all ∙ sym (e (256 * (a + b))))
 
 -- an IPv4 header whose checksum is 0, up to its addresses
 pub header_words : (h : Ipv4Repr) → h.hop_limit < 256 → number_of h.next_header < 256

@@ -3,7 +3,7 @@ ghost use Rattle.std.specs.Prelude.{◌≡◌, ◌+◌, ◌<◌, ◌≤◌, ◌+
 ghost use Rattle.std.specs.Result.{IfOk, IsOk, result_ok};
 ghost use Rattle.ip_wire.specs.Checksum.{is_received, is_sent};
 ghost use Rattle.ip_wire.specs.IpHeader.{header_len_of};
-ghost use Rattle.ip_wire.specs.Protocol.{protocol_of};
+ghost use Rattle.ip_wire.specs.Protocol.{number_of, protocol_of};
 ghost use Rattle.ip_wire.specs.Octets.{be16, be16_at};
 ghost use Rattle.ip_wire.specs.Sum.{complement, sum_after};
 ghost use Rattle.ip_wire.specs.Packet.{IsIpv4, IsIpv6, checksum_filled, checksum_holds, header_octets, ipv4_fields};
@@ -17,7 +17,7 @@ use crate::malformed::Error;
 use crate::octets::{be16, be16_at, put, put_three};
 use crate::protocol::IpProtocol;
 use crate::repr::{IpRepr, Ipv4Repr, Ipv6Repr};
-use crate::sum::{checksum_after, sum_after, sum_with_addresses};
+use crate::sum::{checksum_after, sum_after, sum_of_twenty, sum_with_addresses};
 
 fn emit_ipv6(repr: &Ipv6Repr, buffer: &mut [u8])
     requires { 40 ≤ length buffer.old }
@@ -33,51 +33,48 @@ fn emit_ipv4(repr: &Ipv4Repr, buffer: &mut [u8], sent: bool)
     requires { 20 ≤ length buffer.old }
     ensures { buffer.new ≡ ipv4_octets sent repr.now ++ drop 20 buffer.old }
 {
-    let checksum = checksum_if(repr, sent);
-    write_ipv4(repr, checksum, buffer);
+    let protocol = u8::from(repr.next_header);
+    let checksum = checksum_if(repr, protocol, sent);
+    write_ipv4(repr, protocol, checksum, buffer);
 }
 
 // Before the header is written: what was just written in single bytes is read slowly as words.
-fn checksum_if(repr: &Ipv4Repr, sent: bool) -> u16
+fn checksum_if(repr: &Ipv4Repr, protocol: u8, sent: bool) -> u16
+    requires { protocol ≡ number_of repr.now.next_header }
     ensures { result ≡ (if sent then complement (sum_after 0 (ipv4_with repr.now 0)) else 0) }
 {
-    if sent { 0xffff - header_sum(repr) } else { 0 }
+    if sent {
+        0xffff - header_sum(repr, protocol)
+    } else {
+        0
+    }
 }
 
 // The sum of the header with a checksum of 0.
 #[tactic(auto, using(crate::proofs::Sums::header_words))]
-fn header_sum(repr: &Ipv4Repr) -> u16
+fn header_sum(repr: &Ipv4Repr, protocol: u8) -> u16
+    requires { protocol ≡ number_of repr.now.next_header }
     ensures { result ≡ sum_after 0 (ipv4_with repr.now 0) }
 {
-    let protocol = u8::from(repr.next_header) as usize;
     let length = (repr.payload_len % 0x10000 + 20) % 0x10000;
-    let total = 0x8500 + length + 256 * repr.hop_limit as usize + protocol;
+    let total = 0x8500 + length + 256 * repr.hop_limit as usize + protocol as usize;
     sum_with_addresses(total, &repr.src_addr, &repr.dst_addr)
 }
 
 #[tactic(auto, using(crate::proofs::Written::total_len))]
-fn write_ipv4(repr: &Ipv4Repr, checksum: u16, buffer: &mut [u8])
-    requires { 20 ≤ length buffer.old }
+fn write_ipv4(repr: &Ipv4Repr, protocol: u8, checksum: u16, buffer: &mut [u8])
+    requires room { 20 ≤ length buffer.old }
+    requires protocol { protocol ≡ number_of repr.now.next_header }
     ensures { buffer.new ≡ ipv4_with repr.now checksum ++ drop 20 buffer.old }
 {
     let [high, low] = be16(repr.payload_len % 0x10000 + 20);
-    let protocol = u8::from(repr.next_header);
     let [first, second] = be16(checksum as usize);
+    let hops = repr.hop_limit;
     let head = [
-        0x45,
-        0,
-        high,
-        low,
-        0,
-        0,
-        0x40,
-        0,
-        repr.hop_limit,
-        protocol,
-        first,
-        second,
+        0x45, 0, high, low, 0, 0, 0x40, 0, hops, protocol, first, second,
     ];
-    put_three(buffer, &head, &repr.src_addr.0, &repr.dst_addr.0);
+    let (src, dst) = (repr.src_addr.0, repr.dst_addr.0);
+    put_three(buffer, &head, &src, &dst);
 }
 
 /// An IPv4 packet: a header with options, and a payload. Bytes may follow it.
@@ -201,6 +198,7 @@ impl Ipv4Repr {
     /// An error for another version than 4, and where received checksums are tested for one that does not verify. Not
     /// looked at are the options, the hop limit, the addresses, and the flags and the offset: also the header of a
     /// fragment is read, whose payload is a piece of another packet's.
+    #[inline(always)]
     pub fn parse(packet: &Ipv4Packet<'_>, caps: &ChecksumCapabilities) -> Result<Ipv4Repr, Error>
         ensures { result_ok result ≡ ipv4_parsed (is_received caps.now.ipv4) packet.now.buffer.now }
     {
@@ -230,7 +228,11 @@ impl Ipv4Repr {
 fn verifies(packet: &Ipv4Packet<'_>) -> bool
     ensures { result ≡ checksum_holds packet.now.buffer.now }
 {
-    sum_after(0, &packet.buffer[..packet.header_len()]) == 0xffff
+    let header = &packet.buffer[..packet.header_len()];
+    if header.len() == 20 {
+        return sum_of_twenty(header) == 0xffff;
+    }
+    sum_after(0, header) == 0xffff
 }
 
 impl Ipv6Repr {

@@ -1,12 +1,12 @@
 //! Checksums: ones' complement sums of 16-bit words (RFC 1071).
-ghost use Rattle.std.specs.Prelude.{◌≡◌, ◌+◌, ◌*◌, ℕ, List, ◌∷◌, ◌++◌, ◌<◌, ◌≤◌, ◌^◌, drop, length};
+ghost use Rattle.std.specs.Prelude.{◌≡◌, ◌+◌, ◌*◌, ◌/◌, ℕ, List, ◌∷◌, ◌++◌, ◌<◌, ◌≤◌, ◌^◌, drop, length};
 ghost use Rattle.ip_wire.specs.Octets.{IsOctets, be16};
 ghost use Rattle.ip_wire.specs.Address.{octets_of};
 ghost use Rattle.ip_wire.specs.Sum.{IsEven, all_ones, complement, le16_at, le32_at, le64_at, ones_add, pseudo_sum};
 ghost use Rattle.ip_wire.specs.Sum.{sum_after, swapped_word, word_of};
 
 use crate::address::{IpAddress, Ipv4Address};
-use crate::octets::{be32_at, word};
+use crate::octets::be32_at;
 
 /// The sum of two words, a carry out of the sixteen bits added at the other end.
 pub fn ones_add(a: u16, b: u16) -> u16
@@ -23,42 +23,68 @@ pub fn ones_add(a: u16, b: u16) -> u16
 /// Adds the 16-bit words of `bytes` to a sum, in one pass. An odd last byte is padded with 0.
 ///
 /// A sum over pieces is worked out piece by piece, where all but the last have an even length.
+#[tactic(auto, using(crate::proofs::Sums::after_start))]
 pub fn sum_after(start: u16, bytes: &[u8]) -> u16
     ensures { result ≡ sum_after start bytes.now }
 {
-    let mut total = 0;
-    let mut at = 0;
-    while bytes.len() - at >= 32 {
-        total = add_thirty_two(total, bytes, at);
-        at += 32;
+    sum_after_wide(start as usize, 0, bytes)
+}
+
+/// The same behind numbers that were added up before, and others whose words have the low byte first. Neither sum need
+/// be folded, and a segment without a payload has nothing more to be read.
+#[inline(always)]
+#[tactic(auto, using(crate::proofs::Sums::after_nothing))]
+pub fn sum_after_wide(start: usize, swapped: usize, bytes: &[u8]) -> u16
+    requires start { start < 2 ^ 40 }
+    requires swapped { swapped < 2 ^ 36 }
+    ensures { result ≡ sum_after (swapped_word start swapped) bytes.now }
+{
+    if bytes.is_empty() {
+        return swapped_word(start, swapped);
     }
-    while bytes.len() - at >= 8 {
+    sum_by_eights(start, swapped, bytes)
+}
+
+#[inline(never)]
+fn sum_by_eights(start: usize, swapped: usize, bytes: &[u8]) -> u16
+    requires start { start < 2 ^ 40 }
+    requires swapped { swapped < 2 ^ 36 }
+    ensures { result ≡ sum_after (swapped_word start swapped) bytes.now }
+{
+    let mut total = swapped as u128;
+    let mut at = 0;
+    while at < bytes.len() / 64 * 64 {
+        total = add_thirty_two(total, bytes, at);
+        total = add_thirty_two(total, bytes, at + 32);
+        at += 64;
+    }
+    while at < bytes.len() / 8 * 8 {
         total = add_eight(total, bytes, at);
         at += 8;
     }
-    sum_of_few(start, narrowed(total), bytes, at)
+    swapped_word(start, add_few(narrowed(total), bytes))
 }
 
 // Adds the 32 bytes from `at` on to a wide sum, as numbers of eight bytes with the lowest first, which x86-64 loads
 // without a swap: the sum's two bytes are then swapped too (RFC 1071, section 2 (B)). An addition of eight bytes and
 // one of its carry take the place of two additions of four.
 fn add_thirty_two(total: u128, bytes: &[u8], at: usize) -> u128
-    requires small { total < 2 ^ 64 * at + 1 }
+    requires small { total < 2 ^ 64 * at + 2 ^ 36 }
     requires room { at + 32 ≤ length bytes.now }
     ensures value { (start : ℕ) → sum_after (swapped_word start result) (drop (at + 32) bytes.now)
         ≡ sum_after (swapped_word start total) (drop at bytes.now) }
-    ensures small { result < 2 ^ 64 * (at + 32) + 1 }
+    ensures small { result < 2 ^ 64 * (at + 32) + 2 ^ 36 }
 {
     let first = total + le64_at(bytes, at) + le64_at(bytes, at + 8);
     first + le64_at(bytes, at + 16) + le64_at(bytes, at + 24)
 }
 
 fn add_eight(total: u128, bytes: &[u8], at: usize) -> u128
-    requires small { total < 2 ^ 64 * at + 1 }
+    requires small { total < 2 ^ 64 * at + 2 ^ 36 }
     requires room { at + 8 ≤ length bytes.now }
     ensures value { (start : ℕ) → sum_after (swapped_word start result) (drop (at + 8) bytes.now)
         ≡ sum_after (swapped_word start total) (drop at bytes.now) }
-    ensures small { result < 2 ^ 64 * (at + 8) + 1 }
+    ensures small { result < 2 ^ 64 * (at + 8) + 2 ^ 36 }
 {
     total + le64_at(bytes, at)
 }
@@ -72,39 +98,69 @@ fn le64_at(bytes: &[u8], at: usize) -> u128
     (le32_at(bytes, at) + 0x1_0000_0000 * le32_at(bytes, at + 4)) as u128
 }
 
-// A wide sum with its four quarters added up: it comes to the same.
+// A wide sum with its upper half added to the lower one, and again: it comes to the same.
 fn narrowed(total: u128) -> usize
     ensures value { (start : ℕ) → swapped_word start result ≡ swapped_word start total }
+    ensures small { result < 2 ^ 33 }
+{
+    halved(carried(total))
+}
+
+// A wide sum with its upper half added to the lower one, and the carry of that.
+fn carried(total: u128) -> usize
+    ensures { (start : ℕ) → swapped_word start result ≡ swapped_word start total }
+{
+    let once = total % 0x1_0000_0000_0000_0000 + total / 0x1_0000_0000_0000_0000;
+    (once % 0x1_0000_0000_0000_0000 + once / 0x1_0000_0000_0000_0000) as usize
+}
+
+// Adds the last bytes, fewer than eight, to a wide sum: each test looks at one bit of how many there are.
+fn add_few(total: usize, bytes: &[u8]) -> usize
+    requires { total < 2 ^ 33 }
+    ensures value { (start : ℕ) → swapped_word start result
+        ≡ sum_after (swapped_word start total) (drop (length bytes.now / 8 * 8) bytes.now) }
+    ensures small { result < 2 ^ 35 }
+{
+    add_last(add_pair(add_four(total, bytes), bytes), bytes)
+}
+
+// Adds the four bytes behind the last eight, where there are as many.
+fn add_four(total: usize, bytes: &[u8]) -> usize
+    requires { total < 2 ^ 33 }
+    ensures value { (start : ℕ) → sum_after (swapped_word start result) (drop (length bytes.now / 4 * 4) bytes.now)
+        ≡ sum_after (swapped_word start total) (drop (length bytes.now / 8 * 8) bytes.now) }
     ensures small { result < 2 ^ 34 }
 {
-    let low = (total % 0x1_0000_0000_0000_0000) as usize;
-    let high = (total / 0x1_0000_0000_0000_0000) as usize;
-    let lower = low % 0x1_0000_0000 + low / 0x1_0000_0000;
-    lower + (high % 0x1_0000_0000 + high / 0x1_0000_0000)
-}
-
-// Adds the last bytes, fewer than eight, to a start and a wide sum.
-fn sum_of_few(start: u16, total: usize, bytes: &[u8], at: usize) -> u16
-    requires small { total < 2 ^ 34 }
-    requires within { at ≤ length bytes.now }
-    requires few { length bytes.now < at + 8 }
-    ensures { result ≡ sum_after (swapped_word start total) (drop at bytes.now) }
-{
-    if bytes.len() - at < 4 {
-        return sum_of_rest(swapped_word(start, total), bytes, at);
+    if bytes.len() % 8 < 4 {
+        return total;
     }
-    let total = add_four(total, bytes, at);
-    sum_of_rest(swapped_word(start, total), bytes, at + 4)
+    total + le32_at(bytes, bytes.len() / 8 * 8)
 }
 
-fn add_four(total: usize, bytes: &[u8], at: usize) -> usize
-    requires small { total < 2 ^ 62 }
-    requires room { at + 4 ≤ length bytes.now }
-    ensures value { (start : ℕ) → sum_after (swapped_word start result) (drop (at + 4) bytes.now)
-        ≡ sum_after (swapped_word start total) (drop at bytes.now) }
-    ensures small { result < total + 2 ^ 32 }
+// Adds the two bytes behind the last four, where there are as many.
+fn add_pair(total: usize, bytes: &[u8]) -> usize
+    requires { total < 2 ^ 34 }
+    ensures value { (start : ℕ) → sum_after (swapped_word start result) (drop (length bytes.now / 2 * 2) bytes.now)
+        ≡ sum_after (swapped_word start total) (drop (length bytes.now / 4 * 4) bytes.now) }
+    ensures small { result < 2 ^ 34 + 2 ^ 16 }
 {
-    total + le32_at(bytes, at)
+    if bytes.len() % 4 < 2 {
+        return total;
+    }
+    total + le16_at(bytes, bytes.len() / 4 * 4)
+}
+
+// Adds the last byte, where it has no other beside it.
+fn add_last(total: usize, bytes: &[u8]) -> usize
+    requires { total < 2 ^ 34 + 2 ^ 16 }
+    ensures value { (start : ℕ) → swapped_word start result
+        ≡ sum_after (swapped_word start total) (drop (length bytes.now / 2 * 2) bytes.now) }
+    ensures small { result < 2 ^ 35 }
+{
+    if bytes.len() % 2 == 0 {
+        return total;
+    }
+    total + bytes[bytes.len() - 1] as usize
 }
 
 // The number of the four bytes at `at`, the lowest first.
@@ -126,8 +182,7 @@ fn le16_at(bytes: &[u8], at: usize) -> usize
 
 // A wide sum with its upper half added to the lower one: it comes to the same.
 fn halved(total: usize) -> usize
-    requires { total < 2 ^ 62 }
-    ensures word { word_of result ≡ word_of total }
+    ensures word { (more : ℕ) → word_of (result + more) ≡ word_of (total + more) }
     ensures value { (start : ℕ) → swapped_word start result ≡ swapped_word start total }
     ensures small { result < 2 ^ 33 }
 {
@@ -135,51 +190,41 @@ fn halved(total: usize) -> usize
 }
 
 // A start and a wide sum of numbers with the lowest byte first, as a word.
-fn swapped_word(start: u16, total: usize) -> u16
-    requires { total < 2 ^ 62 }
+fn swapped_word(start: usize, total: usize) -> u16
+    requires start { start < 2 ^ 40 }
+    requires total { total < 2 ^ 37 }
     ensures { result ≡ swapped_word start total }
 {
-    folded(halved(start as usize + 256 * halved(total)))
+    folded(start + 256 * total)
 }
 
 // A wide sum as a word, each carry added at the other end.
+#[tactic(auto, using(crate::proofs::Sums::quarters))]
 fn folded(total: usize) -> u16
-    requires { total < 2 ^ 33 }
+    requires { total < 2 ^ 47 }
     ensures { result ≡ word_of total }
 {
-    let once = total % 0x10000 + total / 0x10000;
-    let twice = once % 0x10000 + once / 0x10000;
-    if twice < 0x10000 {
-        twice as u16
-    } else {
-        (twice - 0xffff) as u16
-    }
+    both_halves((total % 0x10000 + total / 0x10000) as u32)
 }
 
-// Adds the last bytes, fewer than four.
-fn sum_of_rest(sum: u16, bytes: &[u8], at: usize) -> u16
-    requires within { at ≤ length bytes.now }
-    requires few { length bytes.now < at + 4 }
-    ensures { result ≡ sum_after sum (drop at bytes.now) }
+// The two halves of a number added up: beside them stand the same two in the other order, so that the carry of one sum
+// is added to the other. No test and no jump.
+#[tactic(auto, using(crate::proofs::Sums::turned))]
+fn both_halves(total: u32) -> u16
+    ensures { result ≡ word_of total }
 {
-    if at + 1 >= bytes.len() {
-        return sum_of_last(sum, bytes, at);
-    }
-    let sum = ones_add(sum, word(bytes[at], bytes[at + 1]));
-    sum_of_last(sum, bytes, at + 2)
+    let turned = total % 0x10000 * 0x10000 + total / 0x10000;
+    ((total as usize + turned as usize) / 0x10000 % 0x10000) as u16
 }
 
-// Adds the last byte, if there is one.
-fn sum_of_last(sum: u16, bytes: &[u8], at: usize) -> u16
-    requires within { at ≤ length bytes.now }
-    requires few { length bytes.now ≤ at + 1 }
-    ensures { result ≡ sum_after sum (drop at bytes.now) }
+/// The sum of 20 bytes, as a header without options has, with no loop and no call.
+#[inline(always)]
+pub fn sum_of_twenty(octets: &[u8]) -> u16
+    requires { length octets.now ≡ 20 }
+    ensures { result ≡ sum_after 0 octets.now }
 {
-    if at < bytes.len() {
-        ones_add(sum, word(bytes[at], 0))
-    } else {
-        sum
-    }
+    let first = le32_at(octets, 0) + le32_at(octets, 4) + le32_at(octets, 8);
+    swapped_word(0, first + le32_at(octets, 12) + le32_at(octets, 16))
 }
 
 /// The checksum of `bytes`, and of what was summed before: the complement of the sum.
@@ -207,12 +252,25 @@ pub fn word_of(total: usize) -> u16
 }
 
 /// The sum of two IPv4 addresses and of words that were added up before.
-#[tactic(auto, using(crate::proofs::Sums::two_after))]
+#[tactic(auto, using(crate::proofs::Sums::addresses_after))]
 pub fn sum_with_addresses(total: usize, src: &Ipv4Address, dst: &Ipv4Address) -> u16
     requires { total < 2 ^ 60 }
     ensures { result ≡ sum_after (word_of total) (src.now.0 ++ dst.now.0) }
 {
-    word_of(total + four_octets(&src.0) + four_octets(&dst.0))
+    swapped_word(
+        halved(total),
+        swapped_octets(&src.0) + swapped_octets(&dst.0),
+    )
+}
+
+/// The octets of an IPv4 address as a number, the lowest first: what they add to a sum of such numbers.
+pub fn swapped_octets(octets: &[u8; 4]) -> usize
+    ensures value { (start total : ℕ) → sum_after (swapped_word start total) octets.now
+        ≡ swapped_word start (total + result) }
+    ensures length { length octets.now ≡ 4 }
+    ensures small { result < 2 ^ 32 }
+{
+    le32_at(octets, 0)
 }
 
 // The sum of an address as numbers of four bytes, not folded.
