@@ -112,6 +112,14 @@ impl Columns {
         }
     }
 
+    /// Whether the second key of this place has the least first part, where it has one.
+    pub(crate) fn is_least_door(&self, place: usize) -> bool {
+        match self.doors.get(place) {
+            Some(door) => *door == 0,
+            None => false,
+        }
+    }
+
     /// Whether this key is there. Where the answer is no, it says nothing.
     pub(crate) fn has(&self, which: Which, entry: Entry) -> bool
         requires { AreAsMany self.now }
