@@ -1,5 +1,5 @@
 -- First places that are known stay first.
-use Rattle.std.proofs.Common.{◌≡◌, ◌∙◌, ℕ, ◌*◌, ◌/◌, ◌<◌, ◌≤◌, List, [], ◌∷◌, suc, zero, Bool, true, false, length, get_or, nat_eq, refl, sym, subst, ap, arith}
+use Rattle.std.proofs.Common.{◌≡◌, ◌∙◌, ℕ, ◌*◌, ◌/◌, ◌<◌, ◌≤◌, List, [], ◌∷◌, suc, zero, Bool, true, false, length, get_or, nat_eq, nat_lt, refl, sym, subst, ap, arith}
 use Rattle.std.specs.Prelude.{IfSome, Option, Some, None, slice_set}
 use Rattle.std.specs.List.{insert, remove}
 use Rattle.std.proofs.lemmas.List.{get_or-set_other}
@@ -7,10 +7,10 @@ use Rattle.host_index.specs.declared.columns.Columns.{Columns}
 use Rattle.host_index.specs.declared.entry.Entry.{Entry}
 use Rattle.host_index.specs.Columns.{Frees, IsPut, Puts, entry_in, is_free}
 use Rattle.host_index.specs.Entries.{IsFirst, Splits, entry_at, has, is_entry, rank}
-use Rattle.host_index.specs.Indexing.{IsAmong, IsIndex, IsOrdered, entries_in, number_at}
+use Rattle.host_index.specs.Indexing.{AreBefore, IsAmong, IsIndex, IsOrdered, entries_in, number_at}
 use Rattle.host_index.specs.Known.{AreFirst, IsFirstIf, IsFirstIn, known_at, learned, slot_of}
 use Rattle.host_index.proofs.Entered.{has_in, inserted_back, none_before, removed_back, same_entry}
-use Rattle.host_index.proofs.Numbers.{as_many, entry_of, equal, not_free, sorted}
+use Rattle.host_index.proofs.Numbers.{as_many, entry_of, equal, not_free, sorted, splits_here}
 
 -- what is among the numbers is among the entries
 pub among_entries : (c : Columns) (os : List ℕ) (n : ℕ) (e : Entry) → IsAmong os n → entry_in c n ≡ e → has (entries_in c os) e ≡ true
@@ -132,3 +132,16 @@ first_of c os key p n (Some m) ordered s least within number h = record {
   here = ap (entry_in c) (sym h.0) ∙ h.1;
   before = none_before (entries_in c os) key p m (sorted c os ordered) s least (subst (λ l. p < l) (sym (as_many c os)) within) (entry_of c os p within ∙ ap (entry_in c) number ∙ h.1);
 }
+
+-- a place that has a key is the first under it, where all before its entry stand before the key
+pub first_here : (c : Columns) (os : List ℕ) (key : Entry) (p place : ℕ) → IsOrdered c os → key.place ≡ 0 → p < length os → number_at os p ≡ 2 * place → IsPut (2 * place) (entry_at key place) c → AreBefore c os (rank key) p → IsFirstIn c os key place
+first_here c os key p place ordered least within number put before = record {
+  here = put.here;
+  before = none_before (entries_in c os) key p place (sorted c os ordered) (splits_here c os (rank key) p ordered within before not_less) least (subst (λ l. p < l) (sym (as_many c os)) within) (entry_of c os p within ∙ is);
+}
+  where
+    is : entry_in c (number_at os p) ≡ entry_at key place
+    is = ap (entry_in c) number ∙ put.here
+
+    not_less : nat_lt (rank (entry_in c (number_at os p))) (rank key) ≡ false
+    not_less = let same : rank (entry_in c (number_at os p)) ≡ rank (entry_at key place) = ap rank is in grind (arith, same, least)

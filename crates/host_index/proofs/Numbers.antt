@@ -9,7 +9,7 @@ use Rattle.host_index.specs.declared.entry.Entry.{Entry}
 use Rattle.std.proofs.lemmas.List.Edits.{get_or-insert_above, get_or-insert_at, get_or-insert_below, get_or-remove_above, get_or-remove_below, length-insert, length-remove}
 use Rattle.host_index.specs.Columns.{Frees, Puts, entry_in, is_free}
 use Rattle.host_index.specs.Entries.{IsSortedByRank, Splits, has, nothing, rank, rank_at}
-use Rattle.host_index.specs.Indexing.{AreBefore, IsAmong, IsIndex, IsOrdered, entries_in, number_at}
+use Rattle.host_index.specs.Indexing.{AreBefore, BeginBetween, IsAmong, IsIndex, IsOrdered, entries_in, number_at}
 
 pub entry_of : (c : Columns) (os : List ℕ) (k : ℕ) → k < length os → get_or (entries_in c os) k nothing ≡ entry_in c (number_at os k)
 entry_of c os k within = get_or-map (λ n. entry_in c n) os k 0 nothing within
@@ -115,6 +115,32 @@ module _ (c : Columns) (os : List ℕ) (n m : ℕ) (ordered : IsOrdered c os) (w
           let most : k ≤ m = grind (arith, e) in
           let same : m ≡ k = omega (arith, from, most) in
           subst (λ j. n ≤ at j) same least
+
+  -- a search goes on behind a place, or before it
+  pub begin_behind : at m < n → BeginBetween c os n (m + 1) (length os)
+  begin_behind less = record {
+    order = omega (arith, within);
+    within = omega arith;
+    less = one_below less;
+    more = λ k h there. absurd (omega (arith, h, there));
+  }
+
+  pub begin_before : nat_lt (at m) n ≡ false → BeginBetween c os n 0 m
+  begin_before not_less = record {
+    order = omega arith;
+    within = omega (arith, within);
+    less = λ k h. absurd (omega (arith, h));
+    more = one_above (grind (arith, not_less));
+  }
+
+-- anywhere
+pub begin_anywhere : (c : Columns) (os : List ℕ) (n : ℕ) → BeginBetween c os n 0 (length os)
+begin_anywhere c os n = record {
+  order = omega arith;
+  within = omega arith;
+  less = λ k h. absurd (omega (arith, h));
+  more = λ k h there. absurd (omega (arith, h, there));
+}
 
 -- ---- one more, and one fewer
 

@@ -1,5 +1,5 @@
 -- Keys in order, by their numbers.
-use Rattle.std.specs.Prelude.{ℕ, ◌≡◌, ◌<◌, ◌/◌, false, List, length, get_or}
+use Rattle.std.specs.Prelude.{ℕ, ◌≡◌, ◌<◌, ◌≤◌, ◌/◌, false, List, length, get_or}
 use mathlib.Core.List.{map}
 use Rattle.host_index.specs.Columns.{AreAsMany, entry_in, is_free}
 use Rattle.host_index.specs.Entries.{rank}
@@ -20,6 +20,13 @@ IsOrdered c os =
 -- those before this place are of a lesser rank
 pub record AreBefore (c : Columns) (os : List ℕ) (n p : ℕ) : Type 0 where
   pub less : (k : ℕ) → k < p → rank (entry_in c (number_at os k)) < n
+
+-- those of a rank begin from one place on, and not behind another
+pub record BeginBetween (c : Columns) (os : List ℕ) (n from end : ℕ) : Type 0 where
+  pub order : from ≤ end
+  pub within : end ≤ length os
+  pub less : (k : ℕ) → k < from → rank (entry_in c (number_at os k)) < n
+  pub more : (k : ℕ) → end ≤ k → k < length os → n ≤ rank (entry_in c (number_at os k))
 
 -- it is the number of one of them
 pub record IsAmong (os : List ℕ) (n : ℕ) : Type 0 where

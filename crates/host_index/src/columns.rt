@@ -68,17 +68,17 @@ impl Columns {
         requires { AreAsMany self.now }
         ensures { result ≡ first_in self.now place }
     {
-        match (self.majors.get(place), self.minors.get(place)) {
-            (Some(major), Some(minor)) => Entry {
-                major: *major,
-                minor: u64::from(*minor),
-                place,
-            },
-            _ => Entry {
+        if place >= self.majors.len() {
+            return Entry {
                 major: 0,
                 minor: 0,
                 place,
-            },
+            };
+        }
+        Entry {
+            major: self.majors[place],
+            minor: u64::from(self.minors[place]),
+            place,
         }
     }
 
@@ -86,17 +86,17 @@ impl Columns {
         requires { AreAsMany self.now }
         ensures { result ≡ second_in self.now place }
     {
-        match (self.doors.get(place), self.moments.get(place)) {
-            (Some(door), Some(moment)) => Entry {
-                major: LEAST + u128::from(*door),
-                minor: *moment,
-                place,
-            },
-            _ => Entry {
+        if place >= self.majors.len() {
+            return Entry {
                 major: LEAST,
                 minor: 0,
                 place,
-            },
+            };
+        }
+        Entry {
+            major: LEAST + u128::from(self.doors[place]),
+            minor: self.moments[place],
+            place,
         }
     }
 
@@ -109,6 +109,14 @@ impl Columns {
             self.first(number / 2)
         } else {
             self.second(number / 2)
+        }
+    }
+
+    /// Whether the second key of this place has the least first part, where it has one.
+    pub(crate) fn is_least_door(&self, place: usize) -> bool {
+        match self.doors.get(place) {
+            Some(door) => *door == 0,
+            None => false,
         }
     }
 
@@ -127,26 +135,20 @@ impl Columns {
         requires { AreAsMany self.now }
         ensures { result ≡ true → IsPut (2 * entry.place) entry self.now }
     {
-        match (self.majors.get(entry.place), self.minors.get(entry.place)) {
-            (Some(major), Some(minor)) => {
-                *major == entry.major && *major != NO_MAJOR && u64::from(*minor) == entry.minor
-            }
-            _ => false,
-        }
+        entry.place < self.majors.len()
+            && entry.major != NO_MAJOR
+            && self.majors[entry.place] == entry.major
+            && u64::from(self.minors[entry.place]) == entry.minor
     }
 
     fn has_second(&self, entry: Entry) -> bool
         requires { AreAsMany self.now }
         ensures { result ≡ true → IsPut (2 * entry.place + 1) entry self.now }
     {
-        match (self.doors.get(entry.place), self.moments.get(entry.place)) {
-            (Some(door), Some(moment)) => {
-                *moment == entry.minor
-                    && *moment != NO_MINOR
-                    && LEAST + u128::from(*door) == entry.major
-            }
-            _ => false,
-        }
+        entry.place < self.majors.len()
+            && entry.minor != NO_MINOR
+            && self.moments[entry.place] == entry.minor
+            && LEAST + u128::from(self.doors[entry.place]) == entry.major
     }
 
     /// Whether the key of this number is free, or of no place.
@@ -155,15 +157,9 @@ impl Columns {
         ensures { result ≡ false → (number / 2 < length self.now.majors.items) × (is_free self.now number ≡ false) }
     {
         if number % 2 == 0 {
-            match self.majors.get(number / 2) {
-                Some(major) => *major == NO_MAJOR,
-                None => true,
-            }
+            self.majors.len() <= number / 2 || self.majors[number / 2] == NO_MAJOR
         } else {
-            match self.moments.get(number / 2) {
-                Some(moment) => *moment == NO_MINOR,
-                None => true,
-            }
+            self.majors.len() <= number / 2 || self.moments[number / 2] == NO_MINOR
         }
     }
 

@@ -4,23 +4,18 @@ ghost use Rattle.std.specs.Prelude.{[]};
 ghost use Rattle.host_index.specs.Columns.{AreAsMany, entry_in};
 ghost use Rattle.host_index.specs.Entries.{IsFirst, IsSortedByRank, Keeps, KeepsBut, KeepsElsewhere, Splits, entry_at};
 ghost use Rattle.host_index.specs.Entries.{has, nothing, rank};
-ghost use Rattle.host_index.specs.Indexing.{AreBefore, IsOrdered, entries_in, number_at};
+ghost use Rattle.host_index.specs.Indexing.{AreBefore, BeginBetween, IsOrdered, entries_in, number_at};
 ghost use Rattle.host_index.specs.Known.{IsFirstIn};
 
 use crate::columns::{Columns, number_of};
 use crate::entry::{Entry, Which, is_entry, is_key_less, is_less};
+use crate::guesses::Guesses;
 use crate::known::Known;
 use std::alloc::{AllocError, Global};
 use std::marker::Model;
 
 // Among how many numbers one is looked for that goes.
 const WINDOW: usize = 32;
-
-// So far before the place of the order where the last one went: first keys go as their connections came, and second
-// ones both where a connection opens and where it rests.
-const BEFORE_FIRST: usize = 3;
-
-const BEFORE_SECOND: usize = 16;
 
 /// Entries in order, of keys and of places under a key: of each place at most one first and one second key.
 ///
@@ -35,9 +30,7 @@ pub struct Index {
     begins: usize,
     // first places under keys that were sought or added: a place that is known is mostly the right one
     known: Known,
-    // from where on a first and a second key are looked for that goes: before where the last one went
-    near_first: usize,
-    near_second: usize,
+    guesses: Guesses,
 }
 
 impl Model for Index {
@@ -111,27 +104,17 @@ fn entry_at(columns: &Columns, order: &[u32], place: usize) -> Entry
     columns.get(order[place] as usize)
 }
 
-// Whether no entry stands before the key.
-fn is_before_all(columns: &Columns, order: &[u32], key: Entry) -> bool
-    requires as_many { AreAsMany columns.now }
-    requires ordered { IsOrdered columns.now order.now }
-    ensures { result ≡ true → Splits (entries_in columns.now order.now) (rank key) 0 }
-{
-    if order.len() == 0 {
-        return true;
-    }
-    !is_less(entry_at(columns, order, 0), key)
-}
-
-// Where the entries under a key begin. Not inlined, as four ways lead here that mostly spare it.
+// Where the entries under a key begin, which is from one place of the order on and not behind another. Not inlined, as
+// three ways lead here that mostly spare it.
 #[inline(never)]
-fn lower(columns: &Columns, order: &[u32], key: Entry) -> usize
+fn lower_between(columns: &Columns, order: &[u32], key: Entry, from: usize, end: usize) -> usize
     requires as_many { AreAsMany columns.now }
     requires ordered { IsOrdered columns.now order.now }
+    requires begins { BeginBetween columns.now order.now (rank key) from end }
     ensures { Splits (entries_in columns.now order.now) (rank key) result }
 {
-    let mut low = 0;
-    let mut high = order.len();
+    let mut low = from;
+    let mut high = end;
     while low < high {
         let middle = low + (high - low) / 2;
         if is_less(entry_at(columns, order, middle), key) {
@@ -164,20 +147,45 @@ fn is_behind_them(columns: &Columns, order: &[u32], place: usize, key: Entry) ->
     place == 0 || is_before_at(columns, order, place - 1, key)
 }
 
-// Whether the entries under a key begin at this place of the order.
-#[tactic(auto, using(crate::proofs::Numbers::splits_here))]
-fn begins_at(columns: &Columns, order: &[u32], place: usize, key: Entry) -> bool
-    requires as_many { AreAsMany columns.now }
-    requires ordered { IsOrdered columns.now order.now }
-    ensures { result ≡ true → Splits (entries_in columns.now order.now) (rank key) place }
+fn is_there(order: &[u32], place: usize, number: usize) -> bool
+    ensures within { result ≡ true → place < length order.now }
+    ensures number { result ≡ true → number_at order.now place ≡ number }
 {
-    if place >= order.len() || !is_behind_them(columns, order, place, key) {
-        return false;
+    match order.get(place) {
+        Some(there) => *there as usize == number,
+        None => false,
     }
-    !is_before_at(columns, order, place, key)
 }
 
-// The same as `lower`, by one look where no entry stands behind the key, as where the ports of connections rise.
+// The place, where it is the first under the key, as its first key, which stands at this place of the order.
+#[tactic(auto, using(crate::proofs::Firsts::first_here))]
+fn first_at(columns: &Columns, order: &[u32], at: usize, key: Entry, place: usize) -> Option<u32>
+    requires as_many { AreAsMany columns.now }
+    requires ordered { IsOrdered columns.now order.now }
+    requires least { key.place ≡ 0 }
+    ensures { IfSome result (λ place. IsFirstIn columns.now order.now key place) }
+{
+    if columns.has(Which::First, entry_of(key, place))
+        && is_there(order, at, number_of(Which::First, place))
+        && is_behind_them(columns, order, at, key)
+    {
+        Some(place as u32)
+    } else {
+        None
+    }
+}
+
+// Where the entries under a key begin, by a search.
+fn lower(columns: &Columns, order: &[u32], key: Entry) -> usize
+    requires as_many { AreAsMany columns.now }
+    requires ordered { IsOrdered columns.now order.now }
+    ensures { Splits (entries_in columns.now order.now) (rank key) result }
+{
+    lower_between(columns, order, key, 0, order.len())
+}
+
+// The same, by one look where no entry stands behind the key, as where the ports of connections rise.
+#[inline(always)]
 #[tactic(auto, using(crate::proofs::Numbers::splits_behind))]
 fn lower_or_end(columns: &Columns, order: &[u32], key: Entry) -> usize
     requires as_many { AreAsMany columns.now }
@@ -191,6 +199,26 @@ fn lower_or_end(columns: &Columns, order: &[u32], key: Entry) -> usize
     lower(columns, order, key)
 }
 
+// The same, by two looks where the guess is right; where it is not, it is searched for before or behind it.
+#[inline(always)]
+#[tactic(auto, using(crate::proofs::Numbers::splits_here))]
+fn lower_by(columns: &Columns, order: &[u32], key: Entry, guess: usize) -> usize
+    requires as_many { AreAsMany columns.now }
+    requires ordered { IsOrdered columns.now order.now }
+    ensures { Splits (entries_in columns.now order.now) (rank key) result }
+{
+    if guess >= order.len() {
+        return lower_or_end(columns, order, key);
+    }
+    if is_before_at(columns, order, guess, key) {
+        return lower_between(columns, order, key, guess + 1, order.len());
+    }
+    if is_behind_them(columns, order, guess, key) {
+        return guess;
+    }
+    lower_between(columns, order, key, 0, guess)
+}
+
 // Where a number stands, of a few from this place of the order on: keys that go one after another mostly stand near,
 // and these looks at numbers side by side spare a search.
 fn near(order: &[u32], number: u32, from: usize) -> Option<usize> {
@@ -201,28 +229,6 @@ fn near(order: &[u32], number: u32, from: usize) -> Option<usize> {
         }
     }
     None
-}
-
-fn is_there(order: &[u32], place: usize, number: usize) -> bool
-    ensures within { result ≡ true → place < length order.now }
-    ensures number { result ≡ true → number_at order.now place ≡ number }
-{
-    match order.get(place) {
-        Some(there) => *there as usize == number,
-        None => false,
-    }
-}
-
-// The same as `lower`, by one look where no entry stands before the key.
-fn begin(columns: &Columns, order: &[u32], key: Entry) -> usize
-    requires as_many { AreAsMany columns.now }
-    requires ordered { IsOrdered columns.now order.now }
-    ensures { Splits (entries_in columns.now order.now) (rank key) result }
-{
-    if is_before_all(columns, order, key) {
-        return 0;
-    }
-    lower(columns, order, key)
 }
 
 impl Index {
@@ -239,8 +245,7 @@ impl Index {
             sought: least_key(),
             begins: 0,
             known: Known::new(alloc)?,
-            near_first: 0,
-            near_second: 0,
+            guesses: Guesses::new(),
         })
     }
 
@@ -259,7 +264,8 @@ impl Index {
         entry_at(&self.columns, &self.order, place)
     }
 
-    /// Where the entries under this key begin. It is not searched for where it was sought last.
+    /// Where the entries under this key begin. It is not searched for where it was sought last, or where the guess for
+    /// second keys that rest is right.
     pub fn lower(&self, key: Entry) -> usize
         ensures splits { Splits self.now (rank key) result }
         ensures sorted { IsSortedByRank self.now }
@@ -267,7 +273,7 @@ impl Index {
         if is_entry(key, self.sought) {
             return self.begins;
         }
-        begin(&self.columns, &self.order, key)
+        lower_by(&self.columns, &self.order, key, self.guesses.rests)
     }
 
     /// Seeks a key, so that `known` tells the first place under it, and `lower` does not search for it until an entry
@@ -338,10 +344,11 @@ impl Index {
         ensures added { result ≡ true → has self.new entry ≡ true }
         ensures kept { Keeps self.old self.new }
     {
-        let place = lower_or_end(&self.columns, &self.order, entry);
+        let guess = self.guesses.to_add(which, entry, self.order.len());
+        let place = lower_by(&self.columns, &self.order, entry, guess);
         let added = self.put_at(place, which, entry);
         if added && which == Which::First {
-            self.learn_at(place, entry_of(entry, 0));
+            self.learn_at(place, entry_of(entry, 0), entry.place);
         }
         added
     }
@@ -361,25 +368,27 @@ impl Index {
         self.sought = least_key();
         self.begins = 0;
         self.known.forget(entry);
+        self.guesses.note_added(which, entry, place);
         self.order.insert(place, number).is_ok()
     }
 
-    // The first place under the key is known, where its entries begin at this place of the order.
-    fn learn_at(&mut self, place: usize, key: Entry)
+    // The place is known as the first under the key, where it is, and was added at this place of the order.
+    fn learn_at(&mut self, at: usize, key: Entry, place: usize)
+        requires { key.place ≡ 0 }
         ensures { self.new ≡ self.old }
     {
-        if begins_at(&self.columns, &self.order, place, key) {
-            self.begins = place;
-            self.sought = key;
-            self.learn();
-        }
+        let first = first_at(&self.columns, &self.order, at, key, place);
+        self.known.learn(key, first);
     }
 
-    // Whether an entry that is not behind this one stands at this place of the order.
+    // Whether an entry that is not behind this one stands at this place of the order. One of another place is behind it.
     fn stands_at(&self, place: usize, entry: Entry) -> bool
+        requires { Splits self.now (rank entry) place }
         ensures { result ≡ false → place < length self.now → rank entry < rank (get_or self.now place nothing) }
     {
-        place < self.len() && !is_less(entry, self.get(place))
+        place < self.order.len()
+            && self.order[place] as usize / 2 == entry.place
+            && !is_less(entry, self.get(place))
     }
 
     /// Removes an entry, where it is there.
@@ -420,35 +429,28 @@ impl Index {
         requires { number < 2147483648 }
         ensures { KeepsElsewhere (number / 2) self.old self.new }
     {
-        let place = self.stands(which, number);
+        let opens = self.columns.is_least_door(number / 2);
+        let place = self.stands(number, self.guesses.to_remove(which, opens));
         if !is_there(&self.order, place, number) {
             return;
         }
         self.take_out(place);
-        self.note(which, place);
+        self.note_removed(which, opens, place);
+    }
+
+    fn note_removed(&mut self, which: Which, opens: bool, place: usize)
+        ensures { self.new ≡ self.old }
+    {
+        self.guesses.note_removed(which, opens, place);
     }
 
     // Where the key of this number stands, which is looked at then.
-    fn stands(&self, which: Which, number: usize) -> usize
+    fn stands(&self, number: usize, from: usize) -> usize
         requires { number < 2147483648 }
     {
-        let from = match which {
-            Which::First => self.near_first,
-            Which::Second => self.near_second,
-        };
         match near(&self.order, number as u32, from) {
             Some(place) => place,
             None => lower(&self.columns, &self.order, self.columns.get(number)),
-        }
-    }
-
-    // A key went from this place of the order.
-    fn note(&mut self, which: Which, place: usize)
-        ensures { self.new ≡ self.old }
-    {
-        match which {
-            Which::First => self.near_first = place.saturating_sub(BEFORE_FIRST),
-            Which::Second => self.near_second = place.saturating_sub(BEFORE_SECOND),
         }
     }
 }

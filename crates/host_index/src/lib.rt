@@ -3,6 +3,7 @@
 
 pub mod columns;
 pub mod entry;
+pub mod guesses;
 pub mod index;
 pub mod known;
 

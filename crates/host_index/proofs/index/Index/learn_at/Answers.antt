@@ -1,6 +1,18 @@
 use Rattle.std.proofs.Common.{subst, sym}
+use Rattle.std.specs.Prelude.{IfSome}
 use Rattle.host_index.specs.Indexing.{IsOrdered}
+use Rattle.host_index.specs.Known.{AreFirst, IsFirstIn}
+use Rattle.host_index.proofs.Firsts.{learned_more}
 use Rattle.host_index.proofs.index.Index.learn_at.Goals as goal
 
-pub begins_at-requires-clause-ordered : goal.begins_at-requires-clause-ordered
-begins_at-requires-clause-ordered c = subst (IsOrdered c.self.inside.columns) (sym c.deref.ensures.value) c.self.invariant.index.ordered
+pub first_at-first-requires-clause-ordered : goal.first_at-first-requires-clause-ordered
+first_at-first-requires-clause-ordered c = subst (IsOrdered c.self.inside.columns) (sym c.deref.ensures.value) c.self.invariant.index.ordered
+
+pub invariant_of-self : goal.invariant_of-self
+invariant_of-self c = record {
+  index = c.self.invariant.index;
+  begins = c.self.invariant.begins;
+  firsts = subst (AreFirst c.self.inside.columns c.self.inside.order.items) (sym c.learn.ensures)
+      (learned_more c.self.inside.columns c.self.inside.order.items c.self.inside.known.places.items c.args.key c.first_at-first.result c.self.invariant.index.as_many.few
+      (subst (λ os. IfSome c.first_at-first.result (λ p. IsFirstIn c.self.inside.columns os c.args.key p)) c.deref.ensures.value c.first_at-first.ensures) c.self.invariant.firsts);
+}

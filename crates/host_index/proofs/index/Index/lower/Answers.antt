@@ -13,8 +13,8 @@ returns-then-is_entry-clause-splits c =
 pub returns-then-is_entry-clause-sorted : goal.returns-then-is_entry-clause-sorted
 returns-then-is_entry-clause-sorted c = subst IsSortedByRank c.self.view_is (sorted c.self.inside.columns c.self.inside.order.items c.self.invariant.index.ordered)
 
-pub begin-requires-clause-ordered : goal.begin-requires-clause-ordered
-begin-requires-clause-ordered c = subst (IsOrdered c.self.inside.columns) (sym c.deref.ensures.value) c.self.invariant.index.ordered
+pub lower_by-requires-clause-ordered : goal.lower_by-requires-clause-ordered
+lower_by-requires-clause-ordered c = subst (IsOrdered c.self.inside.columns) (sym c.deref.ensures.value) c.self.invariant.index.ordered
 
 pub returns-clause-sorted : goal.returns-clause-sorted
 returns-clause-sorted c = subst IsSortedByRank c.self.view_is (sorted c.self.inside.columns c.self.inside.order.items c.self.invariant.index.ordered)

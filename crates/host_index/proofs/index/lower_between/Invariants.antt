@@ -2,7 +2,7 @@ use Rattle.std.proofs.Common.{◌-◌, ◌≤◌, ◌<◌, length, ℕ}
 use Rattle.host_index.specs.Columns.{entry_in}
 use Rattle.host_index.specs.Entries.{rank}
 use Rattle.host_index.specs.Indexing.{number_at}
-use Rattle.host_index.proofs.index.lower.Given as goal
+use Rattle.host_index.proofs.index.lower_between.Given as goal
 
 abbrev pub invariant-loop-low : goal.invariant-loop-low
 invariant-loop-low l = record {

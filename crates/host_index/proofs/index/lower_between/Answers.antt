@@ -1,7 +1,7 @@
 use Rattle.std.proofs.Common.{◌≤◌, length, arith}
 use Rattle.host_index.specs.Entries.{rank}
 use Rattle.host_index.proofs.Numbers.{splits}
-use Rattle.host_index.proofs.index.lower.Goals as goal
+use Rattle.host_index.proofs.index.lower_between.Goals as goal
 
 pub returns : goal.returns
 returns c =
