@@ -1,5 +1,5 @@
 -- Bits of words.
-use Rattle.std.proofs.Common.{◌≡◌, ◌∙◌, ℕ, ◌+◌, ◌-◌, ◌*◌, ◌/◌, ◌%◌, ◌^◌, ◌<◌, ◌≤◌, Bool, true, false, List, length, get_or, nat_eq, nat_lt, suc, zero, refl, sym, ap, subst, arith}
+use Rattle.std.proofs.Common.{◌≡◌, ◌∙◌, ℕ, ◌+◌, ◌-◌, ◌*◌, ◌/◌, ◌%◌, ◌^◌, ◌<◌, ◌≤◌, Bool, true, false, List, length, get_or, min, nat_eq, nat_lt, suc, zero, refl, sym, ap, subst, arith}
 use Rattle.std.specs.Prelude.{slice_set, bit_and, bit_or}
 use Rattle.std.specs.Int.{bit_at}
 use Rattle.std.specs.Int.{w64}
@@ -8,8 +8,8 @@ use Rattle.std.proofs.Math.Nat.{div-div-eq-div-mul, pow-succ'}
 use Rattle.std.proofs.lemmas.Nat.{shr_le}
 use Rattle.std.proofs.lemmas.List.{length-set, get_or-set_other, get_or-set_same, get_or_past}
 use Rattle.std.proofs.lemmas.List.Elements.{All-get_or}
-use Rattle.std.proofs.lemmas.Nat.Bits.{bit_at-lt, bit_at-suc, bit_at-trailing_zeros, bit_at-zero, bit_at_clear_other, bit_at_clear_same, bit_at_set_other, bit_at_set_same, bit_at_ones}
-use Rattle.host_bounds.specs.Marking.{AreNoted, Clears, IsBusy, IsFull, Sets, bit_of}
+use Rattle.std.proofs.lemmas.Nat.Bits.{bit_at-lt, bit_at_above, bit_at-suc, bit_at-trailing_zeros, bit_at-zero, bit_at_clear_other, bit_at_clear_same, bit_at_set_other, bit_at_set_same, bit_at_ones}
+use Rattle.host_bounds.specs.Marking.{AreNoted, Clears, IsBusy, IsFull, IsNextMark, IsNextOne, Sets, bit_of}
 
 pub shifted : (k n i : ℕ) → bit_at n (k + i) ≡ bit_at (n / 2 ^ k) i
 shifted zero n i =
@@ -125,8 +125,8 @@ full_bit ws k full within =
     let low : k % 64 < 64 = omega arith in
     ap (λ x. bit_at x (k % 64)) (All-get_or (λ w. w ≡ 18446744073709551615) ws (k / 64) 0 within full) ∙ bit_at_ones 64 (k % 64) low
 
-pub full_noted : (marks words : List ℕ) → ((k : ℕ) → k < length marks → k / 64 < length words) → IsFull words → AreNoted marks words
-full_noted marks words reach full = record { reach = reach; busy = λ k h. busy k h (nat_lt (k / 64) (length marks)) refl }
+pub full_noted : (marks words : List ℕ) → length marks ≤ 288230376151711744 → ((k : ℕ) → k < length marks → k / 64 < length words) → IsFull words → AreNoted marks words
+full_noted marks words few reach full = record { few = few; reach = reach; busy = λ k h. busy k h (nat_lt (k / 64) (length marks)) refl }
   where
     busy : (k : ℕ) → bit_of marks k ≡ 1 → (b : Bool) → nat_lt (k / 64) (length marks) ≡ b → bit_of words (k / 64) ≡ 1
     busy k h true e = full_bit words (k / 64) full (reach (k / 64) (grind (arith, e)))
@@ -136,34 +136,111 @@ full_noted marks words reach full = record { reach = reach; busy = λ k h. busy 
         absurd (no_one (bit_of marks k) p h)
 
 pub noted_still : (marks marks' words words' : List ℕ) → length marks' ≡ length marks → length words' ≡ length words → IsBusy marks' words' → AreNoted marks words → AreNoted marks' words'
-noted_still marks marks' words words' same len busy was = record { reach = λ k h. subst (λ n. k / 64 < n) (sym len) (was.reach k (subst (λ n. k < n) same h)); busy = busy }
+noted_still marks marks' words words' same len busy was = record { few = subst (λ n. n ≤ 288230376151711744) (sym same) was.few; reach = λ k h. subst (λ n. k / 64 < n) (sym len) (was.reach k (subst (λ n. k < n) same h)); busy = busy }
 
 -- ---- what is found
 
-module _ (marks words : List ℕ) (start zeros next result : ℕ) (busy : IsBusy marks words) where
-  -- in the word of the start, in those behind it, and in the next one
-  pub none_before : ((i : ℕ) → start % 64 ≤ i → i < start % 64 + zeros → bit_at (get_or marks (start / 64) 0) i ≡ 0) → 64 ≤ start % 64 + zeros → ((v : ℕ) → start / 64 + 1 ≤ v → v < next → bit_of words v ≡ 0) → ((k : ℕ) → k / 64 ≡ next → k < result → bit_of marks k ≡ 0) → (result < next * 64 + 65) → (k : ℕ) → start ≤ k → k < result → bit_of marks k ≡ 0
-  none_before here whole behind last bound k from to = go (nat_eq (k / 64) (start / 64)) refl (nat_lt (k / 64) next) refl
+module _ (word bit : ℕ) (fits : word < 2 ^ 64) where
+  pub one_found : 0 < word / 2 ^ bit → IsNextOne word bit (count_trailing_zeros 64 (word / 2 ^ bit))
+  one_found some =
+      let less : word / 2 ^ bit ≤ word = shr_le word bit in
+      let small : word / 2 ^ bit < 2 ^ 64 = omega (arith, fits, less) in
+      let one : bit_at word (bit + count_trailing_zeros 64 (word / 2 ^ bit)) ≡ 1 = shifted bit word (count_trailing_zeros 64 (word / 2 ^ bit)) ∙ (bit_at-trailing_zeros w64 (word / 2 ^ bit) some small).1 in
+      record {
+        within = within (bit + count_trailing_zeros 64 (word / 2 ^ bit)) one;
+        one = one;
+        before = λ i from to. zeros_behind word bit i fits from to;
+      }
     where
-      go : (b : Bool) → nat_eq (k / 64) (start / 64) ≡ b → (d : Bool) → nat_lt (k / 64) next ≡ d → bit_of marks k ≡ 0
-      go true e d f =
-          let same : k / 64 ≡ start / 64 = grind (arith, e) in
-          let low : start % 64 ≤ k % 64 = omega (arith, from, same) in
-          let high : k % 64 < start % 64 + zeros = omega (arith, whole) in
-          ap (λ n. bit_at (get_or marks n 0) (k % 64)) same ∙ here (k % 64) low high
+      within : (i : ℕ) → bit_at word i ≡ 1 → i < 64
+      within i one = go (nat_lt i 64) refl
+        where
+          go : (b : Bool) → nat_lt i 64 ≡ b → i < 64
+          go true e = grind (arith, e)
+          go false e = absurd (no_one (bit_at word i) (bit_at_above word 64 i fits (grind (arith, e))) one)
+
+  pub none_found : word / 2 ^ bit ≡ 0 → (i : ℕ) → bit ≤ i → bit_at word i ≡ 0
+  none_found none i from =
+      let is : bit + (i - bit) ≡ i = omega (arith, from) in
+      ap (bit_at word) (sym is) ∙ shifted bit word (i - bit) ∙ ap (λ n. bit_at n (i - bit)) none ∙ bit_at-zero (i - bit)
+
+module _ (marks : List ℕ) where
+  -- in the word of the start
+  pub next_here : (start zeros : ℕ) → IsNextOne (get_or marks (start / 64) 0) (start % 64) zeros → IsNextMark marks start (start + zeros)
+  next_here start zeros found = record {
+    behind = omega arith;
+    before = before;
+    marked = λ small there. ap (λ n. bit_at (get_or marks n 0) ((start + zeros) % 64)) word ∙ ap (bit_at (get_or marks (start / 64) 0)) bit ∙ found.one;
+  }
+    where
+      word : (start + zeros) / 64 ≡ start / 64
+      word = let h : start % 64 + zeros < 64 = found.within in omega (arith, h)
+
+      bit : (start + zeros) % 64 ≡ start % 64 + zeros
+      bit = let h : start % 64 + zeros < 64 = found.within in omega (arith, h)
+
+      before : (k : ℕ) → start ≤ k → k < start + zeros → bit_of marks k ≡ 0
+      before k from to =
+          let h : start % 64 + zeros < 64 = found.within in
+          let same : k / 64 ≡ start / 64 = omega (arith, from, to, h) in
+          ap (λ n. bit_at (get_or marks n 0) (k % 64)) same ∙ found.before (k % 64) (omega (arith, from, same)) (omega (arith, to, same, h))
+
+  -- none in the rest of a word
+  pub none_here : (start : ℕ) → ((i : ℕ) → start % 64 ≤ i → bit_at (get_or marks (start / 64) 0) i ≡ 0) → (k : ℕ) → start ≤ k → k / 64 ≡ start / 64 → bit_of marks k ≡ 0
+  none_here start none k from same = ap (λ n. bit_at (get_or marks n 0) (k % 64)) same ∙ none (k % 64) (omega (arith, from, same))
+
+  -- in a word behind
+  pub next_there : (start word zeros : ℕ) → start / 64 + 1 ≤ word → ((k : ℕ) → start ≤ k → k < word * 64 → bit_of marks k ≡ 0) → IsNextOne (get_or marks word 0) 0 zeros → IsNextMark marks start (word * 64 + zeros)
+  next_there start word zeros behind none found = record {
+    behind = omega (arith, behind);
+    before = before;
+    marked = λ small there. ap (λ n. bit_at (get_or marks n 0) ((word * 64 + zeros) % 64)) (whole zeros found.within) ∙ ap (bit_at (get_or marks word 0)) (rest zeros found.within) ∙ found.one;
+  }
+    where
+      whole : (z : ℕ) → 0 + z < 64 → (word * 64 + z) / 64 ≡ word
+      whole z h = omega (arith, h)
+
+      rest : (z : ℕ) → 0 + z < 64 → (word * 64 + z) % 64 ≡ 0 + z
+      rest z h = omega (arith, h)
+
+      before : (k : ℕ) → start ≤ k → k < word * 64 + zeros → bit_of marks k ≡ 0
+      before k from to = go (nat_lt k (word * 64)) refl
+        where
+          go : (b : Bool) → nat_lt k (word * 64) ≡ b → bit_of marks k ≡ 0
+          go true e = none k from (grind (arith, e))
+          go false e =
+              let h : 0 + zeros < 64 = found.within in
+              let past : word * 64 ≤ k = grind (arith, e) in
+              let same : k / 64 ≡ word = omega (arith, past, to, h) in
+              ap (λ n. bit_at (get_or marks n 0) (k % 64)) same ∙ found.before (k % 64) (omega arith) (omega (arith, to, past, h))
+
+  -- the words up to the next one that has a mark
+  pub none_up_to : (words : List ℕ) (start word next : ℕ) → IsBusy marks words → ((k : ℕ) → start ≤ k → k < word * 64 → bit_of marks k ≡ 0) → ((i : ℕ) → 0 ≤ i → bit_at (get_or marks word 0) i ≡ 0) → ((v : ℕ) → word + 1 ≤ v → v < next → bit_of words v ≡ 0) → (k : ℕ) → start ≤ k → k < next * 64 → bit_of marks k ≡ 0
+  none_up_to words start word next busy none here behind k from to = go (nat_lt (k / 64) word) refl (nat_eq (k / 64) word) refl
+    where
+      go : (b : Bool) → nat_lt (k / 64) word ≡ b → (d : Bool) → nat_eq (k / 64) word ≡ d → bit_of marks k ≡ 0
+      go true e d f = let before : k / 64 < word = grind (arith, e) in none k from (omega (arith, before))
       go false e true f =
-          let after : start / 64 + 1 ≤ k / 64 = grind (arith, from, e) in
-          let before : k / 64 < next = grind (arith, f) in
+          let same : k / 64 ≡ word = grind (arith, f) in
+          ap (λ n. bit_at (get_or marks n 0) (k % 64)) same ∙ here (k % 64) (omega arith)
+      go false e false f =
+          let after : word + 1 ≤ k / 64 = grind (arith, e, f) in
+          let before : k / 64 < next = omega (arith, to) in
           zero_or (behind (k / 64) after before)
         where
           zero_or : bit_of words (k / 64) ≡ 0 → bit_of marks k ≡ 0
-          zero_or none = by (bit_of marks k) refl (bit_at-lt (get_or marks (k / 64) 0) (k % 64))
+          zero_or none_of = by (bit_of marks k) refl (bit_at-lt (get_or marks (k / 64) 0) (k % 64))
             where
               by : (n : ℕ) → bit_of marks k ≡ n → bit_at (get_or marks (k / 64) 0) (k % 64) < 2 → bit_of marks k ≡ 0
               by zero is less = is
               by (suc n) is less =
                   let one : bit_of marks k ≡ 1 = omega (arith, is, less) in
-                  absurd (no_one (bit_of words (k / 64)) none (busy k one))
-      go false e false f =
-          let there : next ≤ k / 64 = grind (arith, f) in
-          last k (omega (arith, there, to, bound)) to
+                  absurd (no_one (bit_of words (k / 64)) none_of (busy k one))
+
+  -- none in the words that there are
+  pub none_there : (start word result : ℕ) → start < 2 ^ 64 → start / 64 + 1 ≤ word → length marks ≤ word → ((k : ℕ) → start ≤ k → k < word * 64 → bit_of marks k ≡ 0) → result ≡ min (word * 64) 18446744073709551615 → IsNextMark marks start result
+  none_there start word result fits behind past none is = record {
+    behind = omega (arith, behind, is, fits);
+    before = λ k from to. none k from (omega (arith, to, is));
+    marked = λ small there. absurd (omega (arith, small, there, is, past));
+  }

@@ -41,6 +41,13 @@ layered places blocks groups places' blocks' groups' i j k was a b c d e p q = r
   groups_near = q;
 }
 
+-- where no bound of a block is another, the groups stay
+pub layered_still : (places blocks groups places' blocks' : List ℤ) (i j : ℕ) → IsLayered places blocks groups → KeepsBut i places places' → KeepsBut j blocks blocks' → Covers places' blocks' → Nears places' blocks' → ((k : ℕ) → bound_at blocks' k ≡ bound_at blocks k) → IsLayered places' blocks' groups
+layered_still places blocks groups places' blocks' i j was a b d p same = layered places blocks groups places' blocks' groups i j 0 was a b (record { len = refl; others = λ k h. refl }) d
+    (λ k h. subst (λ m. bound_at groups (k / 16) ≤ℤ m) (sym (same k)) (was.groups_cover k (subst (λ n. k < n) b.len h)))
+    p
+    (λ l there n most h. was.groups_near l there n most (λ k inside is. subst (λ m. n ≤ℤ m) (same k) (h k (subst (λ m. k < m) (sym b.len) inside) is)))
+
 -- ---- none later is below all that a bound stands above
 
 -- where one of them was changed, before the bound above it is mended

@@ -1,12 +1,13 @@
 -- Bounds out of marks and times.
-use Rattle.std.proofs.Common.{◌≡◌, ◌∙◌, ℕ, ℤ, ◌+◌, ◌/◌, ◌<◌, ◌≤◌, Bool, true, false, List, [], ◌∷◌, length, nat_eq, suc, zero, refl, sym, ap, subst, arith}
+use Rattle.std.proofs.Common.{◌≡◌, ◌∙◌, ℕ, ℤ, ◌+◌, ◌/◌, ◌%◌, ◌<◌, ◌≤◌, Bool, true, false, List, [], ◌∷◌, length, get_or, nat_eq, nat_lt, suc, zero, refl, sym, ap, subst, arith}
 use Rattle.std.specs.Prelude.{◌≤ℤ◌, ◌<ℤ◌, slice_set, if◌then◌else◌}
 use Rattle.std.specs.List.{All}
 use Rattle.std.proofs.lemmas.Int.{ints}
-use Rattle.std.proofs.lemmas.List.{ext_get_or, get_or-set_same, length-set}
-use Rattle.std.proofs.lemmas.List.Elements.{All-from_get_or}
+use Rattle.std.proofs.lemmas.List.{ext_get_or, get_or-set_same, get_or_past, length-set}
+use Rattle.std.proofs.lemmas.Nat.Bits.{bit_at-lt}
+use Rattle.std.proofs.lemmas.List.Elements.{All-from_get_or, All-get_or}
 use Rattle.host_bounds.specs.Bounding.{IsBelowAll, IsGreatest, at_once, bound_at}
-use Rattle.host_bounds.specs.Marking.{AllMarked, AreBounds, Clears, Sets, bit_of, merged}
+use Rattle.host_bounds.specs.Marking.{AllMarked, AreBounds, Clears, IsFirstMark, Sets, bit_of, merged}
 use Rattle.host_bounds.proofs.Layers.{set_elsewhere}
 
 pub merged_len : (i : ℕ) (ws : List ℕ) (ts : List ℤ) → length (merged i ws ts) ≡ length ts
@@ -87,9 +88,31 @@ module _ (ws us : List ℕ) (ts : List ℤ) (place : ℕ) (there : place < lengt
           grind (arith, ints, p, later)
       floor k false e = subst (λ z. at_once ≤ℤ z) (sym (set_elsewhere ts k place m e)) (was.floor k)
 
+-- a place that is not marked is as one whose mark was taken off
+pub was_clear : (ws : List ℕ) (place : ℕ) → nat_eq (bit_of ws place) 1 ≡ false → Clears place ws ws
+was_clear ws place off = record {
+  len = refl;
+  here = (let less : bit_of ws place < 2 = bit_at-lt (get_or ws (place / 64) 0) (place % 64) in grind (arith, less, off));
+  others = λ k h. refl;
+}
+
 -- all are marked
 pub all_at_once : (ws : List ℕ) (ts : List ℤ) → AllMarked ws → ((k : ℕ) → k < length ts → k / 64 < length ws) → All (λ b. b ≡ at_once) (merged 0 ws ts)
 all_at_once ws ts all reach = All-from_get_or (λ b. b ≡ at_once) (merged 0 ws ts) at_once (λ k h. marked_is ws ts k (all k (reach k (subst (λ n. k < n) (merged_len 0 ws ts) h))))
+
+pub floor_of_least : (ts : List ℤ) → All (λ m. m ≡ at_once) ts → (k : ℕ) → at_once ≤ℤ bound_at ts k
+floor_of_least ts all k = subst (λ m. at_once ≤ℤ m) (sym (at (nat_lt k (length ts)) refl)) (grind (arith, ints))
+  where
+    at : (b : Bool) → nat_lt k (length ts) ≡ b → bound_at ts k ≡ at_once
+    at true e = All-get_or (λ m. m ≡ at_once) ts k at_once (grind (arith, e)) all
+    at false e = get_or_past ts k at_once (grind (arith, e))
+
+pub first_of_any : (ws : List ℕ) (count : ℕ) → AllMarked ws → ((k : ℕ) → k < count → k / 64 < length ws) → IsFirstMark ws count 0 false
+first_of_any ws count all reach = record {
+  marked = λ there. all 0 (reach 0 there);
+  before = λ k before. absurd (omega (arith, before));
+  behind = λ h. absurd (grind (arith, h));
+}
 
 -- before what is not marked
 pub none_asked : (ws : List ℕ) (ts : List ℤ) (start stop : ℕ) (now : ℤ) → ((k : ℕ) → start ≤ k → k < stop → bit_of ws k ≡ 0) → ((k : ℕ) → start ≤ k → k < stop → now <ℤ bound_at ts k) → (k : ℕ) → start ≤ k → k < stop → now <ℤ bound_at (merged 0 ws ts) k

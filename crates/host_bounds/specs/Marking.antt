@@ -1,6 +1,6 @@
 -- Marks of places, as bits in words of 64.
-use Rattle.std.specs.Prelude.{ℕ, ℤ, ◌≡◌, ◌/◌, ◌%◌, ◌<◌, ◌≤ℤ◌, nat_eq, suc, Bool, true, false, List, [], ◌∷◌, length}
-use Rattle.std.specs.Prelude.{get_or, if◌then◌else◌}
+use Rattle.std.specs.Prelude.{ℕ, ℤ, ◌≡◌, ◌+◌, ◌/◌, ◌%◌, ◌<◌, ◌≤◌, ◌≤ℤ◌, nat_eq, suc, Bool, true, false, List, [], ◌∷◌}
+use Rattle.std.specs.Prelude.{Option, Some, None, length, get_or, if◌then◌else◌}
 use Rattle.std.specs.Int.{bit_at}
 use Rattle.std.specs.List.{All}
 use Rattle.host_bounds.specs.Bounding.{at_once, bound_at}
@@ -32,11 +32,31 @@ abbrev pub IsBusy : List ℕ → List ℕ → Type 0
 IsBusy marks words = (k : ℕ) → bit_of marks k ≡ 1 → bit_of words (k / 64) ≡ 1
 
 pub record AreNoted (marks words : List ℕ) : Type 0 where
+  pub few : length marks ≤ 288230376151711744
   pub reach : (k : ℕ) → k < length marks → k / 64 < length words
   pub busy : IsBusy marks words
 
--- of so many places none is marked before the first, and where it is alone none behind it
+-- ---- what is found
+
+-- so many zeros of a word from this bit on are followed by a one
+pub record IsNextOne (word bit zeros : ℕ) : Type 0 where
+  pub within : bit + zeros < 64
+  pub one : bit_at word (bit + zeros) ≡ 1
+  pub before : (i : ℕ) → bit ≤ i → i < bit + zeros → bit_at word i ≡ 0
+
+abbrev pub FindsOne : ℕ → ℕ → Option ℕ → Type 0
+FindsOne word bit None = (i : ℕ) → bit ≤ i → bit_at word i ≡ 0
+FindsOne word bit (Some zeros) = IsNextOne word bit zeros
+
+-- the next place from one on that is marked, or one behind all
+pub record IsNextMark (marks : List ℕ) (start next : ℕ) : Type 0 where
+  pub behind : start ≤ next
+  pub before : (k : ℕ) → start ≤ k → k < next → bit_of marks k ≡ 0
+  pub marked : next < 18446744073709551615 → next / 64 < length marks → bit_of marks next ≡ 1
+
+-- of so many places the first is marked and none before it, and where it is alone none behind it
 pub record IsFirstMark (marks : List ℕ) (count first : ℕ) (alone : Bool) : Type 0 where
+  pub marked : first < count → bit_of marks first ≡ 1
   pub before : (k : ℕ) → k < first → k < count → bit_of marks k ≡ 0
   pub behind : alone ≡ true → (k : ℕ) → first < k → k < count → bit_of marks k ≡ 0
 

@@ -56,12 +56,10 @@ impl Bounds {
     pub fn set(&mut self, place: usize, bound: i64)
         ensures { self.new ≡ slice_set self.old place bound }
     {
-        if place < self.len() && self.get(place) != bound {
-            if bound == i64::MIN {
-                self.mark(place);
-            } else {
-                self.time(place, bound);
-            }
+        if bound == i64::MIN {
+            self.put_at_once(place);
+        } else if place < self.len() {
+            self.time(place, bound);
         }
     }
 
@@ -70,7 +68,7 @@ impl Bounds {
     pub fn put_at_once(&mut self, place: usize)
         ensures { self.new ≡ slice_set self.old place at_once }
     {
-        if place < self.len() && self.get(place) != i64::MIN {
+        if place < self.len() && !self.marks.is_on(place) {
             self.mark(place);
         }
     }
@@ -88,8 +86,11 @@ impl Bounds {
         requires later { at_once <ℤ bound }
         ensures { self.new ≡ slice_set self.old place bound }
     {
-        self.marks.take_off(place);
-        self.first.take_off(&self.marks, place, self.times.len());
+        let marked = self.marks.is_on(place);
+        if marked {
+            self.marks.take_off(place);
+            self.first.take_off(&self.marks, place, self.times.len());
+        }
         self.times.set(place, bound);
     }
 
@@ -145,9 +146,7 @@ impl Bounds {
             if end <= near {
                 return None;
             }
-            if self.marks.is_on(near) {
-                return Some(near);
-            }
+            return Some(near);
         }
         self.search(start, end, now)
     }

@@ -1,5 +1,5 @@
 //! The first of the places that are marked, kept beside the marks, so that where one is marked none is searched for.
-ghost use Rattle.std.specs.Prelude.{ℕ, ◌≡◌, ◌≤◌, ◌<◌, List, false};
+ghost use Rattle.std.specs.Prelude.{ℕ, ◌≡◌, ◌/◌, ◌≤◌, ◌<◌, List, false, length};
 ghost use Rattle.host_bounds.specs.Marking.{Clears, IsFirstMark, Sets, bit_of};
 
 use crate::marks::Marks;
@@ -41,6 +41,7 @@ impl FirstMark {
 
     /// A place, one of so many, is marked no longer.
     pub(crate) fn take_off(&mut self, marks: &Marks, place: usize, count: usize)
+        requires { (k : ℕ) → k < count → k / 64 < length marks.now }
         ensures { (ms : List ℕ) → Clears place ms marks.now → IsFirstMark ms count self.old.place self.old.alone
             → IsFirstMark marks.now count self.new.place self.new.alone }
     {
@@ -53,11 +54,15 @@ impl FirstMark {
         }
     }
 
-    /// The next place from one on that may be marked.
+    /// The next place from one on that is marked, or one behind all.
+    #[inline(always)]
     pub(crate) fn next(&self, marks: &Marks, start: usize) -> usize
         ensures behind { start ≤ result }
         ensures before { (count : ℕ) → IsFirstMark marks.now count self.now.place self.now.alone
             → (k : ℕ) → start ≤ k → k < result → k < count → bit_of marks.now k ≡ 0 }
+        ensures marked { (count : ℕ) → IsFirstMark marks.now count self.now.place self.now.alone
+            → ((k : ℕ) → k < count → k / 64 < length marks.now) → result < 18446744073709551615 → result < count
+            → bit_of marks.now result ≡ 1 }
     {
         if start <= self.place {
             return self.place;
@@ -69,10 +74,12 @@ impl FirstMark {
     }
 }
 
-// The next place from one on that may be marked, of so many.
+// The next place from one on that is marked, of so many.
 #[inline(always)]
 fn mark_behind(marks: &Marks, start: usize, count: usize) -> usize
-    ensures { (k : ℕ) → start ≤ k → k < result → k < count → bit_of marks.now k ≡ 0 }
+    requires { (k : ℕ) → k < count → k / 64 < length marks.now }
+    ensures marked { result < count → bit_of marks.now result ≡ 1 }
+    ensures before { (k : ℕ) → start ≤ k → k < result → k < count → bit_of marks.now k ≡ 0 }
 {
     let found = marks.next(start);
     if count <= found { NONE } else { found }

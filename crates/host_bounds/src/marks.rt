@@ -1,7 +1,7 @@
 //! Bits of many places, in words of 64, and of each word whether it is not 0.
 ghost use Rattle.std.specs.Prelude.{ℕ, ◌≡◌, ◌+◌, ◌*◌, ◌<◌, ◌≤◌, ◌/◌, IfOk, length, nat_eq, true};
 ghost use Rattle.std.specs.Int.{bit_at};
-ghost use Rattle.host_bounds.specs.Marking.{AllMarked, Clears, IsBusy, IsFull, Sets, bit_of};
+ghost use Rattle.host_bounds.specs.Marking.{AllMarked, Clears, FindsOne, IsBusy, IsFull, IsNextMark, Sets, bit_of};
 
 use std::alloc::{AllocError, Global};
 use std::marker::Model;
@@ -77,12 +77,13 @@ impl Marks {
         }
     }
 
-    /// The next place that is marked, from one on, or one before which none is.
+    /// The next place that is marked, from one on, or one behind all.
     pub fn next(&self, start: usize) -> usize
         ensures behind { start ≤ result }
         ensures before { (k : ℕ) → start ≤ k → k < result → bit_of self.now k ≡ 0 }
+        ensures marked { result < 18446744073709551615 → result / 64 < length self.now → bit_of self.now result ≡ 1 }
     {
-        first_in(&self.places, &self.words, start).max(start)
+        next_in(&self.places, &self.words, start)
     }
 }
 
@@ -120,8 +121,9 @@ fn clear_bit(words: &mut Vec<u64>, place: usize) -> bool
     ensures empty { result ≡ true → (k : ℕ) → k / 64 ≡ place / 64 → bit_of words.new.items k ≡ 0 }
 {
     let word = place / BITS;
-    words[word] &= !(1 << (place % BITS));
-    words[word] == 0
+    let left = words[word] & !(1 << (place % BITS));
+    words[word] = left;
+    left == 0
 }
 
 fn put_on(marks: &mut Vec<u64>, words: &mut Vec<u64>, place: usize)
@@ -150,7 +152,6 @@ fn take_off(marks: &mut Vec<u64>, words: &mut Vec<u64>, place: usize)
 }
 
 // How many zeros a word has from this bit on, and before a one.
-
 fn zeros_from(word: u64, bit: usize) -> usize
     requires { bit < 64 }
     ensures within { result ≤ 64 }
@@ -161,7 +162,6 @@ fn zeros_from(word: u64, bit: usize) -> usize
 }
 
 // A place before which there are zeros alone, from one on.
-
 fn first_one(words: &[u64], start: usize) -> usize
     ensures { (k : ℕ) → start ≤ k → k < result → bit_of words.now k ≡ 0 }
 {
@@ -178,32 +178,48 @@ fn first_one(words: &[u64], start: usize) -> usize
     word.saturating_mul(BITS)
 }
 
-// The same of a word alone.
-fn first_of(marks: &[u64], word: usize) -> usize
-    ensures within { result ≤ word * 64 + 64 }
-    ensures zeros { (k : ℕ) → k / 64 ≡ word → k < result → bit_of marks.now k ≡ 0 }
+// The first one of a word from this bit on, counted from there.
+fn one_from(word: u64, bit: usize) -> Option<usize>
+    requires { bit < 64 }
+    ensures { FindsOne word bit result }
 {
-    let start = word.saturating_mul(BITS);
-    match marks.get(word) {
-        Some(found) => start.saturating_add(zeros_from(*found, 0)),
-        None => start,
+    let rest = word >> bit;
+    if rest == 0 {
+        return None;
     }
+    Some(rest.trailing_zeros() as usize)
 }
 
-// A place before which none is marked, from one on.
-fn first_in(marks: &[u64], words: &[u64], start: usize) -> usize
-    requires { IsBusy marks.now words.now }
-    ensures { (k : ℕ) → start ≤ k → k < result → bit_of marks.now k ≡ 0 }
+// The next place that is marked: mostly one of the same word.
+fn next_in(marks: &[u64], words: &[u64], start: usize) -> usize
+    requires busy { IsBusy marks.now words.now }
+    requires few { length marks.now ≤ 288230376151711744 }
+    ensures { IsNextMark marks.now start result }
 {
     let word = start / BITS;
     if marks.len() <= word {
         return start;
     }
-    let bit = start % BITS;
-    let zeros = zeros_from(marks[word], bit);
-    if bit + zeros < BITS {
-        return start.saturating_add(zeros);
+    match one_from(marks[word], start % BITS) {
+        Some(zeros) => start + zeros,
+        None => next_behind(marks, words, start),
     }
-    let next = first_one(words, word + 1);
-    first_of(marks, next)
+}
+
+// The same of the words behind this place's. Not inlined, as few searches come here.
+#[inline(never)]
+fn next_behind(marks: &[u64], words: &[u64], start: usize) -> usize
+    requires busy { IsBusy marks.now words.now }
+    requires few { length marks.now ≤ 288230376151711744 }
+    requires none { (k : ℕ) → start ≤ k → k / 64 ≡ start / 64 → bit_of marks.now k ≡ 0 }
+    ensures { IsNextMark marks.now start result }
+{
+    let mut word = start / BITS + 1;
+    while word < marks.len() {
+        if let Some(zeros) = one_from(marks[word], 0) {
+            return word * BITS + zeros;
+        }
+        word = first_one(words, word + 1).max(word + 1);
+    }
+    word.saturating_mul(BITS)
 }

@@ -69,6 +69,10 @@ impl Times {
         let was = self.places[place];
         self.places[place] = bound;
         let was = mend(&self.places, &mut self.blocks, place, was);
+        // mostly no bound above it changes
+        if self.blocks[place / FAN_OUT] == was {
+            return;
+        }
         let was = mend(&self.blocks, &mut self.groups, place / FAN_OUT, was);
         if self.groups[place / FAN_OUT / FAN_OUT] != was {
             self.top = least_between(&self.groups, 0, self.groups.len());

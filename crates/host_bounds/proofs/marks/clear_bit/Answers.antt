@@ -5,5 +5,5 @@ use Rattle.host_bounds.proofs.marks.clear_bit.Goals as goal
 
 pub returns-clause-cleared : goal.returns-clause-cleared
 returns-clause-cleared c =
-    let is : c.index_mut.result.now ≡ get_or c.args.words.now.items (c.args.place / 64) 0 = c.index_mut.ensures.value ∙ get_or_default c.args.words.now.items (c.args.place / 64) c.index_mut.result.now 0 c.requires in
-    clears_bit c.args.words.now.items c.args.place c.index_mut.result.now c.requires is
+    let is : c.index.result.now ≡ get_or c.args.words.now.items (c.args.place / 64) 0 = c.index.ensures ∙ get_or_default c.args.words.now.items (c.args.place / 64) c.index.result.now 0 c.requires in
+    clears_bit c.args.words.now.items c.args.place c.index.result.now c.requires is

@@ -15,14 +15,15 @@ returns-then-end-near c =
     let after : (k : ℕ) → c.args.start ≤ k → k < c.args.end → c.args.now <ℤ bound_at c.self.inside.times k = λ k from to. (let p : c.least.result ≤ℤ bound_at c.self.inside.times k = c.least.ensures.below k (omega (arith, to, within, many)) in grind (arith, ints, p, least)) in
     subst (λ ps. (k : ℕ) → c.args.start ≤ k → k < c.args.end → c.args.now <ℤ bound_at ps k) c.self.view_is (none_asked c.self.inside.marks c.self.inside.times c.args.start c.args.end c.args.now unmarked after)
 
-pub returns-then-is_on : goal.returns-then-is_on
-returns-then-is_on c =
+pub returns-then-now-least : goal.returns-then-now-least
+returns-then-now-least c =
     let many : length c.self.inside.times ≡ length c.args.self.now = subst (λ l. length c.self.inside.times ≡ length l) c.self.view_is (sym (merged_len 0 c.self.inside.marks c.self.inside.times)) in
     let within : c.args.end ≤ length c.args.self.now = c.requires in
     let inside : c.next-near.result < c.args.end = c.if-end-near.false in
     let least : c.args.now <ℤ c.least.result = search rules in
     let after : (k : ℕ) → c.args.start ≤ k → k < c.next-near.result → c.args.now <ℤ bound_at c.self.inside.times k = λ k from to. (let p : c.least.result ≤ℤ bound_at c.self.inside.times k = c.least.ensures.below k (omega (arith, to, inside, within, many)) in grind (arith, ints, p, least)) in
-    let one : bit_of c.self.inside.marks c.next-near.result ≡ 1 = search rules in
+    let last : c.args.end ≤ 18446744073709551615 = search rules in
+    let one : bit_of c.self.inside.marks c.next-near.result ≡ 1 = c.next-near.ensures.marked (length c.self.inside.times) c.self.invariant.first_mark c.self.invariant.bounds.reach (omega (arith, inside, last)) (omega (arith, inside, within, many)) in
     let floor : at_once ≤ℤ c.args.now = search rules in
     record {
       behind = c.next-near.ensures.behind;
