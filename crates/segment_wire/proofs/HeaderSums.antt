@@ -31,13 +31,13 @@ from_start s rest h =
     let e : s + 0 ≡ s = omega arith in
     ap (λ v. sum_after v rest) (sym (swapped_word_zero s h) ∙ ap word_of e)
 
-pub tcp_words : (s : Segment) (start : ℕ) → start < 65536 → s.src_port < 65536 → s.dst_port < 65536 → s.seq_number.0 < 2 ^ 32
+pub tcp_words : (s : Segment) (start : ℕ) → s.src_port < 65536 → s.dst_port < 65536 → s.seq_number.0 < 2 ^ 32
     → ack_field s.ack_number < 2 ^ 32 → segment_header_len s < 64 → control_bits s.control + ack_bit s.ack_number < 256
     → s.window_len < 65536
-    → word_of (start + (s.src_port + s.dst_port) + (s.seq_number.0 + ack_field s.ack_number)
-    + (segment_header_len s / 4 * 16 * 256 + (control_bits s.control + ack_bit s.ack_number) + s.window_len))
-    ≡ sum_after start (tcp_header s 0)
-tcp_words s start a b c d e f g h =
+    → sum_after (word_of start) (tcp_header s 0)
+    ≡ word_of (start + (s.src_port + s.dst_port + (s.seq_number.0 + ack_field s.ack_number)
+    + (segment_header_len s / 4 * 16 * 256 + (control_bits s.control + ack_bit s.ack_number) + s.window_len)))
+tcp_words s start b c d e f g h =
     let src = s.src_port in
     let dst = s.dst_port in
     let seq = s.seq_number.0 in
@@ -49,9 +49,8 @@ tcp_words s start a b c d e f g h =
     let after_ack = offset ∷ flags ∷ after_flags in
     let n = start + src + dst + seq + ack in
     let m = n + (256 * offset + flags) in
-    let all : m + s.window_len + 0 + 0 ≡ start + (src + dst) + (seq + ack) + (offset * 256 + flags + s.window_len) = omega arith in
-    sym (from_start start (tcp_header s 0) a
-    ∙ short start src (be16 dst ++ (be32 seq ++ (be32 ack ++ after_ack))) b
+    let all : m + s.window_len + 0 + 0 ≡ start + (src + dst + (seq + ack) + (offset * 256 + flags + s.window_len)) = omega arith in
+    short start src (be16 dst ++ (be32 seq ++ (be32 ack ++ after_ack))) b
     ∙ short (start + src) dst (be32 seq ++ (be32 ack ++ after_ack)) c
     ∙ number (start + src + dst) seq (be32 ack ++ after_ack) d
     ∙ number (start + src + dst + seq) ack after_ack e
@@ -59,7 +58,7 @@ tcp_words s start a b c d e f g h =
     ∙ short m s.window_len zeros h
     ∙ ap (λ v. ones_add v 0) (word_of_more (m + s.window_len) 0 (omega arith))
     ∙ word_of_more (m + s.window_len + 0) 0 (omega arith)
-    ∙ ap word_of all)
+    ∙ ap word_of all
 
 pub udp_words : (start src dst len : ℕ) → start < 65536 → src < 65536 → dst < 65536
     → word_of (start + src + dst + len % 65536) ≡ sum_after start (be16 src ++ (be16 dst ++ (be16 len ++ be16 0)))

@@ -1,18 +1,27 @@
--- The sum of a pseudo header of IPv4, by numbers of four octets.
-use Rattle.std.proofs.Common.{ℕ, ◌+◌, ◌%◌, ◌++◌, ◌≡◌, length, ap, sym, ◌∙◌, arith}
-use Rattle.ip_wire.proofs.Sums.{pseudo, two_after}
-use Rattle.ip_wire.specs.Octets.{be32_at}
-use Rattle.ip_wire.specs.Sum.{pseudo_sum, sum_after, word_of}
+-- The sum of a pseudo header, not folded: numbers, and others with the low octet first.
+use Rattle.std.proofs.Common.{ℕ, ◌+◌, ◌*◌, ◌%◌, ◌<◌, ◌≡◌, List, ap, sym, ◌∙◌, arith}
+use Rattle.ip_wire.proofs.Sums.{pseudo, swapped_word_zero}
+use Rattle.ip_wire.specs.Sum.{pseudo_sum, sum_after, swapped_word, word_of}
 use Rattle.ip_wire.specs.declared.address.Ipv4Address.{Ipv4Address}
 use Rattle.ip_wire.specs.declared.address.IpAddress.TheVariants as address
 
-pub of_v4 : (src dst : Ipv4Address) (len : ℕ) → length src.0 ≡ 4
-    → ((n : ℕ) → sum_after (word_of n) src.0 ≡ word_of (n + be32_at src.0 0))
-    → ((n : ℕ) → sum_after (word_of n) dst.0 ≡ word_of (n + be32_at dst.0 0))
-    → sum_after (word_of (len % 4294967296 + 6)) (src.0 ++ dst.0) ≡ pseudo_sum (address.Ipv4 src) (address.Ipv4 dst) 6 len
-of_v4 src dst len l p q =
-    let a = be32_at src.0 0 in
-    let b = be32_at dst.0 0 in
-    let n = len % 4294967296 + 6 in
-    let order : n + a + b ≡ a + b + (len % 4294967296 + 6) = omega arith in
-    sym (two_after n src.0 dst.0 a b l p q) ∙ ap word_of order ∙ sym (pseudo (address.Ipv4 src) (address.Ipv4 dst) 6 len a b (omega arith) p q)
+-- a sum that was folded stands alone
+pub alone : (s : ℕ) → s < 65536 → swapped_word s 0 ≡ s
+alone s h = swapped_word_zero s h
+
+-- what octets add to a sum of numbers with the low octet first they add 256 times to one of words
+wide : (xs : List ℕ) (a : ℕ) → ((s t : ℕ) → sum_after (swapped_word s t) xs ≡ swapped_word s (t + a))
+    → (n : ℕ) → sum_after (word_of n) xs ≡ word_of (n + 256 * a)
+wide xs a p n =
+    let none : n + 256 * 0 ≡ n = omega arith in
+    let all : n + 256 * (0 + a) ≡ n + 256 * a = omega arith in
+    ap (λ v. sum_after v xs) (sym (ap word_of none)) ∙ p n 0 ∙ ap word_of all
+
+pub of_v4 : (src dst : Ipv4Address) (len a b : ℕ)
+    → ((s t : ℕ) → sum_after (swapped_word s t) src.0 ≡ swapped_word s (t + a))
+    → ((s t : ℕ) → sum_after (swapped_word s t) dst.0 ≡ swapped_word s (t + b))
+    → swapped_word (len % 4294967296 + 6) (a + b) ≡ pseudo_sum (address.Ipv4 src) (address.Ipv4 dst) 6 len
+of_v4 src dst len a b p q =
+    let order : len % 4294967296 + 6 + 256 * (a + b) ≡ 256 * a + 256 * b + (len % 4294967296 + 6) = omega arith in
+    ap word_of order
+    ∙ sym (pseudo (address.Ipv4 src) (address.Ipv4 dst) 6 len (256 * a) (256 * b) (omega arith) (wide src.0 a p) (wide dst.0 b q))

@@ -1,11 +1,11 @@
 -- A segment is written piece by piece.
-use Rattle.std.proofs.Common.{ℕ, suc, ◌+◌, ◌*◌, ◌≤◌, Bool, true, false, List, [], ◌∷◌, ◌++◌, ◌≡◌, length, take, drop, refl, ap, sym, ◌∙◌, arith, append_assoc, length-append}
+use Rattle.std.proofs.Common.{ℕ, suc, ◌+◌, ◌-◌, ◌*◌, ◌≤◌, Bool, true, false, List, [], ◌∷◌, ◌++◌, ◌≡◌, length, take, drop, refl, ap, sym, ◌∙◌, arith, append_assoc, length-append}
 use Rattle.std.specs.Prelude.{Option, Some, None, is_some, cond, count_by, if◌then◌else◌, ◌==◌}
 use Rattle.std.specs.List.{fold}
 use Rattle.std.proofs.lemmas.List.{append-nil, drop_all, drop_at, drop-drop, length-take-le, take_at, take_all}
-use Rattle.control_wire.specs.Segment.{Segment, options_len, sack_option_len}
+use Rattle.control_wire.specs.Segment.{Segment, options_len, sack_option_len, segment_header_len}
 use Rattle.control_wire.specs.declared.tcp.TcpTimestampRepr.{TcpTimestampRepr}
-use Rattle.segment_wire.specs.Options.{mss_octets, permitted_octets, ranges_octets, sack_if, sack_octets, scale_octets, stamp_octets}
+use Rattle.segment_wire.specs.Options.{mss_octets, options_octets, padding, permitted_octets, ranges_octets, sack_if, sack_octets, scale_octets, stamp_octets}
 use Rattle.segment_wire.specs.Tcp.{tcp_header, tcp_octets, tcp_with}
 use Rattle.segment_wire.specs.Udp.{ones_if_zero, udp_octets, udp_with}
 use Rattle.control_wire.specs.declared.udp.UdpRepr.{UdpRepr}
@@ -84,6 +84,28 @@ sack_count rs = go (count_by is_some rs == 0) (count_by is_some rs) (range_count
 pub options_count : (s : Segment) → length (mss_octets s.max_seg_size) + (length (scale_octets s.window_scale) + (length (permitted_octets s.sack_permitted) + (length (sack_octets s.sack_ranges) + length (stamp_octets s.timestamp)))) ≡ options_len s
 options_count s = omega (arith, mss_count s.max_seg_size, scale_count s.window_scale, permitted_count s.sack_permitted, sack_count s.sack_ranges, stamp_count s.timestamp)
 
+none_of : (xs : List ℕ) → length xs ≡ 0 → xs ≡ []
+none_of [] e = refl
+none_of (x ∷ xs) e = absurd (omega (arith, e))
+
+-- a header of 20 octets has no options
+pub no_octets : (s : Segment) (xs : List ℕ) → segment_header_len s ≡ 20 → xs ≡ xs ++ options_octets s
+no_octets s xs e =
+    let a = mss_octets s.max_seg_size in
+    let b = scale_octets s.window_scale in
+    let c = permitted_octets s.sack_permitted in
+    let d = sack_octets s.sack_ranges in
+    let f = stamp_octets s.timestamp in
+    let n : options_len s ≡ 0 = omega (arith, e) in
+    let all : length a + (length b + (length c + (length d + length f))) ≡ 0 = options_count s ∙ n in
+    let p : padding s ≡ [] = ap (λ k. take k (0 ∷ 0 ∷ 0 ∷ [])) (ap (λ k. k - (20 + options_len s)) e ∙ ap (λ k. 20 - (20 + k)) n) in
+    sym (ap (λ ys. xs ++ (ys ++ (b ++ (c ++ (d ++ (f ++ padding s)))))) (none_of a (omega (arith, all)))
+    ∙ ap (λ ys. xs ++ (ys ++ (c ++ (d ++ (f ++ padding s))))) (none_of b (omega (arith, all)))
+    ∙ ap (λ ys. xs ++ (ys ++ (d ++ (f ++ padding s)))) (none_of c (omega (arith, all)))
+    ∙ ap (λ ys. xs ++ (ys ++ (f ++ padding s))) (none_of d (omega (arith, all)))
+    ∙ ap (λ ys. xs ++ (ys ++ padding s)) (none_of f (omega (arith, all)))
+    ∙ ap (λ ys. xs ++ ys) p ∙ append-nil xs)
+
 -- the header and its options fill the buffer
 pub whole : (header options ws xs ys : List ℕ) (i j : ℕ) → take i xs ≡ take 0 ws ++ header → take j ys ≡ take i xs ++ options → length ys ≤ j → ys ≡ header ++ options
 whole header options ws xs ys i j x y l = sym (take_all j ys l) ∙ y ∙ ap (λ us. us ++ options) x
@@ -110,6 +132,10 @@ filled_datagram src dst u payload xs ys start front x p f y =
 pub payload_behind : (xs payload ys : List ℕ) (n : ℕ) → length xs ≡ n + length payload → ys ≡ take n xs ++ (payload ++ drop (n + length payload) xs) → drop n ys ≡ payload
 payload_behind xs payload ys n l y =
     ends payload xs (drop n ys) (n + length payload) (ap (drop n) y ∙ drop_at (take n xs) _ n (length-take-le n xs (omega (arith, l)))) l
+
+-- where nothing is put, nothing stands behind
+pub no_payload : (xs payload : List ℕ) (n : ℕ) → length xs ≡ n + length payload → length payload ≡ 0 → drop n xs ≡ payload
+no_payload xs payload n l e = drop_all n xs (omega (arith, l, e)) ∙ sym (none_of payload e)
 
 -- what stands behind both headers of a packet stands behind the second one, in what stands behind the first
 pub behind_both : (xs payload : List ℕ) (m n : ℕ) → drop (m + n) xs ≡ payload → drop n (drop m xs) ≡ payload

@@ -48,8 +48,21 @@ pub fn emit_tcp_with(
     requires room { length buffer.old ≡ header_len_of ip.now + payload_len_of ip.now }
     ensures { buffer.new ≡ tcp_packet caps.now ip.now (segment_of repr.now) }
 {
-    put(buffer, ip.header_len() + header_len, repr.payload);
+    put_payload(buffer, ip.header_len() + header_len, repr.payload);
     emit_headers(ip, repr, header_len, buffer, caps);
+}
+
+// Writes a payload up to the end. Most segments have none, for which no bytes are copied.
+#[tactic(auto, using(crate::proofs::Written::payload_behind, crate::proofs::Written::no_payload))]
+fn put_payload(buffer: &mut [u8], at: usize, payload: &[u8])
+    requires { length buffer.old ≡ at + length payload.now }
+    ensures payload { drop at buffer.new ≡ payload.now }
+    ensures length { length buffer.new ≡ length buffer.old }
+{
+    if payload.is_empty() {
+        return;
+    }
+    put(buffer, at, payload);
 }
 
 /// Writes an IP header and the header of a segment before a copy of its payload, which stands in `buffer` already,

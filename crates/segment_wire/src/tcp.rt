@@ -1,9 +1,9 @@
 //! TCP segments as bytes (RFC 9293, section 3.1).
-ghost use Rattle.std.specs.Prelude.{◌≡◌, ◌+◌, ◌-◌, ◌≤◌, ◌++◌, ◌/◌, ◌*◌, IsTrue, true, drop, take, length, option_map};
+ghost use Rattle.std.specs.Prelude.{◌≡◌, ◌+◌, ◌-◌, ◌≤◌, ◌<◌, ◌^◌, ◌++◌, ◌/◌, ◌*◌, IsTrue, true, drop, take, length, option_map};
 ghost use Rattle.ip_wire.specs.Checksum.{is_received, is_sent};
 ghost use Rattle.ip_wire.specs.IpHeader.{dst_addr_of, src_addr_of};
 ghost use Rattle.ip_wire.specs.Octets.{be16};
-ghost use Rattle.ip_wire.specs.Sum.{pseudo_sum};
+ghost use Rattle.ip_wire.specs.Sum.{pseudo_sum, swapped_word};
 ghost use Rattle.ip_wire.specs.declared.address.IpAddress.{IpAddress};
 ghost use Rattle.control_wire.specs.Segment.{options_len, segment_header_len, segment_of};
 ghost use Rattle.control_wire.specs.Source.{sum_holds, tcp_header_len};
@@ -13,12 +13,12 @@ ghost use Rattle.segment_wire.specs.Tcp.{filled, is_head, options_of, read_as, s
 ghost use Rattle.segment_wire.specs.Tcp.{tcp_checksum, tcp_header, tcp_octets, tcp_parsed, tcp_with, with_options};
 
 use crate::options::{TcpOptions, be32_at, no_options, read_options};
-use crate::pseudo::pseudo_sum_of;
+use crate::pseudo::pseudo_parts;
 use crate::write::{fill_checksum, header_sum, write_front};
 use control_wire::source::{at_most_one, sum_holds};
 use control_wire::{TcpControl, TcpRepr, TcpSeqNumber};
 use ip_wire::octets::{be16_at, behind, put, word};
-use ip_wire::sum::{pseudo_sum, sum_after};
+use ip_wire::sum::{pseudo_sum, sum_after_wide};
 use ip_wire::{ChecksumCapabilities, Error, IpAddress, IpRepr};
 
 /// Writes the segment into `buffer_len` bytes, between these two addresses.
@@ -45,7 +45,7 @@ pub fn emit(
 /// Writes the segment's header, with its options and its checksum, before a copy of its payload, which stands in
 /// `buffer` already, behind `header_len` bytes. The bytes are then those of [`emit`]. So a new buffer need not be
 /// filled first.
-#[tactic(auto, unfolding(crate::specs::Tcp::tcp_with))]
+#[tactic(auto, using(crate::proofs::PseudoSums::alone), unfolding(crate::specs::Tcp::tcp_with))]
 pub fn emit_front(
     repr: &TcpRepr<'_>,
     buffer: &mut [u8],
@@ -62,7 +62,7 @@ pub fn emit_front(
     write_front(repr, header_len, buffer);
     if caps.tcp.tx() {
         let start = pseudo_sum(src_addr, dst_addr, 6, buffer.len());
-        write_checksum(repr, header_len, start, buffer);
+        write_checksum(repr, header_len, start as usize, 0, buffer);
     }
 }
 
@@ -84,22 +84,30 @@ pub(crate) fn emit_behind(
 {
     write_front(repr, len, buffer);
     if caps.tcp.tx() {
-        let start = pseudo_sum_of(ip, buffer.len());
-        write_checksum(repr, len, start, buffer);
+        let (start, swapped) = pseudo_parts(ip, buffer.len());
+        write_checksum(repr, len, start, swapped, buffer);
     }
 }
 
-// Writes the checksum of a segment that has 0 in its place, behind a pseudo header of this sum.
-fn write_checksum(repr: &TcpRepr<'_>, header_len: usize, start: u16, buffer: &mut [u8])
+// Writes the checksum of a segment that has 0 in its place, behind a pseudo header of this sum, not folded.
+fn write_checksum(
+    repr: &TcpRepr<'_>,
+    header_len: usize,
+    start: usize,
+    swapped: usize,
+    buffer: &mut [u8],
+)
     requires counted { header_len ≡ segment_header_len (segment_of repr.now) }
     requires written { buffer.old ≡ tcp_with (segment_of repr.now) 0 }
     requires room { 20 ≤ length buffer.old }
     requires options { options_len (segment_of repr.now) ≤ 40 }
-    ensures { (src dst : IpAddress) → start ≡ pseudo_sum src dst 6 (length buffer.old)
+    requires start { start < 2 ^ 33 }
+    requires swapped { swapped < 2 ^ 33 }
+    ensures { (src dst : IpAddress) → swapped_word start swapped ≡ pseudo_sum src dst 6 (length buffer.old)
         → buffer.new ≡ tcp_octets true src dst (segment_of repr.now) }
 {
-    let front = header_sum(start, repr, header_len);
-    fill_checksum(front, buffer);
+    let front = start + header_sum(repr, header_len);
+    fill_checksum(front, swapped, buffer);
 }
 
 /// The segment that the bytes spell, between these two addresses.
@@ -189,7 +197,8 @@ fn fill_options(repr: &mut TcpRepr<'_>, octets: &[u8]) -> bool
 fn sum_holds_behind(ip: &IpRepr, bytes: &[u8]) -> bool
     ensures { result ≡ sum_holds (src_addr_of ip.now) (dst_addr_of ip.now) 6 bytes.now }
 {
-    sum_after(pseudo_sum_of(ip, bytes.len()), bytes) == 0xffff
+    let (start, swapped) = pseudo_parts(ip, bytes.len());
+    sum_after_wide(start, swapped, bytes) == 0xffff
 }
 
 // The segment that the bytes spell, where its options are whole.

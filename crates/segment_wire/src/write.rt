@@ -1,8 +1,9 @@
 //! The pieces of a TCP header, written one behind the other. `header_len` is how many bytes it takes with its options,
 //! worked out once for all of them.
-ghost use Rattle.std.specs.Prelude.{◌≡◌, ◌+◌, ◌-◌, ◌≤◌, ◌++◌, ◌∷◌, [], count_by, is_some, drop, take, length};
+ghost use Rattle.std.specs.Prelude.{ℕ, ◌≡◌, ◌+◌, ◌-◌, ◌≤◌, ◌<◌, ◌^◌, ◌++◌, ◌∷◌, [], count_by, is_some, drop, take};
+ghost use Rattle.std.specs.Prelude.{length};
 ghost use Rattle.ip_wire.specs.Octets.{be16, be32};
-ghost use Rattle.ip_wire.specs.Sum.{complement, sum_after};
+ghost use Rattle.ip_wire.specs.Sum.{complement, sum_after, swapped_word, word_of};
 ghost use Rattle.control_wire.specs.Segment.{options_len, segment_header_len, segment_of};
 ghost use Rattle.segment_wire.specs.Options.{mss_octets, options_octets, padding, permitted_octets, range_octets};
 ghost use Rattle.segment_wire.specs.Options.{ranges_octets, sack_if, sack_octets, scale_octets, stamp_octets};
@@ -11,7 +12,7 @@ ghost use Rattle.segment_wire.specs.Tcp.{ack_bit, ack_field, control_bits, tcp_h
 use control_wire::tcp::sack_count;
 use control_wire::{TcpControl, TcpRepr, TcpSeqNumber, TcpTimestampRepr};
 use ip_wire::octets::{be16, behind, put};
-use ip_wire::sum::{checksum_after, word_of};
+use ip_wire::sum::sum_after_wide;
 
 /// Writes the segment's header, with a checksum of 0. What stands behind it stays.
 pub fn write_front(repr: &TcpRepr<'_>, header_len: usize, buffer: &mut [u8])
@@ -64,18 +65,20 @@ fn header(repr: &TcpRepr<'_>, header_len: usize) -> [u8; 20]
     ]
 }
 
-/// The sum of a header with a checksum of 0, and of what was summed before. It is worked out from the numbers: what was
-/// just written in single bytes is read slowly as words.
-pub fn header_sum(start: u16, repr: &TcpRepr<'_>, header_len: usize) -> u16
+/// What a header with a checksum of 0 adds to a sum that is not folded. It is worked out from the numbers: what was just
+/// written in single bytes is read slowly as words.
+pub fn header_sum(repr: &TcpRepr<'_>, header_len: usize) -> usize
     requires counted { header_len ≡ segment_header_len (segment_of repr.now) }
     requires options { options_len (segment_of repr.now) ≤ 40 }
-    ensures { result ≡ sum_after start (tcp_header (segment_of repr.now) 0) }
+    ensures value { (start : ℕ) → sum_after (word_of start) (tcp_header (segment_of repr.now) 0)
+        ≡ word_of (start + result) }
+    ensures small { result < 2 ^ 34 }
 {
     let ports = repr.src_port as usize + repr.dst_port as usize;
     let numbers = repr.seq_number.0 as usize + ack_field(repr.ack_number) as usize;
     let flags = (control_bits(repr.control) + ack_bit(repr.ack_number)) as usize;
     let rest = header_len / 4 * 16 * 256 + flags + repr.window_len as usize;
-    word_of(start as usize + ports + numbers + rest)
+    ports + numbers + rest
 }
 
 fn control_bits(control: TcpControl) -> u8
@@ -120,7 +123,7 @@ fn be32(number: u32) -> [u8; 4]
 }
 
 // Writes the options, and END up to the end of the header.
-#[tactic(auto, using(crate::proofs::Written::six))]
+#[tactic(auto, using(crate::proofs::Written::six, crate::proofs::Written::no_octets))]
 fn put_options(repr: &TcpRepr<'_>, header_len: usize, buffer: &mut [u8], at: usize) -> usize
     requires counted { header_len ≡ segment_header_len (segment_of repr.now) }
     requires start { at ≡ 20 }
@@ -130,6 +133,9 @@ fn put_options(repr: &TcpRepr<'_>, header_len: usize, buffer: &mut [u8], at: usi
     ensures length { length buffer.new ≡ length buffer.old }
 {
     options_count(repr);
+    if header_len == 20 {
+        return at; // most segments have none: one test in place of six
+    }
     let [a, b, c] = repr.sack_ranges;
     let at = put_mss(buffer, at, repr.max_seg_size);
     let at = put_scale(buffer, at, repr.window_scale);
@@ -237,12 +243,14 @@ fn put_padding(buffer: &mut [u8], at: usize, count: usize) -> usize
 }
 
 /// Writes the checksum of a segment, of what was summed before, with its header, and of what stands behind the header.
-pub fn fill_checksum(front: u16, buffer: &mut [u8])
-    requires { 20 ≤ length buffer.old }
+pub fn fill_checksum(front: usize, swapped: usize, buffer: &mut [u8])
+    requires room { 20 ≤ length buffer.old }
+    requires front { front < 2 ^ 40 }
+    requires swapped { swapped < 2 ^ 36 }
     ensures { buffer.new ≡ take 16 buffer.old
-        ++ (be16 (complement (sum_after front (drop 20 buffer.old))) ++ drop 18 buffer.old) }
+        ++ (be16 (complement (sum_after (swapped_word front swapped) (drop 20 buffer.old))) ++ drop 18 buffer.old) }
 {
-    let checksum = checksum_after(front, behind(buffer, 20));
+    let checksum = 0xffff - sum_after_wide(front, swapped, behind(buffer, 20));
     put(buffer, 16, &be16(checksum as usize));
 }
 
