@@ -203,10 +203,11 @@ impl Ipv4Repr {
         ensures { result_ok result ≡ ipv4_parsed (is_received caps.now.ipv4) packet.now.buffer.now }
     {
         let bytes = packet.buffer;
+        // before the sum, as the lengths were just read for the packet's own check
+        let payload_len = be16_at(bytes, 2) - packet.header_len();
         if bytes[0] / 16 != 4 || (caps.ipv4.rx() && !verifies(packet)) {
             return Err(Error);
         }
-        let payload_len = be16_at(bytes, 2) - packet.header_len();
         Ok(Ipv4Repr::of_fields(bytes, payload_len))
     }
 

@@ -53,16 +53,31 @@ fn sum_by_eights(start: usize, swapped: usize, bytes: &[u8]) -> u16
 {
     let mut total = swapped as u128;
     let mut at = 0;
-    while at < bytes.len() / 64 * 64 {
+    while at < bytes.len() / 128 * 128 {
+        total = add_sixty_four(total, bytes, at);
+        total = add_sixty_four(total, bytes, at + 64);
+        at += 128;
+    }
+    while at < bytes.len() / 32 * 32 {
         total = add_thirty_two(total, bytes, at);
-        total = add_thirty_two(total, bytes, at + 32);
-        at += 64;
+        at += 32;
     }
     while at < bytes.len() / 8 * 8 {
         total = add_eight(total, bytes, at);
         at += 8;
     }
     swapped_word(start, add_few(narrowed(total), bytes))
+}
+
+fn add_sixty_four(total: u128, bytes: &[u8], at: usize) -> u128
+    requires small { total < 2 ^ 64 * at + 2 ^ 36 }
+    requires room { at + 64 ≤ length bytes.now }
+    ensures value { (start : ℕ) → sum_after (swapped_word start result) (drop (at + 64) bytes.now)
+        ≡ sum_after (swapped_word start total) (drop at bytes.now) }
+    ensures small { result < 2 ^ 64 * (at + 64) + 2 ^ 36 }
+{
+    let first = add_thirty_two(total, bytes, at);
+    add_thirty_two(first, bytes, at + 32)
 }
 
 // Adds the 32 bytes from `at` on to a wide sum, as numbers of eight bytes with the lowest first, which x86-64 loads

@@ -1,5 +1,6 @@
 //! TCP segments as bytes (RFC 9293, section 3.1).
-ghost use Rattle.std.specs.Prelude.{◌≡◌, ◌+◌, ◌-◌, ◌≤◌, ◌<◌, ◌^◌, ◌++◌, ◌/◌, ◌*◌, IsTrue, true, drop, take, length, option_map};
+ghost use Rattle.std.specs.Prelude.{◌≡◌, ◌+◌, ◌-◌, ◌≤◌, ◌<◌, ◌^◌, ◌++◌, ◌/◌, ◌*◌, IsTrue, true, drop, take, length};
+ghost use Rattle.std.specs.Prelude.{option_map};
 ghost use Rattle.ip_wire.specs.Checksum.{is_received, is_sent};
 ghost use Rattle.ip_wire.specs.IpHeader.{dst_addr_of, src_addr_of};
 ghost use Rattle.ip_wire.specs.Octets.{be16};
@@ -159,11 +160,11 @@ pub fn parse_behind_into<'a>(
     ensures { filled result (segment_of repr.new)
         ≡ tcp_parsed (is_received caps.now.tcp) (src_addr_of ip.now) (dst_addr_of ip.now) bytes.now }
 {
-    if !is_head(bytes) {
-        return false;
-    }
     if caps.tcp.rx() && !sum_holds_behind(ip, bytes) {
         return false;
+    }
+    if !is_head(bytes) {
+        return false; // behind the sum, whose call would have what was read of the head put aside
     }
     fill(repr, bytes, &no_options());
     let octets = options_of(bytes);

@@ -65,8 +65,8 @@ fn header(repr: &TcpRepr<'_>, header_len: usize) -> [u8; 20]
     ]
 }
 
-/// What a header with a checksum of 0 adds to a sum that is not folded. It is worked out from the numbers: what was just
-/// written in single bytes is read slowly as words.
+/// What a header with a checksum of 0 adds to a sum that is not folded. It is worked out from the numbers: what was
+/// just written in single bytes is read slowly as words.
 pub fn header_sum(repr: &TcpRepr<'_>, header_len: usize) -> usize
     requires counted { header_len ≡ segment_header_len (segment_of repr.now) }
     requires options { options_len (segment_of repr.now) ≤ 40 }
