@@ -15,6 +15,7 @@ pub mod Measure
 pub mod Steps
 pub mod Oldest
 pub mod Again
+pub mod Apart
 pub mod Runs
 pub mod Under
 pub mod Jumps

@@ -1,6 +1,7 @@
 //! Limits that a host sets its TCP connections, so that no peer keeps it busy for ever or keeps its sockets taken.
 ghost use Rattle.std.specs.Prelude.{◌≡◌, Some, None, true, false};
 ghost use Rattle.sock_core.specs.Bounds.{IsMoment};
+ghost use Rattle.host_guard.specs.Guarding.{taken_at};
 ghost use Rattle.sock_tcp.specs.Timers.{IsLastTs};
 ghost use Rattle.net_host.specs.Guards.{last_left};
 ghost use Rattle.net_host.specs.Remembered.{IsTold, moment_from, nothing, phase_from};
@@ -122,6 +123,14 @@ fn micros_of(moment: Option<Instant>) -> i64
     }
 }
 
+// How often a socket was dispatched at this moment: no lawful one is the number of none.
+fn taken_at(moment: i64, taken: u8, now: Instant) -> u8
+    requires { IsMoment now.micros }
+    ensures { result ≡ taken_at (moment_from moment) taken now }
+{
+    if moment == now.micros { taken } else { 0 }
+}
+
 fn phase_from(kind: Kind, number: TcpSeqNumber) -> Phase
     ensures { result ≡ phase_from kind number }
 {
@@ -209,6 +218,14 @@ impl Guard {
         ensures { result ≡ self.now.taken }
     {
         self.taken
+    }
+
+    /// How often it was dispatched at this moment.
+    pub(crate) fn taken_at(&self, now: Instant) -> u8
+        requires { IsMoment now.micros }
+        ensures { result ≡ taken_at self.now.moment self.now.taken now }
+    {
+        taken_at(self.moment, self.taken, now)
     }
 
     // Whether nothing is waited for, and nothing is remembered but turns; where the answer is no, it says nothing.

@@ -130,14 +130,14 @@ impl Limits {
         limit_from(is_given(self.given, 8), self.timeout)
     }
 
-    // Whether the numbers are the same; they may differ where there is no limit.
+    // Whether the numbers are the same; they may differ where there is no limit. `&` compares them side by side.
     pub(crate) fn are(&self, other: &Limits) -> bool
         ensures { result ≡ true → self.now ≡ other.now }
     {
-        self.handshake == other.handshake
-            && self.closing == other.closing
-            && self.window == other.window
-            && self.timeout == other.timeout
-            && self.given == other.given
+        (self.handshake == other.handshake)
+            & (self.closing == other.closing)
+            & (self.window == other.window)
+            & (self.timeout == other.timeout)
+            & (self.given == other.given)
     }
 }

@@ -113,6 +113,7 @@ fn look_at<C: Context, G: TsvalSource>(sockets: &mut SocketSet<'_, G>, i: usize,
 
 // Guards look at the sockets that may want to be asked by now, from one place on and before another, up to the first
 // that is due.
+#[inline(always)]
 fn due_between<C: Context, G: TsvalSource>(
     sockets: &mut SocketSet<'_, G>,
     cx: &C,

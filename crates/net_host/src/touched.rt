@@ -11,9 +11,6 @@ impl<T: Keyed> Filed<T> {
     pub fn touched(&self, from: usize) -> Option<usize>
         ensures { FindsReached self.now.bounds from (length self.now.bounds) at_once result }
     {
-        if self.bounds.are_after(i64::MIN) {
-            return None;
-        }
         self.bounds.next(from, self.bounds.len(), i64::MIN)
     }
 }

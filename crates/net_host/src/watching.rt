@@ -4,15 +4,15 @@ ghost use Rattle.std.specs.Option.{ForSome};
 ghost use Rattle.sock_core.specs.Bounds.{IsMoment};
 ghost use Rattle.sock_tcp.specs.Polls.{earlier};
 ghost use Rattle.sock_tcp.specs.Timers.{IsLastTs, after};
-ghost use Rattle.host_guard.specs.Guarding.{not_before, taken_at};
+ghost use Rattle.host_guard.specs.Guarding.{not_before};
 ghost use Rattle.net_host.specs.Guards.{end_of, ended_if, given_up, guarded_poll, has_ended, last_after, last_left};
 ghost use Rattle.net_host.specs.Guards.{lawful_limit, limit_of, may_in, moment_left, no_limits, phase_in, phase_left};
-ghost use Rattle.net_host.specs.Guards.{phase_of};
+ghost use Rattle.net_host.specs.Guards.{paced, phase_of};
 ghost use Rattle.net_host.specs.Guards.{same_phase, since_by, since_in, stuck_by, usual, with_timeout};
 ghost use Rattle.net_host.specs.Looking.{has_timeout, seen_with};
 ghost use Rattle.net_host.specs.Remembered.{IsTold, moment_from};
 ghost use Rattle.net_host.specs.Sights.{IsSight};
-ghost use Rattle.net_host.specs.declared.guard.Phase.TheVariants.{Free};
+ghost use Rattle.net_host.specs.declared.guard.Phase.TheVariants.{FinWait2, Free};
 ghost use Rattle.net_base.specs.declared.time.Instant.{Instant};
 ghost use Rattle.net_host.specs.Watching.{Asks, Looks, may_turn};
 
@@ -154,7 +154,17 @@ impl Guard {
         requires { IsMoment now.micros }
         ensures { result ≡ may_turn self.now now }
     {
-        taken_at(self.moment(), self.taken(), now) < TURNS && may_in(self.phase(), self.last(), now)
+        self.taken_at(now) < TURNS && self.is_in_pace(now)
+    }
+
+    // In FIN-WAIT-2, whether the last dispatch was long enough ago.
+    fn is_in_pace(&self, now: Instant) -> bool
+        ensures { result ≡ may_in self.now.phase self.now.last now }
+    {
+        match self.kind {
+            Kind::FinWait2 => is_in_pace(self.last(), now),
+            _ => true,
+        }
     }
 
     /// Whether the socket may be dispatched at this moment: at most `TURNS` times, and in FIN-WAIT-2 not within `PACE`
@@ -165,8 +175,8 @@ impl Guard {
         ensures turn { result ≡ may_turn self.old now }
         ensures asks { Asks now self.old self.new }
     {
-        let taken = taken_at(self.moment(), self.taken(), now);
-        let may = taken < TURNS && may_in(self.phase(), self.last(), now);
+        let taken = self.taken_at(now);
+        let may = taken < TURNS && self.is_in_pace(now);
         if may {
             self.count(now, taken + 1);
             self.set_last(last_after(self.phase(), self.last(), now));
@@ -181,13 +191,20 @@ impl Guard {
     pub fn poll_at(&self, asked: PollAt) -> PollAt
         ensures { result ≡ guarded_poll self.now.phase self.now.end self.now.last asked }
     {
-        let asked = match (self.phase(), self.last()) {
-            (Phase::FinWait2, Some(last)) => not_before(after(last, PACE), asked),
-            _ => asked,
-        };
+        let asked = self.paced(asked);
         match self.end() {
             None => asked,
             Some(end) => earlier(asked, end),
+        }
+    }
+
+    // In FIN-WAIT-2 not before `PACE` after the last dispatch.
+    fn paced(&self, asked: PollAt) -> PollAt
+        ensures { result ≡ paced self.now.phase self.now.last asked }
+    {
+        match self.kind {
+            Kind::FinWait2 => behind(self.last(), asked),
+            _ => asked,
         }
     }
 }
@@ -363,21 +380,22 @@ fn give_up<G>(socket: &mut Socket<'_, G>)
 
 // ---- moments
 
-fn may_in(phase: Phase, last: Option<Instant>, now: Instant) -> bool
-    ensures { result ≡ may_in phase last now }
+fn is_in_pace(last: Option<Instant>, now: Instant) -> bool
+    ensures { result ≡ may_in FinWait2 last now }
 {
-    match (phase, last) {
-        (Phase::FinWait2, Some(last)) => PACE.micros <= (now - last).micros,
-        _ => true,
+    match last {
+        Some(last) => PACE.micros <= (now - last).micros,
+        None => true,
     }
 }
 
-fn taken_at(moment: Option<Instant>, taken: u8, now: Instant) -> u8
-    ensures { result ≡ taken_at moment taken now }
+fn behind(last: Option<Instant>, asked: PollAt) -> PollAt
+    requires { IsLastTs last }
+    ensures { result ≡ paced FinWait2 last asked }
 {
-    match moment {
-        Some(moment) if (now - moment).micros == 0 => taken,
-        _ => 0,
+    match last {
+        Some(last) => not_before(after(last, PACE), asked),
+        None => asked,
     }
 }
 
