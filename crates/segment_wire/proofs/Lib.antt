@@ -5,3 +5,4 @@ pub mod TcpTrips
 pub mod UdpTrips
 pub mod PacketTrips
 pub mod PseudoSums
+pub mod Controls

@@ -312,16 +312,30 @@ fn segment_at<'a>(bytes: &'a [u8], options: &TcpOptions) -> TcpRepr<'a>
     }
 }
 
+// The control of each number of the four low flags: it is read where it stands, with no jump by what a peer sends.
+static CONTROLS: [TcpControl; 16] = [
+    TcpControl::None,
+    TcpControl::Fin,
+    TcpControl::Syn,
+    TcpControl::None,
+    TcpControl::Rst,
+    TcpControl::None,
+    TcpControl::None,
+    TcpControl::None,
+    TcpControl::Psh,
+    TcpControl::Fin,
+    TcpControl::Syn,
+    TcpControl::Psh,
+    TcpControl::Rst,
+    TcpControl::Psh,
+    TcpControl::Psh,
+    TcpControl::Psh,
+];
+
 fn control_of(flags: u8) -> TcpControl
     ensures { result ≡ control_of flags }
 {
-    match flags % 8 {
-        1 => TcpControl::Fin,
-        2 => TcpControl::Syn,
-        4 => TcpControl::Rst,
-        _ if flags / 8 % 2 == 1 => TcpControl::Psh,
-        _ => TcpControl::None,
-    }
+    CONTROLS[(flags % 16) as usize]
 }
 
 fn ack_of(flags: u8, number: u32) -> Option<TcpSeqNumber>
