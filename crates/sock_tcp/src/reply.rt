@@ -177,8 +177,8 @@ impl<'a, G: TsvalSource> Socket<'a, G> {
         with_header(ip_repr, reply)
     }
 
-    /// The second half of [`Socket::process`]: the segment that answers one which [`Socket::take_segment`] took and said
-    /// to be answered so, if any; it has no payload. An acknowledgement becomes the last sent.
+    /// The second half of [`Socket::process`]: the segment that answers one which [`Socket::take_segment`] took and
+    /// said to be answered so, if any; it has no payload. An acknowledgement becomes the last sent.
     ///
     /// The answer can be written as a packet.
     // Not inlined: most segments have no reply, and the space for one is cleared where it is made.

@@ -368,8 +368,9 @@ fn note_end(place: &mut Option<Ended>, ended: Option<Ended>)
 }
 
 impl<'a, G: TsvalSource> Socket<'a, G> {
-    /// The first half of [`Socket::process`], for a caller that wants no room for a reply where there is none, as mostly:
-    /// takes a segment that `accepts` holds of, with a payload of at most 65535 bytes, and tells how it is answered.
+    /// The first half of [`Socket::process`], for a caller that wants no room for a reply where there is none, as
+    /// mostly: takes a segment that `accepts` holds of, with a payload of at most 65535 bytes, and tells how it is
+    /// answered.
     ///
     /// Unless that is by nothing, the next call is [`Socket::reply_by`], which gives the answer.
     #[inline(always)]

@@ -71,6 +71,7 @@ impl Window {
     }
 
     // Whether a segment of `length` bytes lies inside (RFC 9293, section 3.10.7.4).
+    #[inline(always)]
     #[tactic(auto, unfolding(crate::specs::Window::is_inside))]
     pub(crate) fn is_inside(&self, number: TcpSeqNumber, length: usize) -> bool
         requires { length < 2 ^ 32 }
