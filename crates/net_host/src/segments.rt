@@ -134,6 +134,7 @@ fn first_taker<C: Context, G: TsvalSource>(
 }
 
 // By the index.
+#[inline(always)]
 fn found_taker<C: Context, G: TsvalSource>(
     sockets: &SocketSet<'_, G>,
     cx: &C,
