@@ -381,7 +381,7 @@ impl Index {
         self.known.learn(key, first);
     }
 
-    // Whether an entry that is not behind this one stands at this place of the order. One of another place is behind it.
+    // Whether an entry stands at this place of the order that is not behind this one, as those of other places are.
     fn stands_at(&self, place: usize, entry: Entry) -> bool
         requires { Splits self.now (rank entry) place }
         ensures { result ≡ false → place < length self.now → rank entry < rank (get_or self.now place nothing) }

@@ -136,3 +136,11 @@ not_there {X = X} P xs i nay = go (slice_get xs i) refl
     go : (o : Option X) → slice_get xs i ≡ o → IfSome o (λ x. P x → ⊥)
     go None e = tt
     go (Some x) e = λ h. nay (record { within = slice_get_within xs i x e; holds = subst (λ o. IfSome o P) (sym e) h })
+
+-- no place has the key
+pub none_listed : {X : Type 0} (P : X → Type 0) (xs : List X) (es : List Entry) (key : Entry) → length xs ≤ 2 ^ 64 → ((k : ℕ) → k < 2 ^ 64 → has es (entry_at key k) ≡ false) → FindsListed P xs es key None
+none_listed P xs es key small none = λ k listed. go k listed (nat_lt k (length xs)) refl
+  where
+    go : (k : ℕ) → has es (entry_at key k) ≡ true → (b : Bool) → nat_lt k (length xs) ≡ b → IfSome (slice_get xs k) (λ x. P x → ⊥)
+    go k listed false q = subst (λ o. IfSome o (λ x. P x → ⊥)) (sym (slice_get_past xs k (grind (arith, q)))) tt
+    go k listed true q = absurd (no_truth (sym (none k (let l : k < length xs = grind (arith, q) in omega (arith, l, small))) ∙ listed))

@@ -162,6 +162,7 @@ impl<T: Keyed> Filed<T> {
     }
 
     /// This place may change: it will be filed as it is then, and is to be asked at once.
+    #[inline(always)]
     pub fn lend(&mut self, place: usize)
         ensures slots { self.new.slots ≡ self.old.slots }
         ensures lent { IsLentAt place (slice_get self.new.slots.items place) self.new.lent }

@@ -143,6 +143,45 @@ pub(crate) fn first_in<C: Context, G: TsvalSource>(
     }
 }
 
+/// The same, where each entry mostly stands behind the key, as where nothing listens: that is seen by one look.
+#[inline(always)]
+#[tactic(auto, using(crate::proofs::Runs::none_listed))]
+pub(crate) fn first_if_any<C: Context, G: TsvalSource>(
+    slots: &[Slot<'_, G>],
+    index: &Index,
+    key: Entry,
+    cx: &C,
+    sought: Sought,
+    ip: &IpRepr,
+    repr: &TcpRepr<'_>,
+) -> Option<usize>
+    requires { key.place ≡ 0 }
+    ensures { FindsListed (Fits sought ip.now (segment_of repr.now)) slots.now index.now key result }
+{
+    let _count = slots.len(); // for its bound
+    if index.is_behind(key) {
+        return None;
+    }
+    first_in(slots, index, key, cx, sought, ip, repr)
+}
+
+/// The same, where the key was sought, and the first place under it is not known or does not fit.
+#[inline(always)]
+pub(crate) fn first_sought<C: Context, G: TsvalSource>(
+    slots: &[Slot<'_, G>],
+    index: &Index,
+    key: Entry,
+    cx: &C,
+    sought: Sought,
+    ip: &IpRepr,
+    repr: &TcpRepr<'_>,
+) -> Option<usize>
+    requires { key.place ≡ 0 }
+    ensures { FindsListed (Fits sought ip.now (segment_of repr.now)) slots.now index.now key result }
+{
+    first_from(slots, index, index.lower(key), key, cx, sought, ip, repr)
+}
+
 // The same, from where the entries under the key begin.
 #[inline(always)]
 fn first_from<C: Context, G: TsvalSource>(

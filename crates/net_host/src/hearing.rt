@@ -117,7 +117,8 @@ fn open_anew_with<C: Context, G: TsvalSource>(
         sockets.new.slots.items }
 {
     let mut told = Told { cx, word: number };
-    hear_anew_at(sockets, i, &mut told, ip, syn);
+    let mut answer = None;
+    hear_anew_at(sockets, i, &mut told, ip, syn, &mut answer);
     let _ = pass_at(sockets, i, &mut told);
 }
 

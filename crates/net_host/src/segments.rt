@@ -13,7 +13,7 @@ ghost use Rattle.net_host.specs.Touching.{Touches};
 ghost use Rattle.net_host.specs.Walks.{Finds, IsAt, Nowhere};
 
 use crate::filing::{connection_key, listener_key};
-use crate::find::{Sought, first_in};
+use crate::find::{Sought, first_if_any, first_sought};
 use crate::limit::Limit;
 use crate::rest::{any_server, oldest, opens};
 use crate::set::SocketSet;
@@ -90,21 +90,25 @@ impl<'a, G: TsvalSource> Slot<'a, G> {
         cx: &mut C,
         ip: &IpRepr,
         repr: &TcpRepr<'_>,
-    ) -> Option<Reply>
+        reply: &mut Option<Reply>,
+    )
         requires opening { is_opening (segment_of repr.now) ≡ true }
         requires rests { Rests ip.now (segment_of repr.now) self.old }
         requires small { length repr.now.payload.now ≤ 65535 }
-        ensures heard { Hears C.facts C.word_at G.tells anew self.old cx.old ip.now (segment_of repr.now) result
+        ensures heard { Hears C.facts C.word_at G.tells anew self.old cx.old ip.now (segment_of repr.now) reply.new
             self.new cx.new }
-        ensures bare { ForSome result (λ r. r.1.payload.now ≡ []) }
-        ensures fits { ForSome (option_map reply_of result) (λ r. FitsPacket r.0 r.1) }
+        ensures bare { ForSome reply.new (λ r. r.1.payload.now ≡ []) }
+        ensures fits { ForSome (option_map reply_of reply.new) (λ r. FitsPacket r.0 r.1) }
     {
         match &mut self.socket {
             Some(Socket::Tcp(tcp)) => {
                 let _ = tcp.listen(tcp.listen_endpoint());
-                tcp.process(cx, ip, repr)
+                match tcp.process(cx, ip, repr) {
+                    Some(answer) => *reply = Some(answer),
+                    None => *reply = None,
+                }
             }
-            _ => None,
+            _ => *reply = None,
         }
     }
 }
@@ -130,6 +134,7 @@ fn first_taker<C: Context, G: TsvalSource>(
 }
 
 // By the index.
+#[inline(always)]
 fn found_taker<C: Context, G: TsvalSource>(
     sockets: &SocketSet<'_, G>,
     cx: &C,
@@ -144,7 +149,7 @@ fn found_taker<C: Context, G: TsvalSource>(
 {
     if listening {
         let key = listener_key(repr.dst_port);
-        first_in(
+        first_if_any(
             &sockets.slots,
             &sockets.index,
             key,
@@ -155,7 +160,7 @@ fn found_taker<C: Context, G: TsvalSource>(
         )
     } else {
         let key = connection_key(&ip.src_addr(), repr.dst_port, repr.src_port);
-        first_in(
+        first_sought(
             &sockets.slots,
             &sockets.index,
             key,
@@ -320,17 +325,18 @@ fn hear_anew_there<C: Context, G: TsvalSource>(
     cx: &mut C,
     ip: &IpRepr,
     repr: &TcpRepr<'_>,
-) -> Option<Reply>
+    reply: &mut Option<Reply>,
+)
     requires within { i < length slots.old.items }
     requires opening { is_opening (segment_of repr.now) ≡ true }
     requires rests { IfSome (slice_get slots.old.items i) (Rests ip.now (segment_of repr.now)) }
     requires small { length repr.now.payload.now ≤ 65535 }
-    ensures heard { HearsAt C.facts C.word_at G.tells anew slots.old.items i cx.old ip.now (segment_of repr.now) result
-        slots.new.items cx.new }
-    ensures bare { ForSome result (λ r. r.1.payload.now ≡ []) }
-    ensures fits { ForSome (option_map reply_of result) (λ r. FitsPacket r.0 r.1) }
+    ensures heard { HearsAt C.facts C.word_at G.tells anew slots.old.items i cx.old ip.now (segment_of repr.now)
+        reply.new slots.new.items cx.new }
+    ensures bare { ForSome reply.new (λ r. r.1.payload.now ≡ []) }
+    ensures fits { ForSome (option_map reply_of reply.new) (λ r. FitsPacket r.0 r.1) }
 {
-    slots[i].hear_anew(cx, ip, repr)
+    slots[i].hear_anew(cx, ip, repr, reply);
 }
 
 /// The socket at this place takes the segment. The reply is written where it is wanted: given back, it would be copied
@@ -370,21 +376,21 @@ pub(crate) fn hear_anew_at<C: Context, G: TsvalSource>(
     cx: &mut C,
     ip: &IpRepr,
     repr: &TcpRepr<'_>,
-) -> Option<Reply>
+    reply: &mut Option<Reply>,
+)
     requires within { i < length sockets.old.slots.items }
     requires opening { is_opening (segment_of repr.now) ≡ true }
     requires rests { IfSome (slice_get sockets.old.slots.items i) (Rests ip.now (segment_of repr.now)) }
     requires small { length repr.now.payload.now ≤ 65535 }
     ensures heard { HearsAt C.facts C.word_at G.tells anew sockets.old.slots.items i cx.old ip.now
-        (segment_of repr.now) result
-        sockets.new.slots.items cx.new }
-    ensures bare { ForSome result (λ r. r.1.payload.now ≡ []) }
-    ensures fits { ForSome (option_map reply_of result) (λ r. FitsPacket r.0 r.1) }
+        (segment_of repr.now) reply.new sockets.new.slots.items cx.new }
+    ensures bare { ForSome reply.new (λ r. r.1.payload.now ≡ []) }
+    ensures fits { ForSome (option_map reply_of reply.new) (λ r. FitsPacket r.0 r.1) }
     ensures touched { Touches sockets.old.bounds sockets.old.slots.items sockets.new.bounds
         sockets.new.slots.items }
 {
     sockets.lend(i);
-    hear_anew_there(&mut sockets.slots, i, cx, ip, repr)
+    hear_anew_there(&mut sockets.slots, i, cx, ip, repr, reply);
 }
 
 /// The RST that answers a segment for no socket, unless it is one itself, where the limit allows it.
@@ -425,7 +431,7 @@ pub(crate) fn take_segment<C: Context, G: TsvalSource>(
     match taker {
         Taker::Connection(i) => hear_at(sockets, i, cx, false, ip, repr, reply),
         Taker::Listener(i) => hear_at(sockets, i, cx, true, ip, repr, reply),
-        Taker::Reopened(i) | Taker::Reused(i) => *reply = hear_anew_at(sockets, i, cx, ip, repr),
+        Taker::Reopened(i) | Taker::Reused(i) => hear_anew_at(sockets, i, cx, ip, repr, reply),
         Taker::Busy => *reply = None,
         Taker::Nobody => *reply = refuse(limit, cx.now(), ip, repr),
     }
