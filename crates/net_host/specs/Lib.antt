@@ -10,6 +10,7 @@ pub mod Filing
 pub mod Finding
 pub mod Guards
 pub mod HostCalls
+pub mod Kinds
 pub mod Indexing
 pub mod Limits
 pub mod Listing

@@ -3,6 +3,7 @@ ghost use Rattle.std.specs.Prelude.{◌≡◌, ◌≤◌, length, true, false};
 ghost use Rattle.sock_core.specs.Bounds.{IsMoment};
 ghost use Rattle.net_host.specs.Facts.{facts_by};
 ghost use Rattle.net_host.specs.Guards.{has_ended};
+ghost use Rattle.net_host.specs.Kinds.{is_tcp};
 ghost use Rattle.net_host.specs.Looking.{is_seen};
 ghost use Rattle.net_host.specs.Remembered.{moment_from};
 ghost use Rattle.net_host.specs.Sights.{IsSightOf};
@@ -88,8 +89,23 @@ impl<'a, G: TsvalSource> Slot<'a, G> {
             (C.facts cx.now) }
     {
         match &self.socket {
-            Some(socket) => self.guard.poll_at(socket.poll_at(cx)),
-            None => PollAt::Ingress,
+            Some(Socket::Tcp(tcp)) => self.guard.poll_at(tcp.poll_at(cx)),
+            _ => self.asked_beside_tcp(cx),
+        }
+    }
+
+    // The same of another socket. Not inlined, so that a TCP socket is asked after two tests.
+    #[inline(never)]
+    fn asked_beside_tcp<C: Context>(&self, cx: &C) -> PollAt
+        requires { is_tcp self.now.socket ≡ false }
+        ensures { result ≡ asked_of self.now.guard.phase self.now.guard.end self.now.guard.last self.now.socket
+            (C.facts cx.now) }
+    {
+        match &self.socket {
+            Some(Socket::Udp(udp)) => self.guard.poll_at(udp.poll_at(cx)),
+            Some(Socket::Icmp(icmp)) => self.guard.poll_at(icmp.poll_at(cx)),
+            Some(Socket::Raw(raw)) => self.guard.poll_at(raw.poll_at(cx)),
+            _ => PollAt::Ingress,
         }
     }
 
