@@ -120,8 +120,8 @@ quarters n =
 two_added : (n : ℕ) → n < 131071 → (n + n / 65536) % 65536 ≡ word_of n
 two_added n h = grind (arith, nat_tests)
 
-pub turned : (n : ℕ) → n < 4294967296 → (n + (n % 65536 * 65536 + n / 65536)) / 65536 % 65536 ≡ word_of n
-turned n h =
+pub rotated : (n : ℕ) → n < 4294967296 → (n + (n % 65536 * 65536 + n / 65536)) / 65536 % 65536 ≡ word_of n
+rotated n h =
     let both = n % 65536 + n / 65536 in
     let e : (n + (n % 65536 * 65536 + n / 65536)) / 65536 % 65536 ≡ (both + both / 65536) % 65536 = omega (arith, h) in
     e ∙ two_added both (omega (arith, h)) ∙ quarters n

@@ -224,12 +224,12 @@ fn folded(total: usize) -> u16
 
 // The two halves of a number added up: beside them stand the same two in the other order, so that the carry of one sum
 // is added to the other. No test and no jump.
-#[tactic(auto, using(crate::proofs::Sums::turned))]
+#[tactic(auto, using(crate::proofs::Sums::rotated))]
 fn both_halves(total: u32) -> u16
     ensures { result ≡ word_of total }
 {
-    let turned = total % 0x10000 * 0x10000 + total / 0x10000;
-    ((total as usize + turned as usize) / 0x10000 % 0x10000) as u16
+    let rotated = total % 0x10000 * 0x10000 + total / 0x10000;
+    ((total as usize + rotated as usize) / 0x10000 % 0x10000) as u16
 }
 
 /// The sum of 20 bytes, as a header without options has, with no loop and no call.
