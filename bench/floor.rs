@@ -7,17 +7,18 @@
 //!
 //! One conversation after another, between two sockets that lie in the cache; or together, as many at once as
 //! hosted_bench has, over as many sockets.
-use bench_parts::clock::Clock;
-use bench_parts::conversation::{Role, Talk, service};
-use bench_parts::digest::Digest;
-use bench_parts::random::{Random, source};
-use bench_parts::work::{BUFFER, PIECE, SIZES, Work, answer_len};
-use kit::HostRuntime;
-use smoltcp_socket::Context;
-use smoltcp_socket::storage::RingBuffer;
-use smoltcp_socket::tcp::{Socket, State};
-use smoltcp_socket::time::Instant;
-use smoltcp_socket::wire::*;
+use smoltcp_proved::proved::bench_parts::clock::Clock;
+use smoltcp_proved::proved::bench_parts::conversation::{Role, Talk, service};
+use smoltcp_proved::proved::bench_parts::digest::Digest;
+use smoltcp_proved::proved::bench_parts::random::{Random, source};
+use smoltcp_proved::proved::bench_parts::work::{BUFFER, PIECE, SIZES, Work, answer_len};
+use smoltcp_proved::kit::HostRuntime;
+use smoltcp_proved::proved::segment_wire;
+use smoltcp_proved::proved::smoltcp_socket::Context;
+use smoltcp_proved::proved::smoltcp_socket::storage::RingBuffer;
+use smoltcp_proved::proved::smoltcp_socket::tcp::{Socket, State};
+use smoltcp_proved::proved::smoltcp_socket::time::Instant;
+use smoltcp_proved::proved::smoltcp_socket::wire::*;
 use std::collections::VecDeque;
 
 const MTU: usize = 1500;

@@ -1,9 +1,10 @@
 //! A transfer between two sockets over a link that loses and delays packets, in virtual time (bench/plain).
-use smoltcp_socket::storage::RingBuffer;
-use smoltcp_socket::tcp::{CongestionControl, Rules, Socket, State};
-use smoltcp_socket::time::{Duration, Instant};
-use smoltcp_socket::wire::*;
-use smoltcp_socket::{Context, PollAt};
+use smoltcp_proved::proved::segment_wire;
+use smoltcp_proved::proved::smoltcp_socket::storage::RingBuffer;
+use smoltcp_proved::proved::smoltcp_socket::tcp::{CongestionControl, Rules, Socket, State};
+use smoltcp_proved::proved::smoltcp_socket::time::{Duration, Instant};
+use smoltcp_proved::proved::smoltcp_socket::wire::*;
+use smoltcp_proved::proved::smoltcp_socket::{Context, PollAt};
 use std::cmp::Reverse;
 use std::collections::BinaryHeap;
 use std::sync::atomic::{AtomicU32, Ordering};

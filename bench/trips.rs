@@ -6,15 +6,15 @@
 //!
 //! DELAY: how long an acknowledgement waits, in milliseconds, 10 without it. It prints how many packets a round trip
 //! took; how long it took is for callgrind to tell, from runs of two lengths.
-use bench_parts::clock::Clock;
-use host_context::Seeded;
-use kit::HostRuntime;
-use net_host::{GuardSettings, Interface, IpCidr, SocketHandle, SocketSet};
-use smoltcp_socket::Socket;
-use smoltcp_socket::storage::RingBuffer;
-use smoltcp_socket::tcp;
-use smoltcp_socket::time::{Duration, Instant};
-use smoltcp_socket::wire::*;
+use smoltcp_proved::proved::bench_parts::clock::Clock;
+use smoltcp_proved::proved::host_context::Seeded;
+use smoltcp_proved::kit::HostRuntime;
+use smoltcp_proved::proved::net_host::{GuardSettings, Interface, IpCidr, SocketHandle, SocketSet};
+use smoltcp_proved::proved::smoltcp_socket::Socket;
+use smoltcp_proved::proved::smoltcp_socket::storage::RingBuffer;
+use smoltcp_proved::proved::smoltcp_socket::tcp;
+use smoltcp_proved::proved::smoltcp_socket::time::{Duration, Instant};
+use smoltcp_proved::proved::smoltcp_socket::wire::*;
 
 const MTU: usize = 1500;
 const MESSAGE: usize = 100;
@@ -38,7 +38,7 @@ fn address(last: u8) -> Ipv4Address {
 impl Host {
     fn new(last: u8, count: usize) -> Host {
         let alloc = HostRuntime.alloc();
-        let mut addresses = kit::Vec::new(alloc);
+        let mut addresses = smoltcp_proved::kit::Vec::new(alloc);
         let _ = addresses.push(IpCidr { address: IpAddress::Ipv4(address(last)), prefix_len: 24 });
         let mut interface = Interface::new(addresses, Seeded { state: u64::from(last) });
         interface.set_guards(GuardSettings { timeout: None, ..GuardSettings::new() });

@@ -4,11 +4,12 @@
 //!     tun DEVICE ADDRESS SECONDS RULES BUFFER
 //!
 //! RULES is rfc or smoltcp; each buffer has BUFFER KB. It says `up` once the device is there.
-use smoltcp_socket::storage::RingBuffer;
-use smoltcp_socket::tcp::{Rules, Socket, State};
-use smoltcp_socket::time::{Duration, Instant};
-use smoltcp_socket::wire::*;
-use smoltcp_socket::{Context, PollAt};
+use smoltcp_proved::proved::segment_wire;
+use smoltcp_proved::proved::smoltcp_socket::storage::RingBuffer;
+use smoltcp_proved::proved::smoltcp_socket::tcp::{Rules, Socket, State};
+use smoltcp_proved::proved::smoltcp_socket::time::{Duration, Instant};
+use smoltcp_proved::proved::smoltcp_socket::wire::*;
+use smoltcp_proved::proved::smoltcp_socket::{Context, PollAt};
 use std::ffi::{c_int, c_long, c_ulong, c_void};
 use std::fs::{File, OpenOptions};
 use std::io::{Read, Write};
