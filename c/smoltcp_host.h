@@ -56,8 +56,10 @@ struct smoltcp_socket_id { size_t index; uint64_t generation; };
  * count as so many.
  *
  * handshake: until SYN-RECEIVED is left. It is given up without an RST, and the socket listens again.
- * closing: each of FIN-WAIT-1, FIN-WAIT-2, CLOSING and LAST-ACK. The connection is aborted.
- * window: a window of 0 while bytes wait to be sent, without one byte acknowledged (RFC 6429). It is aborted.
+ * closing: FIN-WAIT-2; and bytes or a FIN that wait in FIN-WAIT-1, CLOSING or LAST-ACK, with nothing newly
+ *   acknowledged. The connection is aborted.
+ * window: bytes that wait in ESTABLISHED or CLOSE-WAIT, with nothing newly acknowledged, whatever windows come
+ *   meanwhile (RFC 6429; R2 of RFC 9293). It is aborted.
  * timeout: the user timeout that each socket is given (RFC 9293, section 3.9.1); below 0, each keeps its own. It ends
  * idle connections too, of which nothing is heard: set keep-alives of a shorter interval where they are to last. */
 struct smoltcp_guards { int64_t handshake, closing, window, timeout; };
@@ -77,18 +79,18 @@ struct smoltcp_counters {
 /* The size of a host that the library has, in bytes. */
 size_t smoltcp_host_size(void);
 
-/* Makes a host in the memory, with count addresses and room for capacity sockets, which takes less than 800 bytes each
- * of the heap. Its moment is 0, its MTU 1500 bytes, and its guards are 30 seconds for a handshake, a minute for closing
- * and for timeout, and two minutes for window. The key is what initial sequence numbers are made of (RFC 6528): no two
- * hosts have the same. SMOLTCP_ERROR_ADDRESS where an address is of no version, SMOLTCP_ERROR_MEMORY where the heap has
- * too little; nothing is kept then, and no host is there.
+/* Makes a host in the memory, with count addresses and room for capacity sockets. Its tables take some 1,800 bytes of
+ * the heap for one socket, and some 850 a socket for ten or more. Its moment is 0, its MTU 1500 bytes, and its guards
+ * are 30 seconds for a handshake, a minute for closing and for timeout, and two minutes for window. The key is what
+ * initial sequence numbers are made of (RFC 6528): no two hosts have the same. SMOLTCP_ERROR_ADDRESS where an address
+ * is of no version, SMOLTCP_ERROR_MEMORY where the heap has too little; nothing is kept then, and no host is there.
  *
  * Errors: SMOLTCP_ERROR_ADDRESS, SMOLTCP_ERROR_MEMORY, SMOLTCP_ERROR_VERSION, SMOLTCP_ERROR_NULL. */
 int64_t smoltcp_host_init(struct smoltcp_host *host, size_t capacity, const struct smoltcp_cidr *addresses,
                           size_t count, const struct smoltcp_key *key);
 
-/* The same, told the size of the memory, which in C and C++ the macro tells for smoltcp_host_init:
- * SMOLTCP_ERROR_VERSION where it is not the library's, with nothing changed. */
+/* Makes a host as smoltcp_host_init does, which in C and C++ is a macro that passes the size of the memory.
+ * SMOLTCP_ERROR_VERSION where that is not the library's, with nothing changed. */
 int64_t smoltcp_host_init_sized(struct smoltcp_host *host, size_t size, size_t capacity,
                                 const struct smoltcp_cidr *addresses, size_t count, const struct smoltcp_key *key);
 #define smoltcp_host_init(host, ...) smoltcp_host_init_sized((host), sizeof *(host), __VA_ARGS__)
@@ -176,17 +178,23 @@ int64_t smoltcp_host_context(struct smoltcp_host *host, const struct smoltcp_add
  * Errors: SMOLTCP_ERROR_ROOM, SMOLTCP_ERROR_NULL. */
 int64_t smoltcp_host_add_tcp(struct smoltcp_host *host, struct smoltcp_tcp *s, struct smoltcp_socket_id *out);
 
-/* As smoltcp_host_add_tcp.
+/* Moves the UDP socket out of the memory into the first free slot of the host, and writes its name into out. The memory
+ * is the program's again, the buffers stay the socket's. SMOLTCP_ERROR_ROOM where no slot is free: the socket lies in
+ * the memory as before.
  *
  * Errors: SMOLTCP_ERROR_ROOM, SMOLTCP_ERROR_NULL. */
 int64_t smoltcp_host_add_udp(struct smoltcp_host *host, struct smoltcp_udp *s, struct smoltcp_socket_id *out);
 
-/* As smoltcp_host_add_tcp.
+/* Moves the raw socket out of the memory into the first free slot of the host, and writes its name into out. The memory
+ * is the program's again, the buffers stay the socket's. SMOLTCP_ERROR_ROOM where no slot is free: the socket lies in
+ * the memory as before.
  *
  * Errors: SMOLTCP_ERROR_ROOM, SMOLTCP_ERROR_NULL. */
 int64_t smoltcp_host_add_raw(struct smoltcp_host *host, struct smoltcp_raw *s, struct smoltcp_socket_id *out);
 
-/* As smoltcp_host_add_tcp.
+/* Moves the ICMP socket out of the memory into the first free slot of the host, and writes its name into out. The
+ * memory is the program's again, the buffers stay the socket's. SMOLTCP_ERROR_ROOM where no slot is free: the socket
+ * lies in the memory as before.
  *
  * Errors: SMOLTCP_ERROR_ROOM, SMOLTCP_ERROR_NULL. */
 int64_t smoltcp_host_add_icmp(struct smoltcp_host *host, struct smoltcp_icmp *s, struct smoltcp_socket_id *out);
@@ -198,17 +206,20 @@ int64_t smoltcp_host_add_icmp(struct smoltcp_host *host, struct smoltcp_icmp *s,
  * Errors: SMOLTCP_ERROR_SOCKET, SMOLTCP_ERROR_NULL. */
 int64_t smoltcp_host_remove_tcp(struct smoltcp_host *host, const struct smoltcp_socket_id *id, struct smoltcp_tcp *s);
 
-/* As smoltcp_host_remove_tcp.
+/* Moves the UDP socket of this name out of the host into the memory, in which no socket lies, with what is in its
+ * queues. SMOLTCP_ERROR_SOCKET where the host has no UDP socket of this name, with nothing changed.
  *
  * Errors: SMOLTCP_ERROR_SOCKET, SMOLTCP_ERROR_NULL. */
 int64_t smoltcp_host_remove_udp(struct smoltcp_host *host, const struct smoltcp_socket_id *id, struct smoltcp_udp *s);
 
-/* As smoltcp_host_remove_tcp.
+/* Moves the raw socket of this name out of the host into the memory, in which no socket lies, with what is in its
+ * queues. SMOLTCP_ERROR_SOCKET where the host has no raw socket of this name, with nothing changed.
  *
  * Errors: SMOLTCP_ERROR_SOCKET, SMOLTCP_ERROR_NULL. */
 int64_t smoltcp_host_remove_raw(struct smoltcp_host *host, const struct smoltcp_socket_id *id, struct smoltcp_raw *s);
 
-/* As smoltcp_host_remove_tcp.
+/* Moves the ICMP socket of this name out of the host into the memory, in which no socket lies, with what is in its
+ * queues. SMOLTCP_ERROR_SOCKET where the host has no ICMP socket of this name, with nothing changed.
  *
  * Errors: SMOLTCP_ERROR_SOCKET, SMOLTCP_ERROR_NULL. */
 int64_t smoltcp_host_remove_icmp(struct smoltcp_host *host, const struct smoltcp_socket_id *id,
@@ -221,17 +232,23 @@ int64_t smoltcp_host_remove_icmp(struct smoltcp_host *host, const struct smoltcp
  * Errors: SMOLTCP_ERROR_SOCKET, SMOLTCP_ERROR_NULL. */
 int64_t smoltcp_host_tcp(struct smoltcp_host *host, const struct smoltcp_socket_id *id, struct smoltcp_tcp **out);
 
-/* As smoltcp_host_tcp.
+/* Borrows the UDP socket of this name until the next call on the host: writes where it lies into out. The next emit
+ * polls it, whatever was done to it. SMOLTCP_ERROR_SOCKET where the host has no UDP socket of this name, and NULL in
+ * out, on which each call is refused.
  *
  * Errors: SMOLTCP_ERROR_SOCKET, SMOLTCP_ERROR_NULL. */
 int64_t smoltcp_host_udp(struct smoltcp_host *host, const struct smoltcp_socket_id *id, struct smoltcp_udp **out);
 
-/* As smoltcp_host_tcp.
+/* Borrows the raw socket of this name until the next call on the host: writes where it lies into out. The next emit
+ * polls it, whatever was done to it. SMOLTCP_ERROR_SOCKET where the host has no raw socket of this name, and NULL in
+ * out, on which each call is refused.
  *
  * Errors: SMOLTCP_ERROR_SOCKET, SMOLTCP_ERROR_NULL. */
 int64_t smoltcp_host_raw(struct smoltcp_host *host, const struct smoltcp_socket_id *id, struct smoltcp_raw **out);
 
-/* As smoltcp_host_tcp.
+/* Borrows the ICMP socket of this name until the next call on the host: writes where it lies into out. The next emit
+ * polls it, whatever was done to it. SMOLTCP_ERROR_SOCKET where the host has no ICMP socket of this name, and NULL in
+ * out, on which each call is refused.
  *
  * Errors: SMOLTCP_ERROR_SOCKET, SMOLTCP_ERROR_NULL. */
 int64_t smoltcp_host_icmp(struct smoltcp_host *host, const struct smoltcp_socket_id *id, struct smoltcp_icmp **out);

@@ -8,7 +8,8 @@
 extern "C" {
 #endif
 
-/* As smoltcp_tcp_ask.
+/* Returns what a socket reports for one of the numbers SMOLTCP_ASK_CAN_SEND and so on; SMOLTCP_ERROR_RANGE for a number
+ * that this kind does not have.
  *
  * Errors: SMOLTCP_ERROR_RANGE, SMOLTCP_ERROR_NULL. */
 int64_t smoltcp_icmp_ask(const struct smoltcp_icmp *s, uint32_t what);
@@ -19,8 +20,8 @@ int64_t smoltcp_icmp_ask(const struct smoltcp_icmp *s, uint32_t what);
  * Errors: SMOLTCP_ERROR_RANGE, SMOLTCP_ERROR_VERSION, SMOLTCP_ERROR_NULL. */
 int64_t smoltcp_icmp_init(struct smoltcp_icmp *s, struct smoltcp_icmp_buffer rx, struct smoltcp_icmp_buffer tx);
 
-/* The same, told the size of the memory, which in C and C++ the macro tells for smoltcp_icmp_init:
- * SMOLTCP_ERROR_VERSION where it is not the library's, with nothing changed. */
+/* Makes an ICMP socket as smoltcp_icmp_init does, which in C and C++ is a macro that passes the size of the memory.
+ * SMOLTCP_ERROR_VERSION where that is not the library's, with nothing changed. */
 int64_t smoltcp_icmp_init_sized(struct smoltcp_icmp *s, size_t size, struct smoltcp_icmp_buffer rx,
                                 struct smoltcp_icmp_buffer tx);
 #define smoltcp_icmp_init(s, ...) smoltcp_icmp_init_sized((s), sizeof *(s), __VA_ARGS__)

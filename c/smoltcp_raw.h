@@ -8,7 +8,8 @@
 extern "C" {
 #endif
 
-/* As smoltcp_tcp_ask.
+/* Returns what a socket reports for one of the numbers SMOLTCP_ASK_CAN_SEND and so on; SMOLTCP_ERROR_RANGE for a number
+ * that this kind does not have.
  *
  * Errors: SMOLTCP_ERROR_RANGE, SMOLTCP_ERROR_NULL. */
 int64_t smoltcp_raw_ask(const struct smoltcp_raw *s, uint32_t what);
@@ -21,8 +22,8 @@ int64_t smoltcp_raw_ask(const struct smoltcp_raw *s, uint32_t what);
 int64_t smoltcp_raw_init(struct smoltcp_raw *s, const struct smoltcp_raw_filter *filter, struct smoltcp_raw_buffer rx,
                          struct smoltcp_raw_buffer tx);
 
-/* The same, told the size of the memory, which in C and C++ the macro tells for smoltcp_raw_init: SMOLTCP_ERROR_VERSION
- * where it is not the library's, with nothing changed. */
+/* Makes a raw socket as smoltcp_raw_init does, which in C and C++ is a macro that passes the size of the memory.
+ * SMOLTCP_ERROR_VERSION where that is not the library's, with nothing changed. */
 int64_t smoltcp_raw_init_sized(struct smoltcp_raw *s, size_t size, const struct smoltcp_raw_filter *filter,
                                struct smoltcp_raw_buffer rx, struct smoltcp_raw_buffer tx);
 #define smoltcp_raw_init(s, ...) smoltcp_raw_init_sized((s), sizeof *(s), __VA_ARGS__)
@@ -95,7 +96,8 @@ int64_t smoltcp_raw_send(struct smoltcp_raw *s, const uint8_t *data, size_t len)
  * Errors: SMOLTCP_ERROR_EMPTY, SMOLTCP_ERROR_ROOM, SMOLTCP_ERROR_NULL. */
 int64_t smoltcp_raw_recv(struct smoltcp_raw *s, uint8_t *data, size_t cap);
 
-/* The same, and the packet stays.
+/* Copies the first packet of the receive queue into data, and returns its length; the packet stays in the queue.
+ * SMOLTCP_ERROR_EMPTY where none waits, SMOLTCP_ERROR_ROOM where data is too short.
  *
  * Errors: SMOLTCP_ERROR_EMPTY, SMOLTCP_ERROR_ROOM, SMOLTCP_ERROR_NULL. */
 int64_t smoltcp_raw_peek(struct smoltcp_raw *s, uint8_t *data, size_t cap);
@@ -112,7 +114,8 @@ int64_t smoltcp_raw_send_place(struct smoltcp_raw *s, size_t size, uint8_t **at)
  * Errors: SMOLTCP_ERROR_EMPTY, SMOLTCP_ERROR_NULL. */
 int64_t smoltcp_raw_recv_place(struct smoltcp_raw *s, const uint8_t **at);
 
-/* The same, and the packet stays.
+/* Writes where the first packet of the receive queue lies into at, and returns its length; the packet stays in the
+ * queue. It may be read until the next call on the socket.
  *
  * Errors: SMOLTCP_ERROR_EMPTY, SMOLTCP_ERROR_NULL. */
 int64_t smoltcp_raw_peek_place(struct smoltcp_raw *s, const uint8_t **at);

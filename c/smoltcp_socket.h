@@ -15,11 +15,7 @@
  * not brought in here, has such a host, in a library that asks for a heap too.
  *
  * Each call is a symbol of the library. Where a compiler of the GNU kind optimises, its body is inlined, which looks
- * for null pointers and hands on to a call of smoltcp_nonnull.h; with SMOLTCP_NO_INLINE defined it is not.
- *
- * History, of names that went: smoltcp_X_checked are smoltcp_X_nonnull, in smoltcp_nonnull.h, since they check nothing;
- * ERROR_SOCKET (-4) and ERROR_MESSAGE (-10) went with the first form of datagram sockets. The documented calls were
- * functions of the header alone, and take pointers to const now where they change nothing. */
+ * for null pointers and hands on to a call of smoltcp_nonnull.h; with SMOLTCP_NO_INLINE defined it is not. */
 #ifndef SMOLTCP_SOCKET_H
 #define SMOLTCP_SOCKET_H
 

@@ -19,8 +19,8 @@ int64_t smoltcp_tcp_ask(const struct smoltcp_tcp *s, uint32_t what);
  * Errors: SMOLTCP_ERROR_RANGE, SMOLTCP_ERROR_VERSION, SMOLTCP_ERROR_NULL. */
 int64_t smoltcp_tcp_init(struct smoltcp_tcp *s, uint8_t *rx, size_t rx_len, uint8_t *tx, size_t tx_len);
 
-/* The same, told the size of the memory, which in C and C++ the macro tells for smoltcp_tcp_init: SMOLTCP_ERROR_VERSION
- * where it is not the library's, with nothing changed. */
+/* Makes a closed socket as smoltcp_tcp_init does, which in C and C++ is a macro that passes the size of the memory.
+ * SMOLTCP_ERROR_VERSION where that is not the library's, with nothing changed. */
 int64_t smoltcp_tcp_init_sized(struct smoltcp_tcp *s, size_t size, uint8_t *rx, size_t rx_len, uint8_t *tx,
                                size_t tx_len);
 #define smoltcp_tcp_init(s, ...) smoltcp_tcp_init_sized((s), sizeof *(s), __VA_ARGS__)
@@ -75,14 +75,17 @@ int64_t smoltcp_tcp_negotiated(const struct smoltcp_tcp *s, struct smoltcp_negot
  * Errors: SMOLTCP_ERROR_STATE, SMOLTCP_ERROR_NULL. */
 int64_t smoltcp_tcp_send(struct smoltcp_tcp *s, const uint8_t *data, size_t len);
 
-/* Gives as many bytes as are there and fit, and answers how many. Where smoltcp_tcp_may_recv is 0,
- * SMOLTCP_ERROR_FINISHED if the peer has closed, else SMOLTCP_ERROR_STATE. When TIME-WAIT ends, ten seconds behind both
- * FINs, bytes that came and were not read are gone: read them before.
+/* Copies as many bytes as are queued and fit, removes them, and returns how many: 0 where none is queued yet. Where
+ * smoltcp_tcp_may_recv is 0, SMOLTCP_ERROR_FINISHED if the peer has closed and all was read (the 0 of BSD's recv), else
+ * SMOLTCP_ERROR_STATE. Queued bytes can still be read after an RST, until the next listen or connect. When TIME-WAIT
+ * ends, ten seconds behind both FINs, bytes that were not read are gone, unless the socket has SMOLTCP_RULES_RFC: read
+ * them before.
  *
  * Errors: SMOLTCP_ERROR_FINISHED, SMOLTCP_ERROR_STATE, SMOLTCP_ERROR_NULL. */
 int64_t smoltcp_tcp_recv(struct smoltcp_tcp *s, uint8_t *data, size_t len);
 
-/* The same, and the bytes stay.
+/* Copies as many bytes as are there and fit, and returns how many; they stay in the queue. Where smoltcp_tcp_may_recv
+ * is 0, SMOLTCP_ERROR_FINISHED if the peer has closed, else SMOLTCP_ERROR_STATE.
  *
  * Errors: SMOLTCP_ERROR_FINISHED, SMOLTCP_ERROR_STATE, SMOLTCP_ERROR_NULL. */
 int64_t smoltcp_tcp_peek_slice(const struct smoltcp_tcp *s, uint8_t *data, size_t len);
@@ -93,8 +96,8 @@ int64_t smoltcp_tcp_peek_slice(const struct smoltcp_tcp *s, uint8_t *data, size_
  * Errors: SMOLTCP_ERROR_FINISHED, SMOLTCP_ERROR_STATE, SMOLTCP_ERROR_NULL. */
 int64_t smoltcp_tcp_peek(const struct smoltcp_tcp *s, size_t size, const uint8_t **at);
 
-/* Drops so many bytes from the front of the receive queue, also past the piece that peek lends; SMOLTCP_ERROR_RANGE
- * where it has fewer.
+/* Removes count bytes from the front of the receive queue, also past the piece that peek returned, and returns count,
+ * not SMOLTCP_OK. SMOLTCP_ERROR_RANGE where the queue has fewer, with nothing removed.
  *
  * Errors: SMOLTCP_ERROR_FINISHED, SMOLTCP_ERROR_STATE, SMOLTCP_ERROR_RANGE, SMOLTCP_ERROR_NULL. */
 int64_t smoltcp_tcp_consume(struct smoltcp_tcp *s, size_t count);
@@ -105,7 +108,8 @@ int64_t smoltcp_tcp_consume(struct smoltcp_tcp *s, size_t count);
  * Errors: SMOLTCP_ERROR_STATE, SMOLTCP_ERROR_NULL. */
 int64_t smoltcp_tcp_reserve(struct smoltcp_tcp *s, uint8_t **at);
 
-/* Sends the first count of these bytes as they stand there; SMOLTCP_ERROR_RANGE where reserve lends fewer.
+/* Appends the first count of these bytes to the transmit queue, as they stand there, and returns count, not SMOLTCP_OK.
+ * SMOLTCP_ERROR_RANGE where reserve hands out fewer, with nothing appended.
  *
  * Errors: SMOLTCP_ERROR_STATE, SMOLTCP_ERROR_RANGE, SMOLTCP_ERROR_NULL. */
 int64_t smoltcp_tcp_commit(struct smoltcp_tcp *s, size_t count);
@@ -155,7 +159,8 @@ int64_t smoltcp_tcp_can_send(const struct smoltcp_tcp *s);
  * Errors: SMOLTCP_ERROR_NULL. */
 int64_t smoltcp_tcp_can_recv(const struct smoltcp_tcp *s);
 
-/* How many bytes were sent and are not acknowledged.
+/* How many bytes send, or commit, accepted and the peer has not acknowledged, whether they were transmitted or not. The
+ * free room is smoltcp_tcp_send_capacity less this.
  *
  * Errors: SMOLTCP_ERROR_NULL. */
 int64_t smoltcp_tcp_send_queue(const struct smoltcp_tcp *s);

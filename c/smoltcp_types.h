@@ -15,7 +15,7 @@ extern "C" {
 #define SMOLTCP_VERSION_PATCH 0
 #define SMOLTCP_VERSION "0.1.0"
 
-/* What calls answer; smoltcp_strerror has their words. -10 is no answer of any call: it was one of ICMP once. */
+/* What calls answer; smoltcp_strerror has their texts. No call returns -10. */
 enum {
     SMOLTCP_OK = 0,
     SMOLTCP_ERROR_STATE = -1,    /* the state of the socket does not allow the call */
@@ -128,7 +128,7 @@ struct smoltcp_udp_place { uint64_t opaque[SMOLTCP_UDP_PLACE_SIZE / 8]; };
 /* What a queue of a UDP socket lies in: a place for each datagram, and bytes for the payloads, at most 2^30 of both. */
 struct smoltcp_udp_buffer { struct smoltcp_udp_place *places; size_t count; uint8_t *bytes; size_t len; };
 
-/* The same for a raw socket, whose queues hold whole IP packets. */
+/* Memory for a raw socket, and for a place of its queues of whole IP packets; and what such a queue lies in. */
 enum { SMOLTCP_RAW_SIZE = 136, SMOLTCP_RAW_PLACE_SIZE = 16 };
 struct smoltcp_raw { uint64_t opaque[SMOLTCP_RAW_SIZE / 8]; };
 struct smoltcp_raw_place { uint64_t opaque[SMOLTCP_RAW_PLACE_SIZE / 8]; };

@@ -8,7 +8,8 @@
 extern "C" {
 #endif
 
-/* As smoltcp_tcp_ask.
+/* Returns what a socket reports for one of the numbers SMOLTCP_ASK_CAN_SEND and so on; SMOLTCP_ERROR_RANGE for a number
+ * that this kind does not have.
  *
  * Errors: SMOLTCP_ERROR_RANGE, SMOLTCP_ERROR_NULL. */
 int64_t smoltcp_udp_ask(const struct smoltcp_udp *s, uint32_t what);
@@ -19,8 +20,8 @@ int64_t smoltcp_udp_ask(const struct smoltcp_udp *s, uint32_t what);
  * Errors: SMOLTCP_ERROR_RANGE, SMOLTCP_ERROR_VERSION, SMOLTCP_ERROR_NULL. */
 int64_t smoltcp_udp_init(struct smoltcp_udp *s, struct smoltcp_udp_buffer rx, struct smoltcp_udp_buffer tx);
 
-/* The same, told the size of the memory, which in C and C++ the macro tells for smoltcp_udp_init: SMOLTCP_ERROR_VERSION
- * where it is not the library's, with nothing changed. */
+/* Makes a UDP socket as smoltcp_udp_init does, which in C and C++ is a macro that passes the size of the memory.
+ * SMOLTCP_ERROR_VERSION where that is not the library's, with nothing changed. */
 int64_t smoltcp_udp_init_sized(struct smoltcp_udp *s, size_t size, struct smoltcp_udp_buffer rx,
                                struct smoltcp_udp_buffer tx);
 #define smoltcp_udp_init(s, ...) smoltcp_udp_init_sized((s), sizeof *(s), __VA_ARGS__)
@@ -118,7 +119,9 @@ int64_t smoltcp_udp_send(struct smoltcp_udp *s, const struct smoltcp_udp_metadat
  * Errors: SMOLTCP_ERROR_EMPTY, SMOLTCP_ERROR_ROOM, SMOLTCP_ERROR_NULL. */
 int64_t smoltcp_udp_recv(struct smoltcp_udp *s, struct smoltcp_udp_metadata *meta, uint8_t *data, size_t cap);
 
-/* The same, and the datagram stays.
+/* Copies the payload of the first datagram of the receive queue into data, and returns its length, with where it came
+ * from in meta; the datagram stays in the queue. SMOLTCP_ERROR_EMPTY where none waits, SMOLTCP_ERROR_ROOM where data is
+ * too short.
  *
  * Errors: SMOLTCP_ERROR_EMPTY, SMOLTCP_ERROR_ROOM, SMOLTCP_ERROR_NULL. */
 int64_t smoltcp_udp_peek(struct smoltcp_udp *s, struct smoltcp_udp_metadata *meta, uint8_t *data, size_t cap);
@@ -136,7 +139,8 @@ int64_t smoltcp_udp_send_place(struct smoltcp_udp *s, const struct smoltcp_udp_m
  * Errors: SMOLTCP_ERROR_EMPTY, SMOLTCP_ERROR_NULL. */
 int64_t smoltcp_udp_recv_place(struct smoltcp_udp *s, struct smoltcp_udp_metadata *meta, const uint8_t **at);
 
-/* The same, and the datagram stays.
+/* Writes where the payload of the first datagram of the receive queue lies into at, and where it came from into meta,
+ * and returns its length; the datagram stays in the queue. It may be read until the next call on the socket.
  *
  * Errors: SMOLTCP_ERROR_EMPTY, SMOLTCP_ERROR_NULL. */
 int64_t smoltcp_udp_peek_place(struct smoltcp_udp *s, struct smoltcp_udp_metadata *meta, const uint8_t **at);

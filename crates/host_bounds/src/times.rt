@@ -1,4 +1,4 @@
-//! The same where no place wants to be asked at once: levels of bounds.
+//! Deadlines of slots none of which is due at once: levels of bounds.
 ghost use Rattle.std.specs.Prelude.{ℕ, ◌≡◌, ◌≤◌, ◌<◌, ◌/◌, ◌<ℤ◌, ◌≤ℤ◌, IfOk, length, slice_set, true};
 ghost use Rattle.std.specs.List.{All};
 ghost use Rattle.host_bounds.specs.Bounding.{Covers, FindsReached, IsBelowAll, IsGreatest, IsLayered, at_once};

@@ -19,6 +19,9 @@ const LATEST: usize = 1 << 60;
 /// refused as `Unaddressable` and a datagram to it leaves the queue without a packet, and `has_ip_addr` denies it. The
 /// one exception is an ICMPv6 message: a socket asks for its source by a call that always answers one.
 ///
+/// Its IPv4 address cannot be set afterwards, and there is no second one: a host that changes its addresses has to say
+/// what becomes of its sockets.
+///
 /// `W` is the source of random words. `O` is where packets that sockets emit are put, as `Outbox`: the closure of
 /// `dispatch` is lent the interface, and reaches it there.
 #[derive(Drop)]
@@ -93,7 +96,7 @@ impl<W, O> Interface<W, O> {
         self.micros = micros.min(LATEST);
     }
 
-    /// The same in milliseconds.
+    /// Sets the time in milliseconds.
     pub fn set_millis(&mut self, millis: u32)
         ensures micros { self.new.micros ≡ millis * 1000 }
         ensures same { (self.new.v4 ≡ self.old.v4) × (self.new.v6 ≡ self.old.v6) × (self.new.mtu ≡ self.old.mtu)

@@ -91,7 +91,7 @@ impl Outbox {
         Ok(bytes)
     }
 
-    /// The same with this datagram.
+    /// Adds a packet with this UDP datagram. False where the header does not carry it: then nothing is added.
     pub fn emit_udp(
         &mut self,
         ip: &IpRepr,

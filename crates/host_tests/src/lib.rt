@@ -8,4 +8,6 @@ mod devices;
 #[cfg(test)]
 mod hosts;
 #[cfg(test)]
+mod limits;
+#[cfg(test)]
 mod sizes;

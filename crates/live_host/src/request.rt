@@ -19,10 +19,13 @@ pub enum Request {
     /// So many bytes.
     Bytes(u64),
     /// Anything else.
+    /// The reply has status 404.
     NotFound,
     /// A method other than GET.
+    /// The reply has status 405.
     NotAllowed,
     /// No request, or one that is too long.
+    /// The reply has status 400.
     Bad,
 }
 

@@ -31,7 +31,7 @@ not_open state.CloseWait h = absurd (no_truth h)
 not_open state.Closing h = absurd (no_truth h)
 not_open state.LastAck h = absurd (no_truth h)
 
-no_ack : (c : TcpControl) (a : Option TcpSeqNumber) → opens_by c a ≡ true → a ≡ None
+pub no_ack : (c : TcpControl) (a : Option TcpSeqNumber) → opens_by c a ≡ true → a ≡ None
 no_ack control.Syn None h = refl
 no_ack control.Syn (Some n) h = absurd (no_truth h)
 no_ack control.None a h = absurd (no_truth h)
@@ -39,7 +39,7 @@ no_ack control.Psh a h = absurd (no_truth h)
 no_ack control.Fin a h = absurd (no_truth h)
 no_ack control.Rst a h = absurd (no_truth h)
 
-no_reset : (c : TcpControl) (a : Option TcpSeqNumber) → opens_by c a ≡ true → c ≡ control.Rst → ⊥
+pub no_reset : (c : TcpControl) (a : Option TcpSeqNumber) → opens_by c a ≡ true → c ≡ control.Rst → ⊥
 no_reset control.Rst a h e = no_truth h
 no_reset control.Syn a h e = cc
 no_reset control.None a h e = cc

@@ -2,9 +2,11 @@
 use Rattle.std.proofs.Common.{◌≡◌, ◌∙◌, true, false, Option, Some, None, refl, sym, ap, arith}
 use Rattle.std.specs.Prelude.{◌&&◌, ◌==◌}
 use Rattle.net_base.specs.declared.time.Duration.{Duration}
+use Rattle.std.proofs.lemmas.Int.{ints}
 use Rattle.net_base.specs.declared.time.Instant.{Instant}
+use Rattle.control_wire.specs.declared.seq_number.TcpSeqNumber.{TcpSeqNumber}
 use Rattle.sock_tcp.specs.View.{View}
-use Rattle.net_host.specs.Guards.{end_in, end_of, ended_if, has_ended, last_left, lawful_limit, limit_of, moment_left, phase_left, phase_of, since_in, with_timeout}
+use Rattle.net_host.specs.Guards.{end_in, end_of, ended_if, has_ended, last_left, lawful_limit, limit_of, moment_left, phase_left, phase_of, same_phase, since_by, since_in, with_timeout}
 use Rattle.net_host.specs.Looking.{has_timeout, is_moment, is_phase, seen_with}
 use Rattle.net_host.specs.Remembered.{Remembered as Guard}
 use Rattle.net_host.specs.Watching.{Looks, is_over_for}
@@ -43,4 +45,48 @@ module _ (st : GuardSettings) (v : View) (g : Guard) where
       ap (λ q. is_phase q (phase_of v) && (is_moment g.end (end_of (limit_of st q) g.since) && has_timeout (lawful_limit st.timeout) v.timeout)) p
       ∙ ap (λ q. is_phase phase.Free q && (is_moment g.end (end_of (limit_of st phase.Free) g.since) && has_timeout (lawful_limit st.timeout) v.timeout)) free
       ∙ ap (λ o. is_moment o None && has_timeout (lawful_limit st.timeout) v.timeout) e
+      ∙ t
+
+pub same_number : (a b : TcpSeqNumber) → a.0 ≡ b.0 → a ≡ b
+same_number a b e = ap (λ n. record { 0 = n }) e
+
+-- bytes that wait as they did
+module _ (st : GuardSettings) (now : Instant) (v : View) (g : Guard) (n : TcpSeqNumber) (waits : phase_of v ≡ phase.Stuck n) (before : g.phase ≡ phase.Stuck n) where
+  itself : same_phase (phase.Stuck n) (phase.Stuck n) ≡ true
+  itself = grind arith
+
+  since_on : since_by true g.since now ≡ g.since → since_in (phase_of v) g.phase g.since now ≡ g.since
+  since_on s =
+      ap (λ q. since_in q g.phase g.since now) waits
+      ∙ ap (λ q. since_by (same_phase (phase.Stuck n) q) g.since now) before
+      ∙ ap (λ b. since_by b g.since now) itself
+      ∙ s
+
+  end_on : since_by true g.since now ≡ g.since → end_of (limit_of st (phase.Stuck n)) g.since ≡ g.end → end_in st (phase_of v) g.phase g.since now ≡ g.end
+  end_on s e = ap (λ q. end_of (limit_of st q) (since_in (phase_of v) g.phase g.since now)) waits ∙ ap (λ t. end_of (limit_of st (phase.Stuck n)) t) (since_on s) ∙ e
+
+  pub looks_on : since_by true g.since now ≡ g.since → end_of (limit_of st (phase.Stuck n)) g.since ≡ g.end → has_ended g.end now ≡ false → g.last ≡ None → has_timeout (lawful_limit st.timeout) v.timeout ≡ true → Looks st now v g g v
+  looks_on s e k l t =
+      let over : is_over_for st g v now ≡ false = ap (λ o. has_ended o now) (end_on s e) ∙ k in
+      record {
+        phase = before ∙ sym (ap (λ o. phase_left o (phase_of v)) over ∙ waits);
+        since = sym (ap (λ o. moment_left o (since_in (phase_of v) g.phase g.since now)) over ∙ since_on s);
+        end = sym (ap (λ o. moment_left o (end_in st (phase_of v) g.phase g.since now)) over ∙ end_on s e);
+        last = l ∙ sym (ap (λ o. last_left o (phase_of v) g.last) over ∙ ap (λ q. last_left false q g.last) waits);
+        moment = refl;
+        taken = refl;
+        socket = sym (ap (λ o. ended_if o (phase_of v) (with_timeout (lawful_limit st.timeout) v)) over ∙ kept_timeout (lawful_limit st.timeout) v.timeout v refl t);
+      }
+
+  same_moment : (t : Option Instant) → is_moment t t ≡ true
+  same_moment None = refl
+  same_moment (Some t) = grind (arith, ints)
+
+  pub seen_on : end_of (limit_of st (phase.Stuck n)) g.since ≡ g.end → has_timeout (lawful_limit st.timeout) v.timeout ≡ true → seen_with st g.phase g.since g.end v ≡ true
+  seen_on e t =
+      ap (λ q. is_phase q (phase_of v) && (is_moment g.end (end_of (limit_of st q) g.since) && has_timeout (lawful_limit st.timeout) v.timeout)) before
+      ∙ ap (λ q. is_phase (phase.Stuck n) q && (is_moment g.end (end_of (limit_of st (phase.Stuck n)) g.since) && has_timeout (lawful_limit st.timeout) v.timeout)) waits
+      ∙ ap (λ b. b && (is_moment g.end (end_of (limit_of st (phase.Stuck n)) g.since) && has_timeout (lawful_limit st.timeout) v.timeout)) itself
+      ∙ ap (λ o. is_moment g.end o && has_timeout (lawful_limit st.timeout) v.timeout) e
+      ∙ ap (λ b. b && has_timeout (lawful_limit st.timeout) v.timeout) (same_moment g.end)
       ∙ t

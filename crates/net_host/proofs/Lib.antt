@@ -1,4 +1,6 @@
+pub mod Aim
 pub mod Idle
+pub mod Listeners
 pub mod SameNumbers
 pub mod Changes
 pub mod Sleepers

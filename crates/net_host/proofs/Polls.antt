@@ -116,10 +116,8 @@ same_number n = grind arith
 itself : (p : Phase) → is_phase p p ≡ true
 itself phase.Free = refl
 itself phase.Handshake = refl
-itself phase.FinWait1 = refl
 itself phase.FinWait2 = refl
-itself phase.Closing = refl
-itself phase.LastAck = refl
+itself (phase.Closing a) = grind arith
 itself (phase.Stuck a) = grind arith
 
 same_moment : (t : Option Instant) → is_moment t t ≡ true
@@ -159,19 +157,15 @@ given_timeout v = go (v.listen_endpoint.port == 0)
 ended_phase : (p : Phase) (v : View) → phase_of (ended p v) ≡ phase.Free
 ended_phase phase.Free v = refl
 ended_phase phase.Handshake v = given_phase v
-ended_phase phase.FinWait1 v = refl
 ended_phase phase.FinWait2 v = refl
-ended_phase phase.Closing v = refl
-ended_phase phase.LastAck v = refl
+ended_phase (phase.Closing a) v = refl
 ended_phase (phase.Stuck a) v = refl
 
 ended_timeout : (p : Phase) (v : View) → (ended p v).timeout ≡ v.timeout
 ended_timeout phase.Free v = refl
 ended_timeout phase.Handshake v = given_timeout v
-ended_timeout phase.FinWait1 v = refl
 ended_timeout phase.FinWait2 v = refl
-ended_timeout phase.Closing v = refl
-ended_timeout phase.LastAck v = refl
+ended_timeout (phase.Closing a) v = refl
 ended_timeout (phase.Stuck a) v = refl
 
 seen_parts : (st : GuardSettings) (p : Phase) (since end : Option Instant) (w : View) → phase_of w ≡ p → end ≡ end_of (limit_of st p) since → has_timeout (lawful_limit st.timeout) w.timeout ≡ true → seen_with st p since end w ≡ true

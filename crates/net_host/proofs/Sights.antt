@@ -21,32 +21,26 @@ use Rattle.net_host.specs.declared.guard.Phase.{Phase}
 use Rattle.net_host.specs.declared.guard.Phase.TheVariants as phase
 use Rattle.net_host.specs.declared.sight.Sight.{Sight}
 
-pub kind_of : (st : State) (shut empty : Bool) (una : TcpSeqNumber) → phase_from (kind_by (kind_in st) shut empty) una ≡ phase_in st shut empty una
-kind_of state.Closed shut empty una = refl
-kind_of state.Listen shut empty una = refl
-kind_of state.SynSent shut empty una = refl
-kind_of state.SynReceived shut empty una = refl
-kind_of state.Established true true una = refl
-kind_of state.Established true false una = refl
-kind_of state.Established false true una = refl
-kind_of state.Established false false una = refl
-kind_of state.FinWait1 shut empty una = refl
-kind_of state.FinWait2 shut empty una = refl
-kind_of state.CloseWait true true una = refl
-kind_of state.CloseWait true false una = refl
-kind_of state.CloseWait false true una = refl
-kind_of state.CloseWait false false una = refl
-kind_of state.Closing shut empty una = refl
-kind_of state.LastAck shut empty una = refl
-kind_of state.TimeWait shut empty una = refl
+pub kind_of : (st : State) (empty : Bool) (una : TcpSeqNumber) → phase_from (kind_by (kind_in st) empty) una ≡ phase_in st empty una
+kind_of state.Closed empty una = refl
+kind_of state.Listen empty una = refl
+kind_of state.SynSent empty una = refl
+kind_of state.SynReceived empty una = refl
+kind_of state.Established true una = refl
+kind_of state.Established false una = refl
+kind_of state.FinWait1 empty una = refl
+kind_of state.FinWait2 empty una = refl
+kind_of state.CloseWait true una = refl
+kind_of state.CloseWait false una = refl
+kind_of state.Closing empty una = refl
+kind_of state.LastAck empty una = refl
+kind_of state.TimeWait empty una = refl
 
 since_kind : (k : Kind) (n : TcpSeqNumber) (p : Phase) (since : Option Instant) (now : Instant) → (k ≡ kind.Free → ⊥) → since_in (phase_from k n) p since now ≡ since_by (same_phase (phase_from k n) p) since now
 since_kind kind.Free n p since now nay = absurd (nay refl)
 since_kind kind.Handshake n p since now nay = refl
-since_kind kind.FinWait1 n p since now nay = refl
 since_kind kind.FinWait2 n p since now nay = refl
 since_kind kind.Closing n p since now nay = refl
-since_kind kind.LastAck n p since now nay = refl
 since_kind kind.Stuck n p since now nay = refl
 
 -- a number that is none of no moment

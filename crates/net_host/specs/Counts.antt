@@ -4,6 +4,22 @@ use Rattle.net_host.specs.declared.counters.Counters.{Counters}
 use Rattle.net_host.specs.declared.counters.Reason.{Reason}
 use Rattle.net_host.specs.declared.counters.Reason.TheVariants as reason
 
+abbrev pub no_counts : Counters
+no_counts = record {
+  malformed = 0;
+  source = 0;
+  destination = 0;
+  protocol = 0;
+  segment = 0;
+  datagram = 0;
+  message = 0;
+  busy = 0;
+  nobody = 0;
+  cookies_sent = 0;
+  cookies_taken = 0;
+  cookies_wrong = 0;
+}
+
 abbrev pub next : ℕ → ℕ
 next n = (n + 1) % 2 ^ 64
 

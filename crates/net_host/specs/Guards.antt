@@ -50,32 +50,33 @@ lawful_limit (Some d) = Some (record { micros = min d.micros 1152921504606846976
 
 -- ---- the phases that only the peer can end
 
--- a window of 0 while bytes wait
-abbrev pub stuck_by : Bool → Bool → TcpSeqNumber → Phase
-stuck_by true false una = phase.Stuck una
-stuck_by _ _ una = phase.Free
+-- bytes wait, whatever the window
+abbrev pub stuck_by : Bool → TcpSeqNumber → Phase
+stuck_by false una = phase.Stuck una
+stuck_by true una = phase.Free
 
-abbrev pub phase_in : State → Bool → Bool → TcpSeqNumber → Phase
-phase_in state.SynReceived shut empty una = phase.Handshake
-phase_in state.FinWait1 shut empty una = phase.FinWait1
-phase_in state.FinWait2 shut empty una = phase.FinWait2
-phase_in state.Closing shut empty una = phase.Closing
-phase_in state.LastAck shut empty una = phase.LastAck
-phase_in state.Established shut empty una = stuck_by shut empty una
-phase_in state.CloseWait shut empty una = stuck_by shut empty una
-phase_in _ shut empty una = phase.Free
+-- in FIN-WAIT-1, CLOSING and LAST-ACK the FIN waits, if no byte does
+abbrev pub phase_in : State → Bool → TcpSeqNumber → Phase
+phase_in state.SynReceived empty una = phase.Handshake
+phase_in state.FinWait1 empty una = phase.Closing una
+phase_in state.FinWait2 empty una = phase.FinWait2
+phase_in state.Closing empty una = phase.Closing una
+phase_in state.LastAck empty una = phase.Closing una
+phase_in state.Established empty una = stuck_by empty una
+phase_in state.CloseWait empty una = stuck_by empty una
+phase_in _ empty una = phase.Free
 
 abbrev pub phase_of : View → Phase
-phase_of v = phase_in v.state (v.remote_win_len == 0) (length v.tx_buffer.bytes == 0) v.local_seq_no
+phase_of v = phase_in v.state (length v.tx_buffer.bytes == 0) v.local_seq_no
 
--- with a byte acknowledged, being stuck begins anew
+-- with a byte or the FIN acknowledged, the wait begins anew; a state that is left for another does not begin it anew
 abbrev pub same_phase : Phase → Phase → Bool
 same_phase phase.Handshake phase.Handshake = true
-same_phase phase.FinWait1 phase.FinWait1 = true
 same_phase phase.FinWait2 phase.FinWait2 = true
-same_phase phase.Closing phase.Closing = true
-same_phase phase.LastAck phase.LastAck = true
 same_phase (phase.Stuck a) (phase.Stuck b) = seq_eq a b
+same_phase (phase.Stuck a) (phase.Closing b) = seq_eq a b
+same_phase (phase.Closing a) (phase.Stuck b) = seq_eq a b
+same_phase (phase.Closing a) (phase.Closing b) = seq_eq a b
 same_phase _ _ = false
 
 abbrev pub limit_of : GuardSettings → Phase → Option Duration

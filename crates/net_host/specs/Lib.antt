@@ -1,3 +1,4 @@
+pub mod Aim
 pub mod Addresses
 pub mod Arrivals
 pub mod Cookies

@@ -1,7 +1,11 @@
 -- How many answers of one kind go out in a second.
-use Rattle.std.specs.Prelude.{ℕ, ◌-◌, ◌==◌, nat_le, not, Bool, unsigned_abs, ◌-ℤ◌, if◌then◌else◌}
+use Rattle.std.specs.Prelude.{ℕ, pos, ◌-◌, ◌==◌, nat_le, not, Bool, unsigned_abs, ◌-ℤ◌, if◌then◌else◌}
 use Rattle.net_base.specs.declared.time.Instant.{Instant}
 use Rattle.net_host.specs.declared.limit.Limit.{Limit}
+
+-- all of a second's answers are left
+abbrev pub full_limit : Limit
+full_limit = record { since = record { micros = pos 0 }; left = 100 }
 
 -- how far two moments are apart, in microseconds
 abbrev pub apart : Instant → Instant → ℕ

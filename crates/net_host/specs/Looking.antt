@@ -30,10 +30,8 @@ use Rattle.net_host.specs.declared.terms.Terms.{Terms}
 abbrev pub is_phase : Phase → Phase → Bool
 is_phase phase.Free phase.Free = true
 is_phase phase.Handshake phase.Handshake = true
-is_phase phase.FinWait1 phase.FinWait1 = true
 is_phase phase.FinWait2 phase.FinWait2 = true
-is_phase phase.Closing phase.Closing = true
-is_phase phase.LastAck phase.LastAck = true
+is_phase (phase.Closing a) (phase.Closing b) = seq_eq a b
 is_phase (phase.Stuck a) (phase.Stuck b) = seq_eq a b
 is_phase _ _ = false
 

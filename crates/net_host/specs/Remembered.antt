@@ -36,8 +36,6 @@ IsTold moment = ForSome moment (λ t. negsuc 9223372036854775807 <ℤ t.micros)
 abbrev pub phase_from : Kind → TcpSeqNumber → Phase
 phase_from kind.Free n = phase.Free
 phase_from kind.Handshake n = phase.Handshake
-phase_from kind.FinWait1 n = phase.FinWait1
 phase_from kind.FinWait2 n = phase.FinWait2
-phase_from kind.Closing n = phase.Closing
-phase_from kind.LastAck n = phase.LastAck
+phase_from kind.Closing n = phase.Closing n
 phase_from kind.Stuck n = phase.Stuck n

@@ -19,18 +19,18 @@ use Rattle.net_host.specs.declared.slot.Slot.{Slot}
 -- what the peer is waited for, by the state alone: being stuck where more has to be known
 abbrev pub kind_in : State → Kind
 kind_in state.SynReceived = kind.Handshake
-kind_in state.FinWait1 = kind.FinWait1
+kind_in state.FinWait1 = kind.Closing
 kind_in state.FinWait2 = kind.FinWait2
 kind_in state.Closing = kind.Closing
-kind_in state.LastAck = kind.LastAck
+kind_in state.LastAck = kind.Closing
 kind_in state.Established = kind.Stuck
 kind_in state.CloseWait = kind.Stuck
 kind_in _ = kind.Free
 
-abbrev pub kind_by : Kind → Bool → Bool → Kind
-kind_by kind.Stuck true false = kind.Stuck
-kind_by kind.Stuck shut empty = kind.Free
-kind_by k shut empty = k
+abbrev pub kind_by : Kind → Bool → Kind
+kind_by kind.Stuck true = kind.Free
+kind_by kind.Stuck false = kind.Stuck
+kind_by k empty = k
 
 -- as a look would remember it, were it not over
 pub record IsSight (st : GuardSettings) (now : Instant) (v : View) (g : Guard) (s : Sight) : Type 0 where

@@ -13,6 +13,11 @@ use Rattle.net_host.specs.declared.slot.SocketHandle.{SocketHandle}
 abbrev pub IsFree : {G : Type 0} → Slot G → Type 0
 IsFree s = s.socket ≡ None
 
+-- a place that no socket was put to yet: generations begin at 1, so a handle of zeros names nothing
+pub record IsFirstFree {G : Type 0} (s : Slot G) : Type 0 where
+  pub free : IsFree s
+  pub generation : s.generation ≡ 1
+
 -- the socket that a place has under a generation
 abbrev pub held : {G : Type 0} → Option (Slot G) → ℕ → Option (Socket G)
 held None g = None

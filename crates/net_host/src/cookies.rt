@@ -29,7 +29,7 @@ use sock_tcp::Reply;
 pub enum Course {
     /// What becomes of it where they are not.
     Plain,
-    /// The same: an acknowledgement that no socket takes, and that answers no such answer.
+    /// What becomes of an acknowledgement that no socket takes and that carries no valid cookie.
     Doubted,
     /// A SYN is answered with this number, and the listener at this place is kept.
     Answered(usize, u32),

@@ -79,7 +79,7 @@ fn emit_datagram(socket: &mut udp::Socket<'_>, wire: &mut Wire<'_>) -> Result<()
     )
 }
 
-/// The same of a UDP socket.
+/// Dispatches a UDP socket into `out`.
 // Not inlined, so that the turn of a TCP socket stays short.
 #[inline(never)]
 pub(crate) fn emit_udp(
@@ -117,7 +117,7 @@ fn emit_message(socket: &mut icmp::Socket<'_>, wire: &mut Wire<'_>) -> Result<()
     )
 }
 
-/// The same of an ICMP socket.
+/// Dispatches an ICMP socket into `out`.
 // Not inlined, so that the turn of a TCP socket stays short.
 #[inline(never)]
 pub(crate) fn emit_icmp(
@@ -154,7 +154,7 @@ fn emit_packet(socket: &mut raw::Socket<'_>, wire: &mut Wire<'_>) -> Result<(), 
     )
 }
 
-/// The same of a raw socket.
+/// Dispatches a raw socket into `out`.
 // Not inlined, so that the turn of a TCP socket stays short.
 #[inline(never)]
 pub(crate) fn emit_raw(

@@ -109,7 +109,7 @@ impl<T: Keyed> Filed<T> {
         }
     }
 
-    /// The same, before places under a key are looked for.
+    /// Files the borrowed slot before slots under a key are looked for.
     pub(crate) fn settle_for(&mut self, key: Entry)
         ensures slots { self.new.slots ≡ self.old.slots }
         ensures settled { IsSettled T.keys_of self.new.complete self.new.slots.items self.new.index self.new.free }

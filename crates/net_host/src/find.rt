@@ -143,7 +143,8 @@ pub(crate) fn first_in<C: Context, G: TsvalSource>(
     }
 }
 
-/// The same, where each entry mostly stands behind the key, as where nothing listens: that is seen by one look.
+/// The first slot under a key that takes the segment, where each entry mostly stands behind the key, as where nothing
+/// listens: that is seen by one look.
 #[inline(always)]
 #[tactic(auto, using(crate::proofs::Runs::none_listed))]
 pub(crate) fn first_if_any<C: Context, G: TsvalSource>(
@@ -165,7 +166,8 @@ pub(crate) fn first_if_any<C: Context, G: TsvalSource>(
     first_in(slots, index, key, cx, sought, ip, repr)
 }
 
-/// The same, where the key was sought, and the first place under it is not known or does not fit.
+/// The first slot under a key that takes the segment, where the key was sought, and the first slot under it is not
+/// known or does not fit.
 #[inline(always)]
 pub(crate) fn first_sought<C: Context, G: TsvalSource>(
     slots: &[Slot<'_, G>],

@@ -27,10 +27,11 @@ pub struct GuardSettings {
     /// Of a handshake that a SYN began, until SYN-RECEIVED is left. It is given up without an RST, so that a client
     /// whose segments were lost tries again (RFC 6298, section 5.7): the socket listens again.
     pub handshake: Option<Duration>,
-    /// Of each of FIN-WAIT-1, FIN-WAIT-2, CLOSING and LAST-ACK, which only the peer can end. The connection is aborted.
+    /// Of FIN-WAIT-2, and of bytes or a FIN that wait in FIN-WAIT-1, CLOSING or LAST-ACK while nothing is newly
+    /// acknowledged: a peer that takes bytes slowly is not cut off. The connection is aborted.
     pub closing: Option<Duration>,
-    /// Of a window of 0 while bytes wait to be sent, without one byte acknowledged (RFC 6429). The connection is
-    /// aborted.
+    /// Of bytes that wait in ESTABLISHED or CLOSE-WAIT while nothing is newly acknowledged, whatever windows and other
+    /// segments come meanwhile (RFC 6429; R2 of RFC 9293, section 3.8.3). The connection is aborted.
     pub window: Option<Duration>,
     /// The user timeout that each socket is given (RFC 9293, section 3.9.1); where there is none, each keeps its own.
     pub timeout: Option<Duration>,
@@ -43,11 +44,10 @@ pub enum Phase {
     Free,
     /// SYN-RECEIVED.
     Handshake,
-    FinWait1,
     FinWait2,
-    Closing,
-    LastAck,
-    /// The window is 0 while bytes wait, of which the first has this number.
+    /// FIN-WAIT-1, CLOSING or LAST-ACK: bytes or a FIN wait, of which the first has this number (SND.UNA).
+    Closing(TcpSeqNumber),
+    /// ESTABLISHED or CLOSE-WAIT while bytes wait, of which the first has this number.
     Stuck(TcpSeqNumber),
 }
 
@@ -56,10 +56,8 @@ pub enum Phase {
 pub(crate) enum Kind {
     Free,
     Handshake,
-    FinWait1,
     FinWait2,
     Closing,
-    LastAck,
     Stuck,
 }
 
@@ -74,10 +72,10 @@ pub(crate) const NO_MOMENT: i64 = i64::MIN;
 #[derive(Drop)]
 pub struct Guard {
     pub(crate) since: i64,
-    end: i64,
-    last: i64,
+    pub(crate) end: i64,
+    pub(crate) last: i64,
     moment: i64,
-    // of the first byte that waits, in `Stuck`
+    // of the first byte that waits, in `Closing` and `Stuck`
     pub(crate) number: TcpSeqNumber,
     pub(crate) kind: Kind,
     taken: u8,
@@ -137,10 +135,8 @@ fn phase_from(kind: Kind, number: TcpSeqNumber) -> Phase
     match kind {
         Kind::Free => Phase::Free,
         Kind::Handshake => Phase::Handshake,
-        Kind::FinWait1 => Phase::FinWait1,
         Kind::FinWait2 => Phase::FinWait2,
-        Kind::Closing => Phase::Closing,
-        Kind::LastAck => Phase::LastAck,
+        Kind::Closing => Phase::Closing(number),
         Kind::Stuck => Phase::Stuck(number),
     }
 }
@@ -152,10 +148,8 @@ fn parts_of(phase: Phase) -> (Kind, TcpSeqNumber)
     match phase {
         Phase::Free => (Kind::Free, TcpSeqNumber(0)),
         Phase::Handshake => (Kind::Handshake, TcpSeqNumber(0)),
-        Phase::FinWait1 => (Kind::FinWait1, TcpSeqNumber(0)),
         Phase::FinWait2 => (Kind::FinWait2, TcpSeqNumber(0)),
-        Phase::Closing => (Kind::Closing, TcpSeqNumber(0)),
-        Phase::LastAck => (Kind::LastAck, TcpSeqNumber(0)),
+        Phase::Closing(number) => (Kind::Closing, number),
         Phase::Stuck(number) => (Kind::Stuck, number),
     }
 }

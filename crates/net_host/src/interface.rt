@@ -5,9 +5,11 @@ ghost use Rattle.sock_tcp.specs.Polls.{is_reached};
 ghost use Rattle.sock_tcp.specs.View.{moment_of};
 ghost use Rattle.host_groups.specs.Joining.{has_group, join_answer, joined, leave_answer, left, no_groups};
 ghost use Rattle.net_host.specs.Addresses.{source_of};
+ghost use Rattle.net_host.specs.Counts.{no_counts};
 ghost use Rattle.net_host.specs.Facts.{facts_by};
 ghost use Rattle.net_host.specs.Guards.{usual};
 ghost use Rattle.net_host.specs.HostCalls.{EmitsAt, MovesTo, ReceivesAt};
+ghost use Rattle.net_host.specs.Limits.{full_limit};
 ghost use Rattle.net_host.specs.Looking.{Unseen};
 ghost use Rattle.net_host.specs.Speaking.{Due, earliest};
 ghost use Rattle.net_host.specs.Touching.{Touches};
@@ -212,6 +214,10 @@ impl<W> Interface<W> {
         ensures guards { result.guards ≡ usual }
         ensures cookies { result.cookies ≡ None }
         ensures groups { result.groups ≡ no_groups }
+        ensures turn { result.turn ≡ 0 }
+        ensures resets { result.resets ≡ full_limit }
+        ensures errors { result.errors ≡ full_limit }
+        ensures counters { result.counters ≡ no_counts }
     {
         Interface {
             inner: InterfaceInner {

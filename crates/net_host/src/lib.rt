@@ -1,6 +1,7 @@
 //! A host of many sockets: who gets a packet, who speaks next, and when to look again.
 #![tactic(auto)]
 
+pub mod aims;
 pub mod answered;
 pub mod arrival;
 pub mod cidr;

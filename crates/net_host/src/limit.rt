@@ -1,6 +1,6 @@
 //! A limit on how many answers go out in a second.
-ghost use Rattle.std.specs.Prelude.{◌≡◌, pos};
-ghost use Rattle.net_host.specs.Limits.{allows, renewed, spent};
+ghost use Rattle.std.specs.Prelude.{◌≡◌};
+ghost use Rattle.net_host.specs.Limits.{allows, full_limit, renewed, spent};
 
 use smoltcp_socket::time::Instant;
 
@@ -17,7 +17,7 @@ pub struct Limit {
 impl Limit {
     /// All of a second's answers are left.
     pub fn new() -> Limit
-        ensures { result ≡ record { since = record { micros = pos 0 }; left = 100 } }
+        ensures { result ≡ full_limit }
     {
         Limit {
             since: Instant::ZERO,

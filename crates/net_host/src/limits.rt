@@ -3,6 +3,7 @@ ghost use Rattle.std.specs.Prelude.{◌≡◌, ◌<◌, if◌then◌else◌, tru
 ghost use Rattle.control_wire.specs.declared.seq_number.TcpSeqNumber.{TcpSeqNumber};
 ghost use Rattle.net_host.specs.Guards.{is_given, lawful_limit, limit_from, limit_of};
 ghost use Rattle.net_host.specs.Remembered.{phase_from};
+ghost use Rattle.net_host.specs.declared.guard.Kind.TheVariants.{Free};
 
 use crate::guard::{GuardSettings, Kind};
 use net_base::time::Duration;
@@ -80,7 +81,7 @@ fn is_given(given: u8, place: u8) -> bool
 }
 
 impl Limits {
-    /// The same as numbers.
+    /// The settings as numbers.
     pub fn of(settings: &GuardSettings) -> Limits
         ensures { result ≡ settings.now }
     {
@@ -112,15 +113,23 @@ impl Limits {
     /// The limit of what the peer is waited for: whether there is one, and its microseconds.
     #[inline(always)]
     pub(crate) fn of_kind(&self, kind: Kind) -> (bool, u64)
+        requires { kind ≡ Free → ⊥ }
         ensures { (n : TcpSeqNumber)
             → lawful_limit (limit_from result.0 result.1) ≡ limit_of self.now (phase_from kind n) }
     {
         match kind {
-            Kind::Free => (false, 0),
-            Kind::Handshake => (is_given(self.given, 1), self.handshake),
             Kind::Stuck => (is_given(self.given, 4), self.window),
+            Kind::Handshake => (is_given(self.given, 1), self.handshake),
             _ => (is_given(self.given, 2), self.closing),
         }
+    }
+
+    /// The limit of bytes that wait in ESTABLISHED or CLOSE-WAIT.
+    #[inline(always)]
+    pub(crate) fn of_bytes(&self) -> (bool, u64)
+        ensures { limit_from result.0 result.1 ≡ self.now.window }
+    {
+        (is_given(self.given, 4), self.window)
     }
 
     /// The user timeout.

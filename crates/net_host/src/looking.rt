@@ -73,13 +73,18 @@ fn note_at<C: Context, G: TsvalSource>(sockets: &mut SocketSet<'_, G>, i: usize,
     due
 }
 
-fn is_idle_at<G: TsvalSource>(slots: &[Slot<'_, G>], i: usize, limits: &Limits) -> bool
-    requires { i < length slots.now }
-    ensures looked { result ≡ true
-        → IfSome (slice_get slots.now i) (λ s. (now : Instant) → Watches limits.now now s s) }
+fn is_idle_at<G: TsvalSource>(
+    slots: &[Slot<'_, G>],
+    i: usize,
+    limits: &Limits,
+    now: Instant,
+) -> bool
+    requires within { i < length slots.now }
+    requires moment { IsMoment now.micros }
+    ensures looked { result ≡ true → IfSome (slice_get slots.now i) (λ s. Watches limits.now now s s) }
     ensures seen { result ≡ true → IfSome (slice_get slots.now i) (λ s. is_seen limits.now s ≡ true) }
 {
-    slots[i].is_idle(limits)
+    slots[i].is_idle(limits, now)
 }
 
 // The guard at this place looks, where that may change something.
@@ -91,7 +96,7 @@ fn watch_unless_idle<G: TsvalSource>(sockets: &mut SocketSet<'_, G>, i: usize, n
     ensures terms { sockets.new.terms ≡ sockets.old.terms }
     ensures seen { IfSome (slice_get sockets.new.slots.items i) (λ s. is_seen sockets.old.terms.guards s ≡ true) }
 {
-    if !is_idle_at(&sockets.slots, i, &sockets.terms.guards) {
+    if !is_idle_at(&sockets.slots, i, &sockets.terms.guards, now) {
         watch_at(sockets, i, now);
     }
 }
@@ -137,7 +142,7 @@ fn due_between<C: Context, G: TsvalSource>(
     None
 }
 
-/// The same in turn: from the place whose turn it is on, and then before it.
+/// The next slot that is due, in turn: from the slot whose turn it is on, and then before it.
 pub(crate) fn next_due<C: Context, G: TsvalSource>(
     sockets: &mut SocketSet<'_, G>,
     cx: &C,

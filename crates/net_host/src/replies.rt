@@ -32,8 +32,7 @@ pub(crate) fn put_segment(
     put_segment_with(ip, repr, repr.header_len(), out, caps)
 }
 
-/// The same, where it was worked out already how many bytes the segment's header has. Not inlined, as two ways lead
-/// here.
+/// Writes a segment where the number of bytes of its header is known. Not inlined, as two ways lead here.
 #[inline(never)]
 pub(crate) fn put_segment_with(
     ip: &IpRepr,

@@ -9,6 +9,7 @@ use rand_core::utils::NextWord;
 
 /// The words of ChaCha20 under a key of 32 secret bytes, a fresh one for every draw: initial sequence numbers of one
 /// connection tell nothing of another's (RFC 6528). The bytes have to be drawn anew at each start of the program.
+/// They repeat after 2^68 words.
 #[derive(Drop)]
 pub struct Secret {
     pub(crate) generator: ChaCha20Rng,

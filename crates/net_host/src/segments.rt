@@ -3,7 +3,7 @@ ghost use Rattle.std.specs.Prelude.{◌≡◌, ◌↔◌, ◌<◌, ◌≤◌, Is
 ghost use Rattle.std.specs.Option.{ForSome};
 ghost use Rattle.control_wire.specs.Fits.{FitsPacket};
 ghost use Rattle.control_wire.specs.Segment.{segment_of};
-ghost use Rattle.sock_tcp.specs.Process.{reply_of};
+ghost use Rattle.sock_tcp.specs.Process.{Opens, reply_of};
 ghost use Rattle.net_host.specs.Filing.{keys_of};
 ghost use Rattle.net_host.specs.Indexing.{IsSettled};
 ghost use Rattle.net_host.specs.Resting.{Reopens, Rests, anew, is_opening};
@@ -251,7 +251,15 @@ pub(crate) fn known_taker<C: Context, G: TsvalSource>(
     }
 }
 
-// Who takes a segment that is for no connection.
+// Whether a socket that listens may take the segment: with an ACK or as an RST none does (RFC 9293, section 3.10.7.2).
+fn may_open(repr: &TcpRepr<'_>) -> bool
+    ensures { IsTrue result ↔ Opens (segment_of repr.now) }
+{
+    repr.ack_number.is_none() && !matches!(repr.control, TcpControl::Rst)
+}
+
+// Who takes a segment that is for no connection. Where it cannot open one, no listener is asked.
+#[tactic(auto, using(crate::proofs::Listeners::nobody))]
 fn listener<C: Context, G: TsvalSource>(
     sockets: &SocketSet<'_, G>,
     cx: &C,
@@ -263,6 +271,9 @@ fn listener<C: Context, G: TsvalSource>(
     requires none { Nowhere (TakesSegment false ip.now (segment_of repr.now)) sockets.now.slots.items }
     ensures { IsTaker sockets.now.slots.items ip.now (segment_of repr.now) result }
 {
+    if !may_open(repr) {
+        return Taker::Nobody;
+    }
     match first_taker(sockets, cx, true, ip, repr) {
         Some(i) => Taker::Listener(i),
         None => {

@@ -4,7 +4,8 @@ ghost use Rattle.std.specs.Prelude.{option_map, slice_set, Some, None};
 ghost use Rattle.std.specs.List.{All};
 ghost use Rattle.host_bounds.specs.Bounding.{at_once};
 ghost use Rattle.host_bounds.specs.Marking.{bit_of};
-ghost use Rattle.net_host.specs.Slots.{Empties, Fills, IsFree, handle_at, icmp_at, raw_at, socket_at, tcp_at, udp_at};
+ghost use Rattle.net_host.specs.Slots.{Empties, Fills, IsFirstFree, IsFree, handle_at, icmp_at, raw_at, socket_at};
+ghost use Rattle.net_host.specs.Slots.{tcp_at, udp_at};
 ghost use Rattle.net_host.specs.Walks.{ChangesAt, Finds, FindsAmong, IsAt};
 
 use crate::filed::Filed;
@@ -25,7 +26,7 @@ impl<'a, G: TsvalSource> Filed<Slot<'a, G>> {
     /// 47 bytes a socket and a kilobyte beside.
     pub fn new(alloc: Global, capacity: usize) -> Result<SocketSet<'a, G>, AllocError>
         ensures capacity { IfOk result (λ s. length s.slots.items ≡ capacity) }
-        ensures free { IfOk result (λ s. All IsFree s.slots.items) }
+        ensures free { IfOk result (λ s. All IsFirstFree s.slots.items) }
     {
         let mut slots = Vec::with_capacity(alloc, capacity)?;
         for _ in 0..capacity {
@@ -105,7 +106,7 @@ impl<'a, G: TsvalSource> Filed<Slot<'a, G>> {
         }
     }
 
-    /// The same, lent with every call of it.
+    /// Borrows the socket of a handle for writing; `None` where the handle names none.
     pub fn get_mut(&mut self, handle: SocketHandle) -> Option<&mut Socket<'a, G>>
         ensures { option_map (λ s. s.now) result ≡ socket_at self.old.slots.items handle }
     {
@@ -129,7 +130,7 @@ impl<'a, G: TsvalSource> Filed<Slot<'a, G>> {
         }
     }
 
-    /// The same of a UDP socket.
+    /// Borrows a UDP socket for writing; `None` where the handle names none of this kind.
     pub fn udp_mut(&mut self, handle: SocketHandle) -> Option<&mut udp::Socket<'a>>
         ensures { option_map (λ s. s.now) result ≡ udp_at self.old.slots.items handle }
     {
@@ -139,7 +140,7 @@ impl<'a, G: TsvalSource> Filed<Slot<'a, G>> {
         }
     }
 
-    /// The same of an ICMP socket.
+    /// Borrows an ICMP socket for writing; `None` where the handle names none of this kind.
     pub fn icmp_mut(&mut self, handle: SocketHandle) -> Option<&mut icmp::Socket<'a>>
         ensures { option_map (λ s. s.now) result ≡ icmp_at self.old.slots.items handle }
     {
@@ -149,7 +150,7 @@ impl<'a, G: TsvalSource> Filed<Slot<'a, G>> {
         }
     }
 
-    /// The same of a raw socket.
+    /// Borrows a raw socket for writing; `None` where the handle names none of this kind.
     pub fn raw_mut(&mut self, handle: SocketHandle) -> Option<&mut raw::Socket<'a>>
         ensures { option_map (λ s. s.now) result ≡ raw_at self.old.slots.items handle }
     {

@@ -1,6 +1,6 @@
 //! What a guard sees of its socket, as numbers: what the peer is waited for is told by a table, without a branch for
 //! each state.
-ghost use Rattle.std.specs.Prelude.{◌≡◌, None};
+ghost use Rattle.std.specs.Prelude.{◌≡◌, None, false, true};
 ghost use Rattle.sock_core.specs.Bounds.{IsMoment};
 ghost use Rattle.sock_tcp.specs.Timers.{IsLastTs};
 ghost use Rattle.control_wire.specs.declared.seq_number.TcpSeqNumber.{TcpSeqNumber};
@@ -9,6 +9,7 @@ ghost use Rattle.net_host.specs.Guards.{end_of, has_ended, lawful_limit, limit_f
 ghost use Rattle.net_host.specs.Guards.{same_phase, since_by};
 ghost use Rattle.net_host.specs.Remembered.{moment_from, phase_from};
 ghost use Rattle.net_host.specs.declared.guard.Kind.TheVariants.{Free};
+ghost use Rattle.net_host.specs.declared.guard.Phase.TheVariants as Phase;
 ghost use Rattle.net_host.specs.Sights.{IsSight, kind_by, kind_in};
 
 use crate::guard::{Guard, Kind, NO_MOMENT};
@@ -33,15 +34,15 @@ static KINDS: [Kind; 11] = [
     Kind::Free,
     Kind::Handshake,
     Kind::Stuck,
-    Kind::FinWait1,
+    Kind::Closing,
     Kind::FinWait2,
     Kind::Stuck,
     Kind::Closing,
-    Kind::LastAck,
+    Kind::Closing,
     Kind::Free,
 ];
 
-// By the state alone; `Stuck` where it is for the window and the bytes that wait to say. Read from a table, so that
+// By the state alone; `Stuck` where it is for the bytes that wait to say. Read from a table, so that
 // what follows does not go a way of its own for each state.
 #[inline(always)]
 fn kind_in(state: State) -> Kind
@@ -51,11 +52,11 @@ fn kind_in(state: State) -> Kind
 }
 
 #[inline(always)]
-fn kind_by(kind: Kind, shut: bool, empty: bool) -> Kind
-    ensures { result ≡ kind_by kind shut empty }
+fn kind_by(kind: Kind, empty: bool) -> Kind
+    ensures { result ≡ kind_by kind empty }
 {
     match kind {
-        Kind::Stuck if !shut || empty => Kind::Free,
+        Kind::Stuck if empty => Kind::Free,
         _ => kind,
     }
 }
@@ -66,9 +67,8 @@ fn kind_by(kind: Kind, shut: bool, empty: bool) -> Kind
 pub(crate) fn kind_of<G>(socket: &Socket<'_, G>) -> Kind
     ensures { phase_from result socket.now.control_block.local_seq_no ≡ phase_of socket.now.control_block }
 {
-    let shut = socket.remote_window() == 0;
     let empty = socket.send_queue() == 0;
-    kind_by(kind_in(socket.state()), shut, empty)
+    kind_by(kind_in(socket.state()), empty)
 }
 
 // Whether the peer is waited for, for what it was.
@@ -78,7 +78,9 @@ fn is_same(kind: Kind, number: TcpSeqNumber, before: Kind, old: TcpSeqNumber) ->
 {
     match kind {
         Kind::Free => false,
-        Kind::Stuck => before == Kind::Stuck && number.0 == old.0,
+        Kind::Stuck | Kind::Closing => {
+            number.0 == old.0 && matches!(before, Kind::Stuck | Kind::Closing)
+        }
         _ => kind == before,
     }
 }
@@ -116,6 +118,14 @@ fn end_of(limit: (bool, u64), since: i64) -> i64
     }
 }
 
+// Whether there is this moment, and it has come.
+#[inline(always)]
+fn has_come(end: i64, now: Instant) -> bool
+    ensures { result ≡ has_ended (moment_from end) now }
+{
+    end != NO_MOMENT && end <= now.micros
+}
+
 impl Sight {
     /// Nothing is waited for.
     pub(crate) fn none() -> Sight
@@ -135,7 +145,7 @@ impl Sight {
     pub(crate) fn is_over(&self, now: Instant) -> bool
         ensures { result ≡ has_ended (moment_from self.now.end) now }
     {
-        self.end != NO_MOMENT && self.end <= now.micros
+        has_come(self.end, now)
     }
 }
 
@@ -143,7 +153,8 @@ impl Guard {
     // What is waited for since it was seen first, where that is something.
     #[inline(always)]
     fn waits(&self, limits: &Limits, kind: Kind, number: TcpSeqNumber, now: Instant) -> Sight
-        requires { IsMoment now.micros }
+        requires some { kind ≡ Free → ⊥ }
+        requires moment { IsMoment now.micros }
         ensures kind { result.kind ≡ kind }
         ensures number { result.number ≡ number }
         ensures since { moment_from result.since
@@ -163,6 +174,34 @@ impl Guard {
         }
     }
 
+    /// Whether bytes wait in ESTABLISHED or CLOSE-WAIT, the first with the number that it had at the last look.
+    #[inline(always)]
+    #[tactic(auto, using(crate::proofs::Idle::same_number))]
+    pub(crate) fn still_waits<G>(&self, socket: &Socket<'_, G>) -> bool
+        ensures before { result ≡ true → self.now.phase ≡ Phase.Stuck socket.now.control_block.local_seq_no }
+        ensures phase { result ≡ true
+            → phase_of socket.now.control_block ≡ Phase.Stuck socket.now.control_block.local_seq_no }
+        ensures last { result ≡ true → self.now.last ≡ None }
+    {
+        matches!(self.kind, Kind::Stuck)
+            && matches!(kind_of(socket), Kind::Stuck)
+            && socket.send_unacknowledged().0 == self.number.0
+            && self.last == NO_MOMENT
+    }
+
+    /// Whether such bytes are waited for from the same moment on and as long as at the last look, and not too long yet.
+    #[inline(always)]
+    pub(crate) fn goes_on(&self, limits: &Limits, now: Instant) -> bool
+        requires { IsMoment now.micros }
+        ensures since { result ≡ true → since_by true self.now.since now ≡ self.now.since }
+        ensures end { result ≡ true → end_of (lawful_limit limits.now.window) self.now.since ≡ self.now.end }
+        ensures kept { result ≡ true → has_ended self.now.end now ≡ false }
+    {
+        let since = since_of(true, self.since, now);
+        let end = end_of(limits.of_bytes(), since);
+        since == self.since && end == self.end && !has_come(self.end, now)
+    }
+
     /// What the guard sees of the socket at this moment.
     #[tactic(auto, using(crate::proofs::Sights::seen, crate::proofs::Sights::seen_free))]
     pub(crate) fn sight<G>(&self, limits: &Limits, socket: &Socket<'_, G>, now: Instant) -> Sight
@@ -173,6 +212,8 @@ impl Guard {
         let number = socket.send_unacknowledged();
         match kind {
             Kind::Free => Sight::none(),
+            // apart, as most that wait are such
+            Kind::Stuck => self.waits(limits, Kind::Stuck, number, now),
             _ => self.waits(limits, kind, number, now),
         }
     }

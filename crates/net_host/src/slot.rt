@@ -1,6 +1,6 @@
 //! One place of a set of sockets.
 ghost use Rattle.std.specs.Prelude.{◌≡◌, ◌↔◌, IsTrue, IfSome, IfNone, Some, None, option_map};
-ghost use Rattle.net_host.specs.Slots.{IsFree, Fills, Empties, handle_of, held};
+ghost use Rattle.net_host.specs.Slots.{IsFirstFree, IsFree, Fills, Empties, handle_of, held};
 
 use crate::guard::Guard;
 use smoltcp_socket::Socket;
@@ -11,14 +11,15 @@ use sock_tcp::{Generator, TsvalSource};
 pub struct SocketHandle {
     /// Its place in the set, below `capacity`.
     pub index: usize,
-    /// How many sockets were removed from this place before, modulo 2^64.
+    /// One more than the number of sockets that were removed from this place before, modulo 2^64: a handle of zeros
+    /// names no socket.
     pub generation: u64,
 }
 
 /// A place for a socket, and what the host remembers beside it.
 #[derive(Drop)]
 pub struct Slot<'a, G = Generator> {
-    // how many sockets were removed from here
+    // one more than the number of sockets that were removed from here
     pub(crate) generation: u64,
     pub(crate) socket: Option<Socket<'a, G>>,
     pub(crate) guard: Guard,
@@ -27,10 +28,10 @@ pub struct Slot<'a, G = Generator> {
 impl<'a, G> Slot<'a, G> {
     /// A place with no socket.
     pub(crate) fn free() -> Slot<'a, G>
-        ensures { IsFree result }
+        ensures { IsFirstFree result }
     {
         Slot {
-            generation: 0,
+            generation: 1,
             socket: None,
             guard: Guard::new(),
         }

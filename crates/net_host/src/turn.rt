@@ -50,7 +50,7 @@ impl<'a, G: TsvalSource> Slot<'a, G> {
         }
     }
 
-    /// The same as `watch`, where what was seen at this moment has not lasted too long.
+    /// Does what `watch` does where the state seen at this time has not lasted too long.
     pub(crate) fn keep(&mut self, limits: &Limits, now: Instant, sight: &Sight)
         requires moment { IsMoment now.micros }
         requires seen { IsSightOf limits.now now sight.now self.old }
@@ -63,13 +63,14 @@ impl<'a, G: TsvalSource> Slot<'a, G> {
         }
     }
 
-    /// Whether that changes nothing, at any moment; where the answer is no, it says nothing.
-    pub(crate) fn is_idle(&self, limits: &Limits) -> bool
-        ensures looked { result ≡ true → (now : Instant) → Watches limits.now now self.now self.now }
+    /// Whether that changes nothing; where the answer is no, it says nothing.
+    pub(crate) fn is_idle(&self, limits: &Limits, now: Instant) -> bool
+        requires { IsMoment now.micros }
+        ensures looked { result ≡ true → Watches limits.now now self.now self.now }
         ensures seen { result ≡ true → is_seen limits.now self.now ≡ true }
     {
         match &self.socket {
-            Some(Socket::Tcp(tcp)) => self.guard.is_idle(limits, tcp),
+            Some(Socket::Tcp(tcp)) => self.guard.is_idle(limits, tcp, now),
             _ => true,
         }
     }

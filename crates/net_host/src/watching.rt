@@ -25,8 +25,8 @@ use smoltcp_socket::PollAt;
 use sock_tcp::{Socket, State};
 
 impl GuardSettings {
-    /// The limits of a new interface: 30 seconds for a handshake, a minute for each closing state and for silence, two
-    /// minutes for a window of 0.
+    /// The limits of a new interface: 30 seconds for a handshake, a minute for what is closing and for silence, two
+    /// minutes for bytes of which none is acknowledged.
     pub fn new() -> GuardSettings
         ensures { result ≡ usual }
     {
@@ -81,7 +81,8 @@ fn lawful(limit: Option<Duration>) -> Option<Duration>
 impl Guard {
     /// Looks at the socket at this moment. Sets the user timeout, and ends what has lasted longer than its limit,
     /// counted from the first look that saw it, whatever has come from the peer since: a handshake without an RST, the
-    /// rest by an abort. Where the time goes back, it is counted from the earlier moment.
+    /// rest by an abort. Of bytes or a FIN that wait it is counted from the first look that saw SND.UNA where it is,
+    /// whatever states came since. Where the time goes back, it is counted from the earlier moment.
     pub fn watch<G>(&mut self, settings: &GuardSettings, socket: &mut Socket<'_, G>, now: Instant)
         requires { IsMoment now.micros }
         ensures looks { Looks settings.now now socket.old.control_block self.old self.new socket.new.control_block }
@@ -96,22 +97,26 @@ impl Guard {
         self.note(over, phase, since, end);
     }
 
-    /// Whether `watch` changes nothing, at any moment: nothing is waited for, now and when the guard looked last, and
-    /// the socket has the user timeout that is set. Most sockets that are looked at are such, and are spared the rest.
-    /// Where the answer is no, it says nothing.
+    /// Whether `watch` changes nothing at this moment: nothing is waited for, or bytes are as when the guard looked
+    /// last, and the socket has the user timeout that is set. Most sockets that are looked at are such, and are spared
+    /// the rest. Where the answer is no, it says nothing.
     #[tactic(auto, using(crate::proofs::Idle::looks, crate::proofs::Idle::seen))]
-    pub(crate) fn is_idle<G>(&self, limits: &Limits, socket: &Socket<'_, G>) -> bool
-        ensures looked { result ≡ true → (now : Instant)
+    pub(crate) fn is_idle<G>(&self, limits: &Limits, socket: &Socket<'_, G>, now: Instant) -> bool
+        requires { IsMoment now.micros }
+        ensures looked { result ≡ true
             → Looks limits.now now socket.now.control_block self.now self.now socket.now.control_block }
         ensures seen { result ≡ true → seen_with limits.now self.now.phase self.now.since self.now.end
             socket.now.control_block ≡ true }
     {
+        if self.still_waits(socket) {
+            return self.goes_on(limits, now) && has_timeout(limits.timeout(), socket.timeout());
+        }
         self.waits_for_nothing()
             && is_free(socket)
             && has_timeout(limits.timeout(), socket.timeout())
     }
 
-    /// The same as `watch`, where what was seen of the socket at this moment has not lasted too long.
+    /// Does what `watch` does where the state seen of the socket at this time has not lasted too long.
     #[tactic(auto, using(crate::proofs::Sights::looks))]
     pub(crate) fn keep<G>(
         &mut self,
@@ -214,21 +219,18 @@ impl Guard {
 fn phase_of<G>(socket: &Socket<'_, G>) -> Phase
     ensures { result ≡ phase_of socket.now.control_block }
 {
-    let shut = socket.remote_window() == 0;
     let empty = socket.send_queue() == 0;
-    phase_in(socket.state(), shut, empty, socket.send_unacknowledged())
+    phase_in(socket.state(), empty, socket.send_unacknowledged())
 }
 
-fn phase_in(state: State, shut: bool, empty: bool, una: TcpSeqNumber) -> Phase
-    ensures { result ≡ phase_in state shut empty una }
+fn phase_in(state: State, empty: bool, una: TcpSeqNumber) -> Phase
+    ensures { result ≡ phase_in state empty una }
 {
     match state {
         State::SynReceived => Phase::Handshake,
-        State::FinWait1 => Phase::FinWait1,
         State::FinWait2 => Phase::FinWait2,
-        State::Closing => Phase::Closing,
-        State::LastAck => Phase::LastAck,
-        State::Established | State::CloseWait => stuck_by(shut, empty, una),
+        State::FinWait1 | State::Closing | State::LastAck => Phase::Closing(una),
+        State::Established | State::CloseWait => stuck_by(empty, una),
         _ => Phase::Free,
     }
 }
@@ -251,12 +253,13 @@ fn has_timeout(limit: Option<Duration>, timeout: Option<Duration>) -> bool
     }
 }
 
-fn stuck_by(shut: bool, empty: bool, una: TcpSeqNumber) -> Phase
-    ensures { result ≡ stuck_by shut empty una }
+fn stuck_by(empty: bool, una: TcpSeqNumber) -> Phase
+    ensures { result ≡ stuck_by empty una }
 {
-    match (shut, empty) {
-        (true, false) => Phase::Stuck(una),
-        _ => Phase::Free,
+    if empty {
+        Phase::Free
+    } else {
+        Phase::Stuck(una)
     }
 }
 
@@ -264,12 +267,11 @@ fn same_phase(phase: Phase, before: Phase) -> bool
     ensures { result ≡ same_phase phase before }
 {
     match (phase, before) {
-        (Phase::Handshake, Phase::Handshake)
-        | (Phase::FinWait1, Phase::FinWait1)
-        | (Phase::FinWait2, Phase::FinWait2)
-        | (Phase::Closing, Phase::Closing)
-        | (Phase::LastAck, Phase::LastAck) => true,
-        (Phase::Stuck(a), Phase::Stuck(b)) => a.0 == b.0,
+        (Phase::Handshake, Phase::Handshake) | (Phase::FinWait2, Phase::FinWait2) => true,
+        (Phase::Stuck(a), Phase::Stuck(b))
+        | (Phase::Stuck(a), Phase::Closing(b))
+        | (Phase::Closing(a), Phase::Stuck(b))
+        | (Phase::Closing(a), Phase::Closing(b)) => a.0 == b.0,
         _ => false,
     }
 }

@@ -33,7 +33,7 @@ pub struct Cx {
     pub v6: [u8; 16],
 }
 
-/// The same, within its ranges.
+/// A context of C whose time, MTU and random number are within their ranges.
 #[derive(Clone, Copy)]
 pub struct Moment {
     pub cx: Cx,

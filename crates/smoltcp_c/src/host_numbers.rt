@@ -39,10 +39,11 @@ pub struct SocketId {
 pub struct Guards {
     /// Of a handshake that a SYN began. It is given up without an RST: the socket listens again.
     pub handshake: i64,
-    /// Of each of FIN-WAIT-1, FIN-WAIT-2, CLOSING and LAST-ACK. The connection is aborted.
+    /// Of FIN-WAIT-2, and of bytes or a FIN that wait in FIN-WAIT-1, CLOSING or LAST-ACK with nothing newly
+    /// acknowledged. The connection is aborted.
     pub closing: i64,
-    /// Of a window of 0 while bytes wait to be sent, without one byte acknowledged (RFC 6429). The connection is
-    /// aborted.
+    /// Of bytes that wait in ESTABLISHED or CLOSE-WAIT with nothing newly acknowledged, whatever windows come meanwhile
+    /// (RFC 6429; R2 of RFC 9293, section 3.8.3). The connection is aborted.
     pub window: i64,
     /// The user timeout that each socket is given (RFC 9293, section 3.9.1); below 0, each keeps its own.
     pub timeout: i64,
