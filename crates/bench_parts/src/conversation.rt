@@ -93,7 +93,7 @@ impl Talk {
         }
     }
 
-    /// The same, and what it has to say is written whole, or until nothing is taken.
+    /// Serves the socket as `serve`, and writes what it has to send whole, or until the socket takes nothing.
     pub fn serve_whole(
         &mut self,
         socket: &mut Socket<'_, Clock>,

@@ -19,7 +19,7 @@ pub fn icmpv4_reads_back()
     checksums_verify();
 }
 
-/// The same over IPv6, between the same two addresses.
+/// A message over IPv6 is read back as it was written, between the same two addresses.
 pub fn icmpv6_reads_back()
     ensures { (caps : ChecksumCapabilities) (tested : Bool) (src dst : Ipv6Address) (m : Message Ipv6Repr) → IsV6 m
         → IsOctets src.0 → IsOctets dst.0 → (tested ≡ true → is_sent caps.icmpv6 ≡ true)

@@ -17,7 +17,7 @@ pub enum TcpControl {
 }
 
 impl TcpControl {
-    /// The same control, but nothing in place of PSH.
+    /// This control, with nothing in place of PSH.
     pub fn quash_psh(self) -> TcpControl
         ensures { result ≡ without_psh self }
     {
@@ -138,7 +138,7 @@ impl TcpRepr<'_> {
         }
     }
 
-    /// The same segment with this payload in place of its own.
+    /// A copy of the segment with this payload in place of its own.
     pub fn with_payload<'p>(&self, payload: &'p [u8]) -> TcpRepr<'p>
         ensures { segment_of result ≡ record (segment_of self.now) { payload = payload.now } }
     {
@@ -158,7 +158,7 @@ impl TcpRepr<'_> {
         }
     }
 
-    /// The same segment without its payload.
+    /// A copy of the segment without its payload.
     pub fn without_payload(&self) -> TcpRepr<'static>
         ensures { segment_of result ≡ record (segment_of self.now) { payload = [] } }
     {

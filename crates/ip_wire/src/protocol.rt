@@ -28,6 +28,7 @@ impl IpVersion {
 }
 
 /// The protocol of an IP payload (the IANA protocol numbers 1, 6, 17 and 58, or another).
+/// `Unknown(6)` has the same number as `Tcp`, and is read back as `Tcp`; the same holds of the other three.
 #[derive(Debug, Clone, Copy, PartialEq, Eq)]
 pub enum IpProtocol {
     Icmp,

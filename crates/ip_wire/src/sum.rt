@@ -30,8 +30,8 @@ pub fn sum_after(start: u16, bytes: &[u8]) -> u16
     sum_after_wide(start as usize, 0, bytes)
 }
 
-/// The same behind numbers that were added up before, and others whose words have the low byte first. Neither sum need
-/// be folded, and a segment without a payload has nothing more to be read.
+/// The sum of the Internet checksum (RFC 1071) of `bytes` behind `start` and `swapped`; the latter's words have the low
+/// byte first. Neither sum need be folded, and a segment without a payload has nothing more to be read.
 #[inline(always)]
 #[tactic(auto, using(crate::proofs::Sums::after_nothing))]
 pub fn sum_after_wide(start: usize, swapped: usize, bytes: &[u8]) -> u16

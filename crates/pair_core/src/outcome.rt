@@ -38,6 +38,7 @@ pub enum Outcome {
     /// Since the segment went out, one of its emitter's counts grew by 2^29 or more.
     TooOld,
     /// The socket does not accept the segment; the index is that of the segment that answers it.
+    /// There is none where the refused segment is an RST.
     NotAccepted(Option<usize>),
 }
 

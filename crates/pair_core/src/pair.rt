@@ -96,7 +96,7 @@ impl<'a> Pair<'a> {
 }
 
 impl<'a, G> Pair<'a, G> {
-    /// As `new`, of two sockets that never have a source of timestamps, whatever the setups say of that; so the type of
+    /// A pair of two sockets that never have a source of timestamps, whatever the setups say of that; so the type of
     /// the sources may be any.
     pub fn without_timestamps(
         alloc: Global,

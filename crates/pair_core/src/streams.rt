@@ -27,8 +27,8 @@ pub fn streams_arrive_in_order()
     ensures ends { (limit : ℕ) → limit < 2 ^ 29 → AlwaysEnds (Some limit) }
 {}
 
-/// The same of streams of any length, where a segment arrives only while it is young: neither count of its emitter, of
-/// bytes released and of bytes taken, grew by 2^29 or more since its emission.
+/// Streams of any length arrive in order where a segment arrives only while it is young: neither count of its emitter,
+/// of bytes released and of bytes taken, grew by 2^29 or more since its emission.
 pub fn long_streams_arrive_in_order()
     ensures delivers { AlwaysDelivers None }
     ensures completes { AlwaysCompletes None }

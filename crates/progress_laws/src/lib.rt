@@ -89,9 +89,9 @@ pub fn both_ways_finish()
     ensures { BothWaysFinish }
 {}
 
-/// The same where one of them or both know a window of 0 (`BothShut`): each that does asks for one with its keep-alive
-/// or its probe, and hears the answer; while its retransmission timer runs it has a keep-alive interval. Then both
-/// streams come to their end.
+/// Both streams of a pair come to their end where one side or both know a window of 0 (`BothShut`): each that does
+/// sends a keep-alive or a probe, and processes the reply; while its retransmission timer runs it has a keep-alive
+/// interval.
 pub fn shut_windows_open()
     ensures { ShutWindowsOpen }
 {}
@@ -165,16 +165,16 @@ pub fn opened_pair_completes()
     ensures { OpenedPairCompletes }
 {}
 
-/// The same whatever was lost before: after any list of dispatches of the one, each of whose SYNs is lost, at some
-/// moment a SYN of it goes out again, and the other takes it; and after any list of dispatches of that one, each of
+/// A pair opens whatever SYNs were lost: after any list of dispatches of the one, each of whose SYNs is lost, at some
+/// time its SYN is sent again, and the other takes it; and after any list of dispatches of that one, each of
 /// whose SYN|ACKs is lost, at some moment a SYN|ACK goes out again, and brings the first to ESTABLISHED. Its ACK comes,
 /// and then they stand in step, and both streams can end.
 pub fn lost_syns_come_again()
     ensures { LostSynsComeAgain }
 {}
 
-/// The same where both connect, each with its own number, whatever SYNs of both were lost: at some moment a SYN of the
-/// one goes out again, and is lost; then a SYN of the other reaches it, and it answers in SYN-RECEIVED (RFC 9293,
+/// Two sides that both connect, each with its own ISN, open whatever SYNs of both were lost: at some time a SYN of the
+/// one is sent again, and is lost; then a SYN of the other reaches it, and it answers in SYN-RECEIVED (RFC 9293,
 /// section 3.5, where both sides open at once and one of the two SYNs is lost).
 pub fn crossed_syns_come_again()
     ensures { CrossedSynsComeAgain }

@@ -92,13 +92,21 @@ fn stays_awake(
     Ok(())
 }
 
+// As PROBE, where the copies of 6 tell nothing new to a sender that hears of SACK (RFC 6675, section 2): nothing goes
+// out at 80, and each number behind that is one less.
+const PROBE_BY_RFC: &str =
+    "send a z\ndispatch a 10\ndeliver 3 20 0\nrecv b 1\ndispatch b 40\ndeliver 4 50 0\n\
+    send a abcdefgh\ndispatch a 60\nsend a ijk\ndeliver 3 70 0\ndeliver 6 71 0\ndeliver 6 72 0\n\
+    deliver 6 73 0\ndispatch a 80\ndeliver 5 90 0\ndispatch b 100\ndeliver 7 110 0\nrecv b 3\n\
+    dispatch b 120\ndeliver 8 130 0\nrecv b 5\ndispatch b 140\ndeliver 9 150 0\ndispatch a 5000\n";
+
 // RFC 6298, rule 5.1; RFC 9293, section 3.8.6.1.
 #[test]
 fn no_stall_sleeps_by_the_rules_of_the_rfcs(rt: HostRuntime) -> Result<(), Fail> {
     let stalls = [
         (64, OPENING, FIN, Side::B),
         (4, OPENING, WINDOW, Side::A),
-        (8, OPENING, PROBE, Side::A),
+        (8, OPENING, PROBE_BY_RFC, Side::A),
         (64, "", SYN, Side::A),
         (4, OPENING, LAST_ACK, Side::A),
     ];
@@ -116,7 +124,7 @@ const FIN_GOES: &str = "deliver 5 5000 0\n";
 const WINDOW_GOES: &str = "dispatch a 10000\ndeliver 7 10000 0\ndispatch b 11000\n\
     deliver 8 11000 0\ndispatch a 11000\ndeliver 9 11000 0\n";
 
-const PROBE_GOES: &str = "deliver 11 5000 0\n";
+const PROBE_GOES: &str = "deliver 10 5000 0\n";
 
 const SYN_GOES: &str = "deliver 4 5000 0\ndeliver 5 5000 0\n";
 
@@ -127,11 +135,11 @@ const LAST_ACK_GOES: &str = "dispatch a 10000\ndeliver 10 10000 0\ndispatch b 11
 const EMPTY_PROBE: &str =
     "send a z\ndispatch a 10\ndeliver 3 20 0\nrecv b 1\ndispatch b 40\ndeliver 4 50 0\n\
     send a abcdefgh\ndispatch a 60\nsend a ijk\ndeliver 3 70 0\ndeliver 6 71 0\ndeliver 6 72 0\n\
-    deliver 6 73 0\ndispatch a 80\ndeliver 5 90 0\ndispatch b 100\ndeliver 8 110 0\nrecv b 8\n\
+    deliver 6 73 0\ndispatch a 80\ndeliver 5 90 0\ndispatch b 100\ndeliver 7 110 0\nrecv b 8\n\
     dispatch b 120\ndispatch a 5000\n";
 
-const EMPTY_PROBE_GOES: &str = "deliver 10 5000 0\ndispatch b 6000\ndeliver 11 6000 0\n\
-    dispatch a 6000\ndeliver 12 6000 0\n";
+const EMPTY_PROBE_GOES: &str = "deliver 9 5000 0\ndispatch b 6000\ndeliver 10 6000 0\n\
+    dispatch a 6000\ndeliver 11 6000 0\n";
 
 // As `endless_acks`, where nothing goes out without end by these rules.
 const ENDLESS: &str = "send a abcde\ndispatch a 0\ndeliver 3 0 0\ndispatch b 10\ndeliver 4 10 0\n\
@@ -160,7 +168,7 @@ fn each_stall_goes_on_by_the_rules_of_the_rfcs(rt: HostRuntime) -> Result<(), Fa
     let stalls = [
         (64, (OPENING, FIN, FIN_GOES), (0, State::CloseWait)),
         (4, (OPENING, WINDOW, WINDOW_GOES), (7, State::Established)),
-        (8, (OPENING, PROBE, PROBE_GOES), (12, State::Established)),
+        (8, (OPENING, PROBE_BY_RFC, PROBE_GOES), (12, State::Established)),
         (64, ("", SYN, SYN_GOES), (0, State::Established)),
         (4, (OPENING, LAST_ACK, LAST_ACK_GOES), (7, State::Closed)),
         (

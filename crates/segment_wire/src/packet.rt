@@ -31,7 +31,7 @@ pub fn emit_tcp(ip: &IpRepr, repr: &TcpRepr<'_>, buffer: &mut [u8], caps: &Check
     emit_tcp_with(ip, repr, repr.header_len(), buffer, caps);
 }
 
-/// The same, where the caller has worked out already how many bytes the segment's header has, with its options.
+/// Writes a packet as `emit_tcp`, where the caller knows how many bytes the segment's header has with its options.
 #[tactic(auto, using(crate::proofs::Written::payload_behind))]
 pub fn emit_tcp_with(
     ip: &IpRepr,

@@ -26,8 +26,8 @@ pub trait AnySocket<'a, G>: Sized {
     fn downcast<'c>(socket: &'c Socket<'a, G>) -> Option<&'c Self>
         ensures { option_map (λ s. s.now) result ≡ of_kind socket.now };
 
-    /// The same, lent for writing. Afterwards the enum holds what was left behind the reference; where none was lent it
-    /// is as before.
+    /// Borrows the socket for writing; `None` where the enum holds another kind. Afterwards the enum holds what was
+    /// left behind the reference; where nothing was borrowed it is unchanged.
     fn downcast_mut<'c>(socket: &'c mut Socket<'a, G>) -> Option<&'c mut Self>
         ensures* writes_back { sem 𝓛 (lends_kind G.row Self.row socket.entry result held) }
         ensures value { option_map (λ s. s.now) result ≡ of_kind socket.old };

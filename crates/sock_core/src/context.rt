@@ -34,11 +34,11 @@ pub trait Context {
         ensures value { result ≡ (facts self.now).source dst.now }
         ensures version { ForSome result (λ s. SameVersion s dst.now) };
 
-    /// The same for an IPv4 address.
+    /// The IPv4 address from which a packet to `dst` is sent; none where there is none.
     fn get_source_address_ipv4(&self, dst: &Ipv4Address) -> Option<Ipv4Address>
         ensures { result ≡ (facts self.now).source_ipv4 dst.now };
 
-    /// The same for an IPv6 address, for which there always is one.
+    /// The IPv6 address from which a packet to `dst` is sent; there always is one.
     fn get_source_address_ipv6(&self, dst: &Ipv6Address) -> Ipv6Address
         ensures { result ≡ (facts self.now).source_ipv6 dst.now };
 

@@ -14,6 +14,7 @@ use net_base::time::Instant;
 use std::marker::Model;
 
 /// Reno: slow start, congestion avoidance, fast retransmit and fast recovery (RFC 5681).
+/// Sums and products stop at the greatest `usize`; in congestion avoidance a window of 0 counts as 1.
 #[derive(Debug, Clone, Copy)]
 pub struct Reno {
     cwnd: usize,

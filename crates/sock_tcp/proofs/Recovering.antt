@@ -9,7 +9,7 @@ use Rattle.ip_wire.specs.declared.repr.IpRepr.{IpRepr}
 use Rattle.sock_tcp.specs.Arrival.{arrival}
 use Rattle.sock_tcp.specs.Process.{Outcome, answered, by_verdict, processed_by, tuple_of}
 use Rattle.sock_tcp.specs.Replies.{ack_kept, ack_segment, sack_range}
-use Rattle.sock_tcp.specs.Rfc.Recovery.{before_of, begun_by, echo_known, gone_on_from, has_timer, is_called, is_news, recovered, recovered_by, resends, running, timer_after, waited_for, marked_by, waits_tail}
+use Rattle.sock_tcp.specs.Rfc.Recovery.{before_of, begun_by, echo_known, gone_on_from, has_timer, is_called, is_later_partial, is_news, kept_if, left_running, recovered, recovered_by, running, tells_controller, timer_after, waited_for, marked_by, waits_tail}
 use Rattle.sock_tcp.specs.Due.{flight, window_field}
 use Rattle.sock_tcp.proofs.OwnWindow.{field_is}
 use Rattle.sock_tcp.specs.Rfc.TailLoss.{is_alone, tail_from, tail_waits}
@@ -117,16 +117,26 @@ module _ (Q : Timer → Type 0) (b : Before) (w : View) (now : Instant) (same : 
   probes true (timer.Close at) h = h
   probes false t h = h
 
-  pub waited_as : Q (waited_for b w now)
-  waited_as = by (resends b w) (is_called b w)
-    where
-      left : Timer
-      left = running w.timer (flight w) (length w.tx_buffer.bytes) w.keep_alive w.rtte now
+  -- or as it was
+  keeps : (p : Bool) (u t : Timer) → b.timer ≡ u → Q t → Q (kept_if p u t)
+  keeps true (timer.Retransmit at) (timer.Retransmit next) e h = kept at e
+  keeps true (timer.Retransmit at) (timer.Idle next) e h = h
+  keeps true (timer.Retransmit at) timer.FastRetransmit e h = h
+  keeps true (timer.Retransmit at) (timer.ZeroWindowProbe next delay) e h = h
+  keeps true (timer.Retransmit at) (timer.Close next) e h = h
+  keeps true (timer.Idle at) t e h = h
+  keeps true timer.FastRetransmit t e h = h
+  keeps true (timer.ZeroWindowProbe at delay) t e h = h
+  keeps true (timer.Close at) t e h = h
+  keeps false u t e h = h
 
-      by : (r c : Bool) → Q (if r then timer.FastRetransmit else (if c then gone_on_from b.timer now w.rtte else tail_waits (waits_tail b w) left now w.rtte (is_alone w)))
+  pub waited_as : Q (waited_for b w now)
+  waited_as = by (tells_controller b w) (is_called b w)
+    where
+      by : (r c : Bool) → Q (if r then timer.FastRetransmit else (if c then gone_on_from b.timer now w.rtte else tail_waits (waits_tail b w) (left_running b w now) now w.rtte (is_alone w)))
       by true c = fast
       by false true = goes b.timer refl
-      by false false = probes (waits_tail b w) left (runs w.timer refl same)
+      by false false = probes (waits_tail b w) (left_running b w now) (keeps (is_later_partial b w) b.timer _ refl (runs w.timer refl same))
 
   pub timer_as : Q (timer_after b w now)
   timer_as = by (has_timer w.state)

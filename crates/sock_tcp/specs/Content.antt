@@ -50,7 +50,7 @@ is_probing v now =
 -- the next hole to be sent again (RFC 6675, section 4, NextSeg), or the segment that is sent again as a probe (RFC
 -- 8985, section 7.3)
 abbrev pub next_hole : Recovery → Scoreboard → TcpSeqNumber → Option Hole
-next_hole (recovery.Fast point high_rxt resent_at) k una = hole_behind k (again_from high_rxt una)
+next_hole (recovery.Fast point high_rxt resent_at acked) k una = hole_behind k (again_from high_rxt una)
 next_hole (recovery.Probe start end again) k una = Some (record { start = seq_sub start una; end = seq_sub end una })
 next_hole r k una = None
 

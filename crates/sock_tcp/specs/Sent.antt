@@ -49,9 +49,9 @@ after_probe v now = record v { timer = probe_doubled v.timer now }
 
 -- what begins before SND.NXT is sent again: HighRxt of a recovery moves behind it (RFC 6675, section 2)
 abbrev pub resent_by : Recovery → TcpSeqNumber → Emitted → Recovery
-resent_by (recovery.Fast point high_rxt resent_at) nxt s =
+resent_by (recovery.Fast point high_rxt resent_at acked) nxt s =
     recovery.Fast point
-    (if is_before s.seq_number nxt && not (s.len == 0) then later_of high_rxt s.end else high_rxt) resent_at
+    (if is_before s.seq_number nxt && not (s.len == 0) then later_of high_rxt s.end else high_rxt) resent_at acked
 resent_by r nxt s = r
 
 -- SND.NXT moves behind the segment, its acknowledgement and window are the last sent, and the RST of a closed socket

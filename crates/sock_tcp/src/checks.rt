@@ -1,10 +1,10 @@
 //! What the RFCs' rules ask of a segment before its acknowledgement (RFC 5961, sections 3.2 and 4.2; RFC 1337; RFC
-//! 7323, sections 3.2 and 5).
-ghost use Rattle.std.specs.Prelude.{◌≡◌};
+//! 7323, section 5).
+ghost use Rattle.std.specs.Prelude.{◌≡◌, length};
 ghost use Rattle.control_wire.specs.Segment.{segment_of};
 ghost use Rattle.sock_tcp.specs.Draw.{draws};
-ghost use Rattle.sock_tcp.specs.Rfc.Checks.{checked, is_forgotten, is_older, rst_checked, stamp_checked};
-ghost use Rattle.sock_tcp.specs.Rfc.Checks.{verdict_by};
+ghost use Rattle.sock_tcp.specs.Rfc.Checks.{ack_checked, acks_unsent, checked, is_forgotten, is_older, probe_places};
+ghost use Rattle.sock_tcp.specs.Rfc.Checks.{rst_checked, sent_end, stamp_checked, verdict_by};
 ghost use Rattle.sock_tcp.specs.Verdict.{verdict_of};
 ghost use Rattle.sock_tcp.specs.declared.rules.Rules.TheVariants.{Rfc};
 ghost use Rattle.sock_tcp.specs.declared.verdict.Verdict.TheVariants.{Pass};
@@ -13,7 +13,7 @@ use crate::advance::Next;
 use crate::control_block::ControlBlock;
 use crate::rules::Rules;
 use crate::state::State;
-use crate::timer::{after, is_over};
+use crate::timer::{Timer, after, is_over};
 use crate::verdict::Verdict;
 use crate::window::Window;
 use control_wire::{TcpControl, TcpRepr, TcpSeqNumber, TcpTimestampRepr};
@@ -56,17 +56,56 @@ impl<'a> ControlBlock<'a> {
         }
     }
 
-    // Where timestamps were agreed, a segment without one is dropped, and one with an older one is answered.
+    // Where timestamps were agreed, a segment with an older one is answered. One without is taken: keep-alives of lwIP
+    // have none.
     fn check_stamp(&self, now: Instant, timestamp: Option<TcpTimestampRepr>) -> Next
         ensures { result ≡ stamp_checked self.now now timestamp }
     {
         match (self.stamps, timestamp) {
-            (true, None) => Next::Stop,
             (true, Some(came))
                 if is_older(came.tsval, self.last_remote_tsval) && !self.is_forgotten(now) => {
                 Next::Challenge
             }
             _ => Next::Continue,
+        }
+    }
+
+    // SND.NXT does not count a probe: the byte at SND.UNA, with a FIN where that is the last one.
+    fn probe_places(&self) -> usize
+        ensures { result ≡ probe_places self.now.timer self.now.state (length self.now.tx_buffer.bytes) }
+    {
+        match self.timer {
+            Timer::ZeroWindowProbe { .. } if self.tx_buffer.len() == 1 => 1 + self.fin_place(),
+            Timer::ZeroWindowProbe { .. } => 1,
+            _ => 0,
+        }
+    }
+
+    // The number behind all that was sent.
+    fn sent_end(&self) -> TcpSeqNumber
+        ensures { result ≡ sent_end self.now }
+    {
+        let highest = self.recovery.highest(self.remote_last_seq);
+        highest.plus(self.probe_places())
+    }
+
+    // It acknowledges what was never sent.
+    fn acks_unsent(&self, ack: Option<TcpSeqNumber>) -> bool
+        ensures { result ≡ acks_unsent ack (sent_end self.now) }
+    {
+        match ack {
+            None => false,
+            Some(ack) => before(self.sent_end(), ack),
+        }
+    }
+
+    fn check_ack(&self, now: Instant, repr: &TcpRepr<'_>) -> Next
+        ensures { result ≡ ack_checked self.now now (segment_of repr.now) }
+    {
+        if self.acks_unsent(repr.ack_number) {
+            Next::Challenge
+        } else {
+            self.check_stamp(now, repr.timestamp)
         }
     }
 
@@ -81,7 +120,8 @@ impl<'a> ControlBlock<'a> {
             (_, TcpControl::Rst) => check_rst(self.honored_window(), repr.seq_number),
             (State::SynReceived, TcpControl::Syn) => self.check_stamp(now, repr.timestamp),
             (_, TcpControl::Syn) => Next::Challenge,
-            _ => self.check_stamp(now, repr.timestamp),
+            (State::SynReceived, _) => self.check_stamp(now, repr.timestamp),
+            _ => self.check_ack(now, repr),
         }
     }
 

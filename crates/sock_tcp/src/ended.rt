@@ -19,6 +19,7 @@ pub enum Ended {
     /// The user timeout was over (RFC 9293, section 3.9.1).
     TimedOut,
     /// The own side ended it: by `abort`, or by `close` in LISTEN or SYN-SENT.
+    /// An abort in TIME-WAIT is one too.
     Aborted,
     /// The interface has the connection's own address no longer.
     Unaddressable,

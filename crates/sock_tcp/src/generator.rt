@@ -59,8 +59,8 @@ impl<'a> ControlBlock<'a> {
 
 impl<'a> Socket<'a> {
     /// Sets the source of the timestamps that the socket sends, or takes it away, as smoltcp: a function that may
-    /// always be called. It is to be set before the socket is opened: by the RFCs' rules a connection with one takes no
-    /// segment without a timestamp (RFC 7323, section 3.2).
+    /// always be called. It is to be set before the socket is opened: timestamps are agreed on by the SYNs (RFC 7323,
+    /// section 3.2).
     pub fn set_tsval_generator(&mut self, generator: Option<TcpTimestampGenerator>)
         requires callable { MatchOption generator (Unit {0}) (λ g. IsAlwaysCallable g) }
         ensures control_block { self.new.control_block

@@ -54,6 +54,7 @@ mod tail;
 pub mod timer;
 pub mod tuple;
 pub mod verdict;
+mod waiting;
 pub mod window;
 
 pub use control_block::ControlBlock;

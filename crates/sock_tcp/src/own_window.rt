@@ -1,4 +1,7 @@
 //! Which window a socket tells: by the RFCs' rules none by a few bytes (RFC 9293, section 3.8.6.2.2).
+//!
+//! A SYN advertises the whole buffer, counted from its acknowledgement on, or without one from the peer's own SYN on.
+//! So what advertises the first window after it, or what follows a FIN, is less by one where there is no scale.
 ghost use Rattle.std.specs.Prelude.{◌≡◌, ◌≤◌, length};
 ghost use Rattle.sock_tcp.specs.Due.{window_field};
 ghost use Rattle.sock_tcp.specs.Rfc.OwnWindow.{field_by, is_grown, kept_field, may_grow, space_field, told_left};

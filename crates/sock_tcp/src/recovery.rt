@@ -1,18 +1,14 @@
-//! Loss by the rules of the RFCs: recovery (RFC 6675, RFC 6582), duplicates (RFC 5681, RFC 5827) and the retransmission
-//! timer (RFC 6298).
+//! Loss by the rules of the RFCs: recovery (RFC 6675, RFC 6582) and duplicates (RFC 5681, RFC 5827).
 ghost use Rattle.std.specs.Prelude.{◌≡◌, ◌≤◌, length};
 ghost use Rattle.control_wire.specs.Segment.{segment_of};
 ghost use Rattle.sock_core.specs.Bounds.{IsMoment};
-ghost use Rattle.sock_tcp.specs.Due.{flight};
-ghost use Rattle.sock_tcp.specs.Rfc.Recovery.{before_of, begins, begun_by, controller_after, duplicates_after};
-ghost use Rattle.sock_tcp.specs.Rfc.Recovery.{estimator_after};
-ghost use Rattle.sock_tcp.specs.Rfc.Recovery.{gone_on, gone_on_from, has_timer, highest_of, is_bare_control, is_called};
-ghost use Rattle.sock_tcp.specs.Rfc.Recovery.{is_fast, is_grown, is_news, is_opened, is_over, is_partial};
-ghost use Rattle.sock_tcp.specs.Rfc.Recovery.{is_counted, is_early, may_resend, recovered};
-ghost use Rattle.sock_tcp.specs.Rfc.Recovery.{recovery_after, repeats_by, resends, running, timed_out_by, timer_after};
-ghost use Rattle.sock_tcp.specs.Rfc.Recovery.{before_it, is_timed_out, is_uncounted, told_of_bytes};
-ghost use Rattle.sock_tcp.specs.Rfc.Recovery.{segments_out, tells_loss, waited_for};
-ghost use Rattle.sock_tcp.specs.Timers.{IsTimer};
+ghost use Rattle.sock_tcp.specs.Rfc.Recovery.{before_it, before_of, begins, controller_after, duplicates_after};
+ghost use Rattle.sock_tcp.specs.Rfc.Recovery.{estimator_after, gone_on, highest_of, is_acked, is_bare_control};
+ghost use Rattle.sock_tcp.specs.Rfc.Recovery.{is_called, is_recovering};
+ghost use Rattle.sock_tcp.specs.Rfc.Recovery.{is_counted, is_early, is_fast, is_news, is_opened, is_over, is_partial};
+ghost use Rattle.sock_tcp.specs.Rfc.Recovery.{is_timed_out, is_uncounted, is_void, marks, may_resend, recovered};
+ghost use Rattle.sock_tcp.specs.Rfc.Recovery.{recovery_after, repeats_by, resends, segments_out, tells_controller};
+ghost use Rattle.sock_tcp.specs.Rfc.Recovery.{tells_loss, timed_out_by, told_of_bytes};
 
 use crate::control_block::ControlBlock;
 use crate::round_trips::echo_of;
@@ -39,6 +35,8 @@ pub enum Recovery {
         high_rxt: TcpSeqNumber,
         /// The number behind all that was sent when SND.UNA moved last, or holes began to go out again.
         resent_at: TcpSeqNumber,
+        /// Whether something new was acknowledged since it began.
+        acked: bool,
     },
     /// A tail-loss probe went out, and nothing behind what was sent before it is acknowledged (RFC 8985, section 7).
     Probe {
@@ -96,23 +94,18 @@ pub(crate) fn is_fast(timer: Timer) -> bool
     matches!(timer, Timer::FastRetransmit)
 }
 
-// Where no fast retransmission is to come, the retransmission timer goes on as it was.
-fn gone_on_from(timer: Timer, now: Instant, rtte: &RttEstimator) -> Timer
-    requires { IsMoment now.micros }
-    ensures value { result ≡ gone_on_from timer now rtte.now }
-    ensures lawful { IsTimer result }
-{
-    match timer {
-        Timer::Retransmit { .. } => timer,
-        _ => Timer::retransmit(now, rtte),
-    }
-}
-
 impl Recovery {
     fn is_over(self) -> bool
         ensures { result ≡ is_over self }
     {
         matches!(self, Recovery::Open | Recovery::Probe { .. })
+    }
+
+    // Holes go out again.
+    fn is_recovering(self) -> bool
+        ensures { result ≡ is_recovering self }
+    {
+        matches!(self, Recovery::Fast { .. })
     }
 
     // An acknowledgement of all that was sent before ends it.
@@ -138,6 +131,16 @@ impl Recovery {
         match self {
             Recovery::Open | Recovery::Probe { .. } => next,
             Recovery::Fast { point, .. } | Recovery::Timeout { point } => later(next, point),
+        }
+    }
+
+    // Something new was acknowledged since a fast retransmission went out.
+    pub(crate) fn is_acked(self) -> bool
+        ensures { result ≡ is_acked self }
+    {
+        match self {
+            Recovery::Fast { acked, .. } => acked,
+            _ => false,
         }
     }
 
@@ -169,34 +172,36 @@ impl Before {
         self.una != after.local_seq_no
     }
 
-    // A duplicate that tells a larger window.
-    fn is_grown(&self, after: &ControlBlock<'_>) -> bool
-        ensures { result ≡ is_grown self.now after.now }
+    // None, though smoltcp's rules count it or begin the count anew: of a peer that tells by SACK one that tells
+    // nothing new, of another one a larger window.
+    fn is_void(&self, after: &ControlBlock<'_>) -> bool
+        ensures { result ≡ is_void self.now after.now }
     {
-        self.repeats && self.window < after.remote_win_len
+        let grown = self.window < after.remote_win_len;
+        self.repeats && (!self.telling && (after.remote_has_sack || grown))
     }
 
-    // A duplicate that smoltcp's rules do not count: its window has grown, or it tells something new by SACK.
+    // A duplicate that smoltcp's rules do not count: it tells something new by SACK.
     fn is_uncounted(&self, after: &ControlBlock<'_>) -> bool
         ensures { result ≡ is_uncounted self.now after.now }
     {
         let counted = self.repeats && self.window == after.remote_win_len;
-        self.is_grown(after) || self.telling && (!self.is_news(after) && !counted)
+        self.telling && (!self.is_news(after) && !counted)
     }
 
     // Smoltcp's rules call for a fast retransmission.
-    fn is_called(&self, after: &ControlBlock<'_>) -> bool
+    pub(crate) fn is_called(&self, after: &ControlBlock<'_>) -> bool
         ensures { result ≡ is_called self.now after.now }
     {
         is_fast(after.timer) && !is_fast(self.timer)
     }
 
-    // It was counted as a duplicate by smoltcp's rules.
+    // It was counted as a duplicate by smoltcp's rules, and is one.
     fn is_counted(&self, after: &ControlBlock<'_>) -> bool
         ensures { result ≡ is_counted self.now after.now }
     {
-        self.repeats
-            && (self.window == after.remote_win_len && self.duplicates < after.local_rx_dup_acks)
+        let counted = self.duplicates < after.local_rx_dup_acks && !self.is_void(after);
+        self.repeats && (self.window == after.remote_win_len && counted)
     }
 
     // One duplicate less than the segments that are out, where these are few and all that is queued was sent.
@@ -214,7 +219,7 @@ impl Before {
         ensures { result ≡ tells_loss self.now after.now }
     {
         let third = self.is_uncounted(after) && self.duplicates == 2;
-        self.is_called(after)
+        self.is_called(after) && !self.is_void(after)
             || (third
                 || (self.is_early(after)
                     || (self.is_probe_told(after) || self.is_told_lost(after))))
@@ -246,6 +251,22 @@ impl Before {
         self.begins(after) || after.may_resend() && (self.shows_hole(after) || self.lets_out(after))
     }
 
+    // The dispatch that sends it tells the controller of a loss: one begins, or that was not told yet.
+    pub(crate) fn tells_controller(&self, after: &ControlBlock<'_>) -> bool
+        ensures { result ≡ tells_controller self.now after.now }
+    {
+        self.begins(after) || is_fast(self.timer) && self.resends(after)
+    }
+
+    // In a recovery that goes on, of which the controller was told, what goes out again is marked at once.
+    fn marks(&self, after: &ControlBlock<'_>) -> bool
+        ensures { result ≡ marks self.now after.now }
+    {
+        self.recovery.is_recovering()
+            && (!is_fast(self.timer)
+                && (after.may_resend() && (self.shows_hole(after) || self.lets_out(after))))
+    }
+
     pub(crate) fn recovery_after(&self, after: &ControlBlock<'_>) -> Recovery
         ensures { result ≡ recovery_after self.now after.now }
     {
@@ -257,6 +278,7 @@ impl Before {
                 point: after.remote_last_seq,
                 high_rxt: after.local_seq_no,
                 resent_at: after.remote_last_seq,
+                acked: false,
             };
         }
         self.again(after).gone_on(after.local_seq_no)
@@ -265,7 +287,9 @@ impl Before {
     fn duplicates_after(&self, after: &ControlBlock<'_>) -> u8
         ensures { result ≡ duplicates_after self.now after.now }
     {
-        if self.is_uncounted(after) {
+        if self.is_void(after) {
+            self.duplicates
+        } else if self.is_uncounted(after) {
             self.duplicates.saturating_add(1)
         } else {
             after.local_rx_dup_acks
@@ -315,7 +339,7 @@ impl Before {
             controller.on_partial_ack(now, after.local_seq_no.since(self.una));
             return controller;
         }
-        if self.lets_out(after) {
+        if self.lets_out(after) || self.is_void(after) {
             return self.controller_before(after);
         }
         if self.is_uncounted(after) {
@@ -326,51 +350,16 @@ impl Before {
         self.told_of_bytes(after, now)
     }
 
-    fn waited_for(&self, after: &ControlBlock<'_>, now: Instant) -> Timer
-        requires { IsMoment now.micros }
-        ensures value { result ≡ waited_for self.now after.now now }
-        ensures lawful { IsTimer result }
-    {
-        if self.resends(after) {
-            return Timer::FastRetransmit;
-        }
-        if self.is_called(after) {
-            return gone_on_from(self.timer, now, &after.rtte);
-        }
-        let waits = self.waits_tail(after);
-        let alone = after.is_alone();
-        after.running(now).or_tail(waits, now, &after.rtte, alone)
-    }
-
-    fn timer_after(&self, after: &ControlBlock<'_>, now: Instant) -> Timer
-        requires { IsMoment now.micros }
-        ensures value { result ≡ timer_after self.now after.now now }
-        ensures lawful { IsTimer result }
-    {
-        if after.state.has_timer() {
-            self.waited_for(after, now)
-        } else {
-            after.timer
-        }
-    }
-
     fn estimator_after(&self, after: &ControlBlock<'_>) -> RttEstimator
         ensures { result ≡ estimator_after self.now after.now }
     {
         let mut rtte = after.rtte;
         if self.is_opened(after) {
             rtte.begin_anew();
+        } else if self.marks(after) {
+            rtte.on_retransmit();
         }
         rtte
-    }
-}
-
-impl State {
-    // Its timer is one for acknowledgements.
-    fn has_timer(self) -> bool
-        ensures { result ≡ has_timer self }
-    {
-        matches!(self, State::SynReceived | State::FinWait2) || self.carries_data()
     }
 }
 
@@ -398,42 +387,6 @@ impl<'a> ControlBlock<'a> {
         ensures { result ≡ may_resend self.now }
     {
         self.state.carries_data() && !self.tx_buffer.is_empty()
-    }
-
-    // The timer once that of a retransmission is over: a window is probed for where there is none, and bytes wait.
-    #[inline(always)]
-    pub(crate) fn timer_begun(&self, now: Instant) -> Timer
-        requires { IsMoment now.micros }
-        ensures value { result ≡ begun_by self.now.rules self.now.remote_win_len (length self.now.tx_buffer.bytes) now
-            self.now.keep_alive self.now.rtte }
-        ensures lawful { IsTimer result }
-    {
-        match self.rules {
-            Rules::Rfc if self.remote_win_len == 0 && !self.tx_buffer.is_empty() => {
-                Timer::probe(now, &self.rtte)
-            }
-            _ => Timer::idle(now, self.keep_alive),
-        }
-    }
-
-    // A timer runs whenever something is in flight, and none for a window while there is nothing to send.
-    fn running(&self, now: Instant) -> Timer
-        requires { IsMoment now.micros }
-        ensures value { result ≡ running self.now.timer (flight self.now) (length self.now.tx_buffer.bytes)
-            self.now.keep_alive self.now.rtte now }
-        ensures lawful { IsTimer result }
-    {
-        match self.timer {
-            Timer::Idle { .. } if self.flight() != 0 => Timer::retransmit(now, &self.rtte),
-            Timer::ZeroWindowProbe { .. } if self.tx_buffer.len() <= self.flight() => {
-                if self.flight() == 0 {
-                    Timer::idle(now, self.keep_alive)
-                } else {
-                    Timer::retransmit(now, &self.rtte)
-                }
-            }
-            timer => timer,
-        }
     }
 
     // What is kept of the socket while this segment is heard.
@@ -472,9 +425,11 @@ impl<'a> ControlBlock<'a> {
         let recovery = before.recovery_after(self);
         let sacked = before.sacked_after(self);
         let largest = before.largest_after(self);
+        let marked = self.pending_fast_retransmit || before.marks(self);
         self.timer = timer;
         self.rtte = rtte;
         self.local_rx_dup_acks = duplicates;
+        self.pending_fast_retransmit = marked;
         self.congestion_controller = controller;
         self.recovery = recovery;
         self.sacked = sacked;

@@ -1,4 +1,9 @@
 //! Round trips by timestamps, by the RFCs' rules (RFC 6298, section 3; RFC 7323, section 4).
+//!
+//! What is kept is the timestamp and the time of the first segment that is sent again while nothing is timed. An echo
+//! of it gives a sample. An echo of a later timestamp ends the timing, as that sending or its acknowledgement was lost;
+//! an earlier one, or none, changes nothing. A timeout and a sample by numbers end the timing, and a fast
+//! retransmission does not.
 ghost use Rattle.std.specs.Prelude.{◌≡◌};
 ghost use Rattle.sock_core.specs.Bounds.{IsMoment};
 ghost use Rattle.sock_tcp.specs.Rfc.Idle.{idle_by, restarted_by};

@@ -2,7 +2,8 @@
 ghost use Rattle.std.specs.Prelude.{◌≡◌, ◌≤◌, ◌<◌, ◌^◌, ◌&&◌, length};
 ghost use Rattle.control_wire.specs.Segment.{segment_of};
 ghost use Rattle.sock_tcp.specs.Content.{again_from, next_hole};
-ghost use Rattle.sock_tcp.specs.Rfc.Recovery.{is_partial, is_sent_again, is_telling, lets_out, sacked_after, sacked_by};
+ghost use Rattle.sock_tcp.specs.Rfc.Recovery.{is_marked, is_partial, is_sent_again, is_telling, lets_out, sacked_after};
+ghost use Rattle.sock_tcp.specs.Rfc.Recovery.{sacked_by};
 ghost use Rattle.sock_tcp.specs.Rfc.Recovery.{again, again_by, has_hole, is_lost_again, is_lost_in, only_tells};
 ghost use Rattle.sock_tcp.specs.Rfc.Recovery.{sent_of};
 ghost use Rattle.sock_tcp.specs.Rfc.Recovery.{shows_hole};
@@ -106,11 +107,13 @@ impl Recovery {
                 point,
                 high_rxt,
                 resent_at,
+                acked: true,
             },
-            (false, true, Recovery::Fast { point, .. }) => Recovery::Fast {
+            (false, true, Recovery::Fast { point, acked, .. }) => Recovery::Fast {
                 point,
                 high_rxt: una,
                 resent_at,
+                acked,
             },
             (true, _, Recovery::Probe { end, .. }) if before(end, una) => Recovery::Open,
             _ => self,
@@ -126,10 +129,12 @@ impl Recovery {
                 point,
                 high_rxt,
                 resent_at,
+                acked,
             } if before(emitted.seq_number, next) && emitted.len != 0 => Recovery::Fast {
                 point,
                 high_rxt: later(high_rxt, emitted.end),
                 resent_at,
+                acked,
             },
             _ => self,
         }
@@ -178,11 +183,18 @@ impl Before {
         )
     }
 
+    // A segment is still to go out again.
+    fn is_marked(&self, after: &ControlBlock<'_>) -> bool
+        ensures { result ≡ is_marked self.now after.now }
+    {
+        is_fast(self.timer) || after.pending_fast_retransmit
+    }
+
     // What is told anew, and acknowledges nothing, lets out the next hole, unless one is still to go out.
     pub(crate) fn lets_out(&self, after: &ControlBlock<'_>) -> bool
         ensures { result ≡ lets_out self.now after.now }
     {
-        if !self.only_tells(after) || is_fast(self.timer) {
+        if !self.only_tells(after) || self.is_marked(after) {
             return false;
         }
         let sacked = self.sacked_after(after);

@@ -82,7 +82,7 @@ impl<'a, G: Drop> Socket<'a, G> {
 }
 
 impl<'a, G> Socket<'a, G> {
-    /// As `new`, with a source of timestamps of any kind, or none.
+    /// A closed socket over these buffers, with a source of timestamps of any kind, or none.
     pub fn closed(
         rx_buffer: SocketBuffer<'a>,
         tx_buffer: SocketBuffer<'a>,

@@ -1,4 +1,10 @@
 //! Tail-loss probes, by the RFCs' rules (RFC 8985, section 7).
+//!
+//! A probe of new bytes is a full segment, so that Nagle's algorithm holds none back. Else it is the last segment of
+//! what is in flight, as long as the peer's MSS less a timestamp: where the own MTU makes segments shorter, the probe
+//! ends before the last byte, and what is lost behind it waits for the timeout. Where the last segment was acknowledged
+//! in part before its emit succeeded, the segment at SND.UNA goes out in its place. Where the timeout is earlier than
+//! the probe, the probe takes its place, and the timeout comes one timeout later.
 ghost use Rattle.std.specs.Prelude.{◌≡◌, ◌≤◌};
 ghost use Rattle.sock_core.specs.Bounds.{IsMoment};
 ghost use Rattle.sock_tcp.specs.Rfc.Recovery.{is_probe_told, is_told_to_end, waits_tail};

@@ -145,7 +145,8 @@ impl<'a> ControlBlock<'a> {
         Window { start, end }
     }
 
-    // The window that honors whatever was told once (RFC 7323, section 2.4).
+    // The window that honors whatever was told once (RFC 7323, section 2.4); RSTs and blocks of SACK are tested by
+    // it too.
     #[tactic(auto, unfolding(crate::specs::Window::honored_window))]
     pub(crate) fn honored_window(&self) -> Window
         ensures { result ≡ honored_window self.now }

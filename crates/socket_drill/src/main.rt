@@ -1,6 +1,9 @@
 //! Runs drills: scripts of sockets of every kind, and of what they are expected to answer.
 #![tactic(auto)]
 
+mod list;
+
+use crate::list::list;
 use drill_lines::advice::advice_on;
 use pcap::stream::stream_header;
 use script_program::fault::{Fault, exit_code};
@@ -14,7 +17,7 @@ use std::{env, io};
 
 // What `--help` prints.
 const HELP: &str = "\
-usage: socket_drill [--pcap] [FILE]..
+usage: socket_drill [--pcap|--list] [FILE]..
        socket_drill --chart [FILE]
 
 Runs the drills of the files, or of standard input: sockets of every kind, what
@@ -24,6 +27,7 @@ line ends with status 1 too, and what would be right, a stream that fails with 2
 
 --pcap    writes the packets that come and go in place of lines, as a pcap stream
 --chart   draws each line and what came of it, in SVG
+--list    runs nothing, and prints each example's name and the comment above it
 ";
 
 fn main(rt: HostRuntime) -> ExitCode {
@@ -36,25 +40,35 @@ fn main(rt: HostRuntime) -> ExitCode {
 
 fn start(rt: &HostRuntime) -> Result<Tally, Fault> {
     let task = task_of(rt)?;
-    if task.is_help {
+    if let Job::Help = task.job {
         print(rt, HELP)?;
         return Ok(Tally::new());
     }
     let Ok(mut output) = BufWriter::new(rt.alloc(), io::writer(rt)) else {
         return Err(Fault::Memory);
     };
-    let ran = drills(rt, task, &mut output);
+    let ran = match task.job {
+        Job::Run(wanted) => drills(rt, wanted, task.files, &mut output),
+        Job::Help | Job::List => lists(rt, task.files, &mut output),
+    };
     if output.flush().is_err() {
         return Err(Fault::Write);
     }
     ran
 }
 
+// What the program does with its files.
+#[derive(Clone, Copy)]
+enum Job {
+    Help,
+    List,
+    Run(Wanted),
+}
+
 // What the arguments ask for.
 #[derive(Drop)]
 struct Task {
-    is_help: bool,
-    wanted: Wanted,
+    job: Job,
     files: Vec<String>,
 }
 
@@ -64,15 +78,15 @@ fn task_of(rt: &HostRuntime) -> Result<Task, Fault> {
     };
     let _program = args.next();
     let mut task = Task {
-        is_help: false,
-        wanted: Wanted::Lines,
+        job: Job::Run(Wanted::Lines),
         files: Vec::new(rt.alloc()),
     };
     for word in args {
         match word.as_str() {
-            "--help" => task.is_help = true,
-            "--pcap" => task.wanted = Wanted::Packets,
-            "--chart" => task.wanted = Wanted::Chart,
+            "--help" => task.job = Job::Help,
+            "--list" => task.job = Job::List,
+            "--pcap" => task.job = Job::Run(Wanted::Packets),
+            "--chart" => task.job = Job::Run(Wanted::Chart),
             _ => {
                 if task.files.push(word).is_err() {
                     return Err(Fault::Memory);
@@ -80,26 +94,50 @@ fn task_of(rt: &HostRuntime) -> Result<Task, Fault> {
             }
         }
     }
-    if task.files.len() > 1 && matches!(task.wanted, Wanted::Chart) {
+    if task.files.len() > 1 && matches!(task.job, Job::Run(Wanted::Chart)) {
         return Err(Fault::Usage("socket_drill --chart [FILE]"));
     }
     Ok(task)
 }
 
 // Runs the drill of each file, or of standard input where there is none, and writes how many lines were as expected.
-fn drills<W: Write>(rt: &HostRuntime, task: Task, output: &mut W) -> Result<Tally, Fault> {
+fn drills<W: Write>(
+    rt: &HostRuntime,
+    wanted: Wanted,
+    files: Vec<String>,
+    output: &mut W,
+) -> Result<Tally, Fault> {
     let mut tally = Tally::new();
-    begin(task.wanted, output)?;
-    if task.files.is_empty() {
-        tally = drill(rt, task.wanted, "", None, output)?;
+    begin(wanted, output)?;
+    if files.is_empty() {
+        tally = drill(rt, wanted, "", None, output)?;
     }
-    for file in task.files {
+    for file in files {
         let label = label_of(rt.alloc(), file.as_str())?;
-        let one = drill(rt, task.wanted, label.as_str(), Some(file), output)?;
+        let one = drill(rt, wanted, label.as_str(), Some(file), output)?;
         tally = tally.with(one);
     }
-    end(task.wanted, &tally, output)?;
+    end(wanted, &tally, output)?;
     Ok(tally)
+}
+
+// Lists the examples of each file, or of standard input where there is none.
+fn lists<W: Write>(rt: &HostRuntime, files: Vec<String>, output: &mut W) -> Result<Tally, Fault> {
+    if files.is_empty() {
+        list_one(rt, None, output)?;
+    }
+    for file in files {
+        list_one(rt, Some(file), output)?;
+    }
+    Ok(Tally::new())
+}
+
+fn list_one<W: Write>(rt: &HostRuntime, file: Option<String>, output: &mut W) -> Result<(), Fault> {
+    let text = read_script(rt, file)?;
+    match list(text.as_slice(), output) {
+        Ok(()) => Ok(()),
+        Err(_) => Err(Fault::Write),
+    }
 }
 
 fn begin<W: Write>(wanted: Wanted, output: &mut W) -> Result<(), Fault> {

@@ -35,7 +35,7 @@ impl Packet {
         Ok(Packet { ip, kind, payload })
     }
 
-    /// The same packet once more.
+    /// A copy of the packet.
     pub fn again(&self, alloc: Global) -> Result<Packet, AllocError> {
         Packet::new(alloc, self.ip, self.kind, self.payload.as_slice())
     }

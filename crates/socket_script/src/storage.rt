@@ -18,7 +18,7 @@ pub enum Memory {
 }
 
 impl Memory {
-    /// As much as the room says.
+    /// Memory for a socket, as much as the room says.
     pub fn of(alloc: Global, room: Room) -> Result<Memory, AllocError> {
         match room {
             Room::Tcp { rx, tx } => Ok(Memory::Tcp {

@@ -10,7 +10,7 @@ use Rattle.control_wire.specs.declared.tcp.TcpControl.TheVariants as control
 use Rattle.sock_tcp.specs.Arrival.{Arrival, arrival}
 use Rattle.sock_tcp.specs.Process.{ack_sent, by_verdict, challenged, processed_by, stopped, tuple_of}
 use Rattle.sock_tcp.specs.Replies.{ack_kept}
-use Rattle.sock_tcp.specs.Rfc.Checks.{checked, checked_in, is_forgotten, is_older, rst_checked, stamp_checked, verdict_by, verdict_then}
+use Rattle.sock_tcp.specs.Rfc.Checks.{ack_checked, acks_unsent, checked, checked_in, is_forgotten, is_older, rst_checked, sent_end, stamp_checked, verdict_by, verdict_then}
 use Rattle.sock_tcp.specs.Rfc.Windows.{windowed}
 use Rattle.sock_tcp.specs.Timers.{after, challenge_interval}
 use Rattle.sock_tcp.specs.View.{View}
@@ -20,7 +20,7 @@ use Rattle.sock_tcp.specs.declared.advance.Next.TheVariants as next
 use Rattle.sock_tcp.specs.declared.state.State.{State}
 use Rattle.sock_tcp.specs.declared.state.State.TheVariants as state
 use Rattle.sock_tcp.proofs.Windows.{same_seq}
-use Rattle.tcp_laws.specs.Blind.{BlindSegmentsChangeNothing, IsBlind, LateReset, Older, OnlyAnswered, Reset, Synchronizes, Unstamped}
+use Rattle.tcp_laws.specs.Blind.{BlindSegmentsChangeNothing, IsBlind, LateReset, Older, OnlyAnswered, Reset, Synchronizes, Unsent}
 
 -- ---- what the checks say
 
@@ -45,16 +45,31 @@ module _ (v : View) (now : Instant) (s : Segment) (P : Next → Type 0) (stop : 
   by_syn state.SynReceived n = absurd (n refl)
   by_syn _ n = challenge
 
+  by_ack : P (stamp_checked v now s.timestamp) → P (ack_checked v now s)
+  by_ack p = go (acks_unsent s.ack_number (sent_end v))
+    where
+      go : (b : Bool) → P (if b then next.Challenge else stamp_checked v now s.timestamp)
+      go true = challenge
+      go false = p
+
+  unsent : (b : Bool) → b ≡ true → P (if b then next.Challenge else stamp_checked v now s.timestamp)
+  unsent true e = challenge
+  unsent false e = absurd cc
+
+  by_unsent : (st : State) (c : TcpControl) → (c ≡ control.Rst → ⊥) → (st ≡ state.SynReceived → ⊥) → P (ack_checked v now s) → P (checked_in st c v now s)
+  by_unsent st control.Rst n m p = absurd (n refl)
+  by_unsent state.SynReceived _ n m p = absurd (m refl)
+  by_unsent _ control.Syn n m p = challenge
+  by_unsent state.TimeWait _ n m p = p
+  by_unsent _ _ n m p = p
+
   by_stamp : (st : State) (c : TcpControl) → (c ≡ control.Rst → ⊥) → P (stamp_checked v now s.timestamp) → P (checked_in st c v now s)
   by_stamp st control.Rst n p = absurd (n refl)
   by_stamp state.SynReceived control.Syn n p = p
   by_stamp _ control.Syn n p = challenge
-  by_stamp state.TimeWait _ n p = p
-  by_stamp _ _ n p = p
-
-  none : (b : Bool) → b ≡ true → P (if b then next.Stop else next.Continue)
-  none true e = stop
-  none false e = absurd cc
+  by_stamp state.SynReceived _ n p = p
+  by_stamp state.TimeWait _ n p = by_ack p
+  by_stamp _ _ n p = by_ack p
 
   older : (a b f : Bool) → a ≡ true → b ≡ true → f ≡ false → P (if a && (b && not f) then next.Challenge else next.Continue)
   older true true false x y z = challenge
@@ -66,7 +81,7 @@ module _ (v : View) (now : Instant) (s : Segment) (P : Next → Type 0) (stop : 
   by_kind (Reset e n) = subst (λ c. P (checked_in v.state c v now s)) (sym e) (by_reset n v.state)
   by_kind (LateReset e w) = subst (λ c. P (checked_in v.state c v now s)) (sym e) (subst (λ st. P (checked_in st control.Rst v now s)) (sym w) stop)
   by_kind (Synchronizes e n) = subst (λ c. P (checked_in v.state c v now s)) (sym e) (by_syn v.state n)
-  by_kind (Unstamped n a e) = by_stamp v.state s.control n (subst (λ o. P (stamp_checked v now o)) (sym e) (none v.stamps a))
+  by_kind (Unsent n m e) = by_unsent v.state s.control n m (unsent (acks_unsent s.ack_number (sent_end v)) e)
   by_kind (Older n a t e x y) = by_stamp v.state s.control n (subst (λ o. P (stamp_checked v now o)) (sym e) (older v.stamps (is_older t.tsval v.last_remote_tsval) (is_forgotten v.remote_last_ts now) a x y))
 
   blind_checked : has_window v.state ≡ true → IsBlind v now s → P (checked v now s)

@@ -166,9 +166,10 @@ anew_short e h = go (is_backed_off e)
     go true = omega arith
     go false = h
 
-pub opened_short : (b : Bool) (e : Estimator) → e.rto ≤ 60000 → (if b then begun_anew e else e).rto ≤ 60000
-opened_short true e h = anew_short e h
-opened_short false e h = h
+pub opened_short : (b m : Bool) (e : Estimator) → e.rto ≤ 60000 → (if b then begun_anew e else (if m then retransmitted e else e)).rto ≤ 60000
+opened_short true m e h = anew_short e h
+opened_short false true e h = fast_short e h
+opened_short false false e h = h
 
 module _ (most : Duration) (minute : 60000000 ≤ most.micros) where
   -- ---- timers that are set now

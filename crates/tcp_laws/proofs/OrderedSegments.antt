@@ -1,6 +1,6 @@
 -- A segment keeps the order of SND.UNA, SND.NXT, the transmit queue and the timer.
 use Rattle.std.proofs.Common.{◌≡◌, ℕ, ◌+◌, ◌-◌, ◌<◌, ◌≤◌, ◌^◌, Bool, true, false, not, refl, sym, ap, subst, ◌∙◌, List, [], length, drop, Option, Some, None, arith, length-drop}
-use Rattle.std.specs.Prelude.{if◌then◌else◌, ◌==◌, ◌&&◌}
+use Rattle.std.specs.Prelude.{if◌then◌else◌, ◌==◌, ◌&&◌, ◌||◌}
 use Rattle.std.specs.Option.{ForSome}
 use Rattle.std.proofs.lemmas.Bool.{and_parts, eqb-true, eqb-false}
 use Rattle.ip_wire.specs.declared.repr.IpRepr.{IpRepr}
@@ -39,7 +39,7 @@ use Rattle.tcp_laws.proofs.Ordered.{HasMoment, IsOpen, IsOrdered, IsPeeredIn, Ro
 use Rattle.sock_core.specs.Congestion.{bytes_acked, dup_acked, lost, opened, partially_acked}
 use Rattle.sock_tcp.specs.Due.{flight as flight_of}
 use Rattle.sock_tcp.specs.Content.{carries_data}
-use Rattle.sock_tcp.specs.Rfc.Recovery.{before_it, before_of, controller_after, echo_known, flight_before, has_timer, is_news, is_partial, is_repaired, is_timed_out, is_uncounted, lets_out, opens_well, recovered, told_of_bytes, told_repaired, waited_for}
+use Rattle.sock_tcp.specs.Rfc.Recovery.{before_it, before_of, controller_after, echo_known, flight_before, has_timer, is_news, is_partial, is_repaired, is_timed_out, is_uncounted, is_void, lets_out, opens_well, recovered, told_of_bytes, told_repaired, waited_for}
 use Rattle.sock_tcp.specs.Rfc.Refused.{is_plain_control, refused}
 use Rattle.sock_tcp.specs.declared.recovery.Before.{Before}
 use Rattle.sock_tcp.specs.declared.rules.Rules.{Rules}
@@ -449,7 +449,7 @@ module _ (now : Instant) (word : ℕ) (ip : IpRepr) (s : Segment) (small : word 
   -- ---- where it has recovered
 
   controller_open : (b : Before) (w : View) → IsOpen b.controller → IsOpen w.congestion_controller → IsOpen (controller_after b w now)
-  controller_open b w h i = by (is_partial b w) (lets_out b w) (is_uncounted b w)
+  controller_open b w h i = by (is_partial b w) (lets_out b w || is_void b w) (is_uncounted b w)
     where
       before : IsOpen (before_it b w)
       before = window_open b.controller w.remote_win_len h

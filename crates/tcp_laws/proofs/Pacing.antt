@@ -22,7 +22,7 @@ use Rattle.sock_tcp.specs.Opening.{connected, listened, renewed}
 use Rattle.sock_tcp.specs.Process.{close_restarted}
 use Rattle.sock_tcp.specs.Queues.{queued, read_off}
 use Rattle.sock_tcp.specs.Replies.{ack_kept}
-use Rattle.sock_tcp.specs.Rfc.Recovery.{before_of, echo_known, is_news, is_opened, recovered}
+use Rattle.sock_tcp.specs.Rfc.Recovery.{before_of, echo_known, is_news, is_opened, marks, recovered}
 use Rattle.sock_tcp.specs.Rfc.TailLoss.{tail_probed}
 use Rattle.sock_tcp.specs.Sent.{after_any, after_probe, snd_nxt_moved}
 use Rattle.sock_tcp.specs.Steps.{window_taken, released, duplicate_counted, ack_counted, una_advanced, timestamp_taken, timer_set, heard, joined, ack_delayed}
@@ -113,9 +113,10 @@ anew_paced e h = go (is_backed_off e)
     go true = omega arith
     go false = h
 
-opened_paced : (b : Bool) (e : Estimator) → 0 < e.rto → 0 < (if b then begun_anew e else e).rto
-opened_paced true e h = anew_paced e h
-opened_paced false e h = h
+opened_paced : (b m : Bool) (e : Estimator) → 0 < e.rto → 0 < (if b then begun_anew e else (if m then retransmitted e else e)).rto
+opened_paced true m e h = anew_paced e h
+opened_paced false true e h = fast_paced e h
+opened_paced false false e h = h
 
 -- ---- a segment
 
@@ -145,7 +146,7 @@ module _ (s : Segment) (now : Instant) where
     rows = rows_paced word;
     joins = λ w o bs h. h;
     hears = λ u a h. heard_paced u a h;
-    recovers = λ v w h i. opened_paced (is_opened (before_of v s) w) (echo_known (before_of v s) w now).rtte (echo_paced (is_news (before_of v s) w) (before_of v s).echo w.rtte now i);
+    recovers = λ v w h i. opened_paced (is_opened (before_of v s) w) (marks (before_of v s) (echo_known (before_of v s) w now)) (echo_known (before_of v s) w now).rtte (echo_paced (is_news (before_of v s) w) (before_of v s).echo w.rtte now i);
   }
 
 -- ---- a dispatch

@@ -289,7 +289,7 @@ module _ (u : View) (now : Instant) (b : Segment) (a : AckOf u b) (o : IsOrdered
 
   recovery_stays : (c : Recovery) → resent_by c u.remote_last_seq (emitted_as kind.Plain b) ≡ c
   recovery_stays recovery.Open = refl
-  recovery_stays (recovery.Fast point high_rxt resent_at) = ap (λ k. recovery.Fast point k resent_at) (no_move (is_before b.seq_number u.remote_last_seq) _ high_rxt)
+  recovery_stays (recovery.Fast point high_rxt resent_at acked) = ap (λ k. recovery.Fast point k resent_at acked) (no_move (is_before b.seq_number u.remote_last_seq) _ high_rxt)
   recovery_stays (recovery.Probe start end again) = refl
   recovery_stays (recovery.Timeout point) = refl
 

@@ -15,7 +15,7 @@ use Rattle.sock_tcp.specs.Due.{flight}
 use Rattle.sock_tcp.specs.Process.{Outcome, after_advance, by_verdict, close_restarted, cut_inside, has_window, processed_by, processed_inside, tested_by, timer_restarted, tuple_of}
 use Rattle.sock_tcp.specs.Replies.{ack_kept}
 use Rattle.sock_tcp.specs.Rfc.Checks.{verdict_by}
-use Rattle.sock_tcp.specs.Rfc.Recovery.{before_of, echo_known, gone_on_from, has_timer, is_called, recovered, recovered_by, resends, running, waited_for, waits_tail}
+use Rattle.sock_tcp.specs.Rfc.Recovery.{before_of, echo_known, gone_on_from, has_timer, is_called, is_later_partial, kept_if, left_running, recovered, recovered_by, running, tells_controller, waited_for, waits_tail}
 use Rattle.sock_tcp.specs.Rfc.Refused.{refused}
 use Rattle.sock_tcp.specs.Rfc.TailLoss.{is_alone, tail_waits}
 use Rattle.sock_tcp.specs.Rfc.Windows.{windowed}
@@ -193,16 +193,25 @@ module _ (now : Instant) where
     probes true (timer.Close at) h = h
     probes false t h = h
 
-    waited_rests : At (waited_for b w now)
-    waited_rests = by (resends b w) (is_called b w)
-      where
-        left : Timer
-        left = running w.timer (flight w) (length w.tx_buffer.bytes) w.keep_alive w.rtte now
+    keeps : (c : Bool) (u t : Timer) → At t → At (kept_if c u t)
+    keeps true (timer.Retransmit at) (timer.Retransmit next) h = tt
+    keeps true (timer.Retransmit at) (timer.Idle next) h = h
+    keeps true (timer.Retransmit at) timer.FastRetransmit h = h
+    keeps true (timer.Retransmit at) (timer.ZeroWindowProbe next delay) h = h
+    keeps true (timer.Retransmit at) (timer.Close next) h = h
+    keeps true (timer.Idle at) t h = h
+    keeps true timer.FastRetransmit t h = h
+    keeps true (timer.ZeroWindowProbe at delay) t h = h
+    keeps true (timer.Close at) t h = h
+    keeps false u t h = h
 
-        by : (r c : Bool) → At (if r then timer.FastRetransmit else (if c then gone_on_from b.timer now w.rtte else tail_waits (waits_tail b w) left now w.rtte (is_alone w)))
+    waited_rests : At (waited_for b w now)
+    waited_rests = by (tells_controller b w) (is_called b w)
+      where
+        by : (r c : Bool) → At (if r then timer.FastRetransmit else (if c then gone_on_from b.timer now w.rtte else tail_waits (waits_tail b w) (left_running b w now) now w.rtte (is_alone w)))
         by true c = tt
         by false true = goes b.timer
-        by false false = probes (waits_tail b w) left (runs w.timer asks)
+        by false false = probes (waits_tail b w) (left_running b w now) (keeps (is_later_partial b w) b.timer _ (runs w.timer asks))
 
 -- ---- a segment
 

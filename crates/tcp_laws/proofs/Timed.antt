@@ -13,7 +13,7 @@ use Rattle.sock_tcp.specs.Opening.{connected, listened, renewed}
 use Rattle.sock_tcp.specs.Process.{close_restarted}
 use Rattle.sock_tcp.specs.Queues.{first_probe, queued, read_off}
 use Rattle.sock_tcp.specs.Replies.{ack_kept}
-use Rattle.sock_tcp.specs.Rfc.Recovery.{before_of, echo_known, is_news, is_opened, recovered}
+use Rattle.sock_tcp.specs.Rfc.Recovery.{before_of, echo_known, is_news, is_opened, marks, recovered}
 use Rattle.sock_tcp.specs.Rfc.TailLoss.{is_alone, tail_probed, tail_wait}
 use Rattle.sock_tcp.specs.Sent.{after_any, after_probe, snd_nxt_moved}
 use Rattle.sock_tcp.specs.Settings.{keep_alive_timer}
@@ -93,7 +93,7 @@ module _ (most : Duration) (minute : 60000000 ≤ most.micros) where
           let u : View = echo_known (before_of v s) w now in
           let short : u.rtte.rto ≤ 60000 = heard_short (is_news (before_of v s) w) (before_of v s).echo w.rtte now i.timeout in
           let known : is_timer_by now most u.timer ≡ true = known_as (λ t. is_timer_by now most t ≡ true) (before_of v s) w now (λ at e. rto_by most minute now u.rtte short) i.timer in
-          record { timer = timer_as (λ t. is_timer_by now most t ≡ true) (before_of v s) u now known refl (λ at e. sym (ap (is_timer_by now most) e) ∙ h.timer) (rto_by most minute now u.rtte short) (tail_by most minute now u.rtte (is_alone u) short) (λ at delay e. idle_by most minute now w.keep_alive i.keep_short); waits = i.waits; timeout = opened_short (is_opened (before_of v s) u) u.rtte short; keep_short = i.keep_short; delay_short = i.delay_short; idle = i.idle };
+          record { timer = timer_as (λ t. is_timer_by now most t ≡ true) (before_of v s) u now known refl (λ at e. sym (ap (is_timer_by now most) e) ∙ h.timer) (rto_by most minute now u.rtte short) (tail_by most minute now u.rtte (is_alone u) short) (λ at delay e. idle_by most minute now w.keep_alive i.keep_short); waits = i.waits; timeout = opened_short (is_opened (before_of v s) u) (marks (before_of v s) u) u.rtte short; keep_short = i.keep_short; delay_short = i.delay_short; idle = i.idle };
     }
 
   -- ---- a reset

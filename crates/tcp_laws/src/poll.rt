@@ -112,8 +112,9 @@ pub fn last_ack_hears_nothing()
 {}
 
 /// By the RFCs' rules a segment of one who does not know the numbers of a connection changes nothing, but that it may
-/// be answered: an RST whose number is not RCV.NXT, and any in TIME-WAIT; a SYN, once the own one is acknowledged; and
-/// where timestamps were agreed whatever else has none or an older one.
+/// be answered: an RST whose number is not RCV.NXT, and any in TIME-WAIT; a SYN, once the own one is acknowledged; what
+/// else acknowledges what was never sent, but in SYN-RECEIVED; and where timestamps were agreed what else has an older
+/// one.
 pub fn blind_segments_change_nothing()
     ensures { BlindSegmentsChangeNothing }
 {}

@@ -22,7 +22,7 @@ pub struct Moment {
 }
 
 impl Moment {
-    /// The same for an interface.
+    /// The time as an interface takes it.
     pub fn instant(&self) -> Instant {
         Instant::from_millis(i64::from(self.millis))
     }

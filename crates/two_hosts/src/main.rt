@@ -32,6 +32,8 @@ use std::env;
 use std::process::ExitCode;
 
 // The seed where no argument gives one.
+// Its run has a lost segment, three duplicate acknowledgements, a question that is sent again, and a FIN that is sent
+// again in TIME-WAIT.
 const SEED: u32 = 2565;
 
 // How many packets of a hundred get lost where no argument says so.

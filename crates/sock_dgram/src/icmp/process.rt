@@ -84,7 +84,7 @@ impl<'a> Socket<'a> {
         }
     }
 
-    /// The same of a message over IPv6; of a parameter problem it never holds, as in smoltcp.
+    /// Whether a message over IPv6 is for this socket; never a parameter problem, as in smoltcp.
     pub fn accepts_v6<C: Context>(
         &self,
         cx: &C,
@@ -132,7 +132,7 @@ impl<'a> Socket<'a> {
         store_v4(&mut self.rx_buffer, remote, icmp_repr);
     }
 
-    /// The same of a message over IPv6.
+    /// Queues a message over IPv6 that the socket accepts; it is dropped where the queue has no room.
     #[tactic(auto, using(crate::proofs::Storing::stored_queue))]
     pub fn process_v6<C: Context>(
         &mut self,

@@ -33,6 +33,7 @@ impl<'a> Socket<'a> {
 
     /// Puts a datagram that `accepts` holds of into the receive queue, with the endpoint it came from and the address
     /// it went to. Where the receive buffer has no room for it, it is dropped.
+    /// That `accepts` holds of it is not required.
     pub fn process<C: Context>(&mut self, _cx: &C, ip_repr: &IpRepr, repr: &UdpRepr, payload: &[u8])
         ensures view { self.new ≡ record self.old {
           rx_buffer = stored

@@ -34,7 +34,7 @@ impl UdpMetadata {
     }
 }
 
-/// As its endpoint, `10.0.0.1:80`.
+/// Prints the endpoint, `10.0.0.1:80`.
 impl fmt::Display for UdpMetadata {
     ghost output = { λ m. Some (endpoint_text m.endpoint) };
 

@@ -30,12 +30,12 @@ told_before k p =
 
 -- it is counted in a recovery, where the peer said that it tells
 abbrev pub counts : Rules → Recovery → Bool → Bool
-counts rules.Rfc (recovery.Fast point high_rxt resent_at) tells = tells
+counts rules.Rfc (recovery.Fast point high_rxt resent_at acked) tells = tells
 counts _ r tells = false
 
 -- how far holes were sent again, at most up to the highest byte that was told
 abbrev pub resent_to : Recovery → Scoreboard → TcpSeqNumber → ℕ
-resent_to (recovery.Fast point high_rxt resent_at) k una = min (again_from high_rxt una) (highest_told k)
+resent_to (recovery.Fast point high_rxt resent_at acked) k una = min (again_from high_rxt una) (highest_told k)
 resent_to r k una = 0
 
 -- how many bytes of the holes that is
@@ -53,10 +53,10 @@ pipe r k una sent = min sent (sent - highest_told k + holes_sent r k una)
 -- round trip, and something follows what was sent again (RFC 6937, section 3): less the holes and the new bytes that
 -- went out in this recovery
 unfoldable pub exchanged : Recovery → Scoreboard → TcpSeqNumber → ℕ → ℕ → ℕ
-exchanged (recovery.Fast point high_rxt resent_at) k una sent mss =
+exchanged (recovery.Fast point high_rxt resent_at acked) k una sent mss =
     if seq_eq resent_at point
     then told_before k (2 ^ 32) / (2 * max mss 1) * mss
-    - (holes_sent (recovery.Fast point high_rxt resent_at) k una + (sent - seq_sub point una))
+    - (holes_sent (recovery.Fast point high_rxt resent_at acked) k una + (sent - seq_sub point una))
     else 0
 exchanged r k una sent mss = 0
 

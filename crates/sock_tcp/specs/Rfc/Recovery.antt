@@ -14,7 +14,7 @@ use Rattle.control_wire.specs.declared.tcp.TcpControl.{TcpControl}
 use Rattle.control_wire.specs.declared.tcp.TcpControl.TheVariants as control
 use Rattle.sock_core.specs.Congestion.{bytes_acked, congestion_window, dup_acked, lost, opened, partially_acked}
 use Rattle.sock_core.specs.Congestion.{recovery_window, with_remote_window}
-use Rattle.sock_core.specs.Estimator.{Estimator, begun_anew, is_backed_off}
+use Rattle.sock_core.specs.Estimator.{Estimator, begun_anew, is_backed_off, retransmitted}
 use Rattle.sock_core.specs.Seq.{is_before, later_of}
 use Rattle.sock_core.specs.declared.congestion.AnyController.{AnyController}
 use Rattle.sock_tcp.specs.Content.{again_from, carries_data}
@@ -57,7 +57,7 @@ repeats_by (Some ack) v c n = is_bare_control c && is_duplicate v ack n false
 abbrev pub highest_of : Recovery → TcpSeqNumber → TcpSeqNumber
 highest_of recovery.Open nxt = nxt
 highest_of (recovery.Probe start end again) nxt = nxt
-highest_of (recovery.Fast point high_rxt resent_at) nxt = later_of nxt point
+highest_of (recovery.Fast point high_rxt resent_at acked) nxt = later_of nxt point
 highest_of (recovery.Timeout point) nxt = later_of nxt point
 
 -- how many bytes behind SND.UNA were sent, whether SND.NXT went back or not
@@ -131,9 +131,10 @@ before_of v s =
 
 -- ---- duplicates
 
--- a duplicate that tells a larger window, which smoltcp's rules do not count as one
-abbrev pub is_grown : Before → View → Bool
-is_grown b w = b.repeats && nat_lt b.window w.remote_win_len
+-- none, though smoltcp's rules count it or begin the count anew: of a peer that tells by SACK one that tells nothing
+-- new (RFC 6675, section 2), of another one a larger window (RFC 5681, section 2)
+abbrev pub is_void : Before → View → Bool
+is_void b w = b.repeats && (not b.telling && (w.remote_has_sack || nat_lt b.window w.remote_win_len))
 
 abbrev pub is_fast : Timer → Bool
 is_fast timer.FastRetransmit = true
@@ -146,8 +147,7 @@ is_news b w = not (seq_eq b.una w.local_seq_no)
 -- one that tells something new by SACK is a duplicate with any window and payload (RFC 6675, section 2), though
 -- smoltcp's rules count none
 abbrev pub is_uncounted : Before → View → Bool
-is_uncounted b w =
-    is_grown b w || (b.telling && (not (is_news b w) && not (b.repeats && (b.window == w.remote_win_len))))
+is_uncounted b w = b.telling && (not (is_news b w) && not (b.repeats && (b.window == w.remote_win_len)))
 
 -- smoltcp's rules call for a fast retransmission
 abbrev pub is_called : Before → View → Bool
@@ -157,9 +157,11 @@ is_called b w = is_fast w.timer && not (is_fast b.timer)
 abbrev pub segments_out : View → ℕ
 segments_out w = div_ceil (flight w) (max w.remote_mss 1)
 
--- it was counted as one by smoltcp's rules
+-- it was counted as one by smoltcp's rules, and is one
 abbrev pub is_counted : Before → View → Bool
-is_counted b w = b.repeats && ((b.window == w.remote_win_len) && nat_lt b.duplicates w.local_rx_dup_acks)
+is_counted b w =
+    b.repeats
+    && ((b.window == w.remote_win_len) && (nat_lt b.duplicates w.local_rx_dup_acks && not (is_void b w)))
 
 -- one duplicate less than the segments that are out, where these are fewer than four and all that is queued was sent
 -- (RFC 5827, section 3.1)
@@ -194,17 +196,20 @@ is_told_lost b w = only_tells b w && nat_lt (2 * w.remote_mss) (told_before (sac
 -- the third duplicate, or what suffices before it
 abbrev pub tells_loss : Before → View → Bool
 tells_loss b w =
-    is_called b w || ((is_uncounted b w && (b.duplicates == 2))
+    (is_called b w && not (is_void b w)) || ((is_uncounted b w && (b.duplicates == 2))
     || (is_early b w || (is_probe_told b w || is_told_lost b w)))
 
+-- what is none leaves the count
 abbrev pub duplicates_after : Before → View → ℕ
-duplicates_after b w = if is_uncounted b w then min (b.duplicates + 1) 255 else w.local_rx_dup_acks
+duplicates_after b w =
+    if is_void b w then b.duplicates
+    else (if is_uncounted b w then min (b.duplicates + 1) 255 else w.local_rx_dup_acks)
 
 -- ---- recovery (RFC 6582, section 3.2; RFC 6675, section 5)
 
 -- of new bytes, but not of all that was sent before a fast retransmission
 abbrev pub is_partial_in : Recovery → Bool → TcpSeqNumber → Bool
-is_partial_in (recovery.Fast point high_rxt resent_at) news una = news && is_before una point
+is_partial_in (recovery.Fast point high_rxt resent_at acked) news una = news && is_before una point
 is_partial_in _ news una = false
 
 abbrev pub is_partial : Before → View → Bool
@@ -225,12 +230,12 @@ begins b w = may_resend w && (tells_loss b w && is_over b.recovery)
 
 -- there is a hole that was not sent again in this recovery
 abbrev pub has_hole : Recovery → Scoreboard → TcpSeqNumber → Bool
-has_hole (recovery.Fast point high_rxt resent_at) k una = is_some (hole_behind k (again_from high_rxt una))
+has_hole (recovery.Fast point high_rxt resent_at acked) k una = is_some (hole_behind k (again_from high_rxt una))
 has_hole _ k una = false
 
 -- the segment at SND.UNA was sent again in this recovery
 abbrev pub is_sent_again : Recovery → TcpSeqNumber → Bool
-is_sent_again (recovery.Fast point high_rxt resent_at) una = is_before una high_rxt
+is_sent_again (recovery.Fast point high_rxt resent_at acked) una = is_before una high_rxt
 is_sent_again _ una = false
 
 -- a partial acknowledgement shows the next hole, which may be at SND.UNA; without a word of SACK it is there
@@ -240,7 +245,7 @@ shows_hole r k una = has_hole r k una || (is_blank k || not (is_sent_again r una
 -- the segment at SND.UNA was sent again, and lost again: something that was sent behind it was told (RFC 8985, section
 -- 6.2: in a recovery nothing is waited for beyond that)
 abbrev pub is_lost_in : Recovery → Scoreboard → TcpSeqNumber → Bool
-is_lost_in (recovery.Fast point high_rxt resent_at) k una =
+is_lost_in (recovery.Fast point high_rxt resent_at acked) k una =
     is_before una high_rxt && nat_lt (again_from resent_at una) (highest_told k)
 is_lost_in _ k una = false
 
@@ -256,10 +261,10 @@ unless_beyond r end una = if is_before end una then recovery.Open else r
 -- where SND.UNA has moved, what is told next is measured from now on; where a segment was lost again, holes go out
 -- again from SND.UNA on
 abbrev pub again_by : Bool → Bool → Recovery → TcpSeqNumber → TcpSeqNumber → Recovery
-again_by true lost (recovery.Fast point high_rxt resent_at) una nxt =
-    recovery.Fast point high_rxt (highest_of (recovery.Fast point high_rxt resent_at) nxt)
-again_by false true (recovery.Fast point high_rxt resent_at) una nxt =
-    recovery.Fast point una (highest_of (recovery.Fast point high_rxt resent_at) nxt)
+again_by true lost (recovery.Fast point high_rxt resent_at acked) una nxt =
+    recovery.Fast point high_rxt (highest_of (recovery.Fast point high_rxt resent_at acked) nxt) true
+again_by false true (recovery.Fast point high_rxt resent_at acked) una nxt =
+    recovery.Fast point una (highest_of (recovery.Fast point high_rxt resent_at acked) nxt) acked
 again_by true lost (recovery.Probe start end again) una nxt =
     unless_beyond (recovery.Probe start end again) end una
 again_by _ _ r una nxt = r
@@ -272,11 +277,15 @@ abbrev pub has_room_after : Before → View → Bool
 has_room_after b w =
     has_room (again b w) (sacked_after b w) w.local_seq_no (flight w) (recovery_window b.controller) w.remote_mss
 
+-- one is still to go out
+abbrev pub is_marked : Before → View → Bool
+is_marked b w = is_fast b.timer || w.pending_fast_retransmit
+
 -- what is told anew, and acknowledges nothing, lets out the next hole, where there is room, unless one is still to go
 -- out
 abbrev pub lets_out : Before → View → Bool
 lets_out b w =
-    only_tells b w && (not (is_fast b.timer)
+    only_tells b w && (not (is_marked b w)
     && (has_hole (again b w) (sacked_after b w) w.local_seq_no && has_room_after b w))
 
 -- a hole goes out again, or the segment at SND.UNA: a recovery begins, or goes on
@@ -286,6 +295,21 @@ resends b w =
     || (may_resend w
     && ((is_partial b w && shows_hole (again b w) (sacked_after b w) w.local_seq_no) || lets_out b w))
 
+-- the dispatch that sends it tells the controller of a loss: one begins, or that was not told yet
+abbrev pub tells_controller : Before → View → Bool
+tells_controller b w = begins b w || (is_fast b.timer && resends b w)
+
+-- holes go out again
+abbrev pub is_recovering : Recovery → Bool
+is_recovering (recovery.Fast point high_rxt resent_at acked) = true
+is_recovering _ = false
+
+-- what goes out again in a recovery that goes on, of which the controller was told, is marked at once
+abbrev pub marks : Before → View → Bool
+marks b w =
+    is_recovering b.recovery && (not (is_fast b.timer) && (may_resend w
+    && ((is_partial b w && shows_hole (again b w) (sacked_after b w) w.local_seq_no) || lets_out b w)))
+
 -- an acknowledgement of all that was sent before ends it
 abbrev pub reached_by : TcpSeqNumber → Recovery → TcpSeqNumber → Recovery
 reached_by una r point = if is_before una point then r else recovery.Open
@@ -293,14 +317,14 @@ reached_by una r point = if is_before una point then r else recovery.Open
 abbrev pub gone_on : Recovery → TcpSeqNumber → Recovery
 gone_on recovery.Open una = recovery.Open
 gone_on (recovery.Probe start end again) una = recovery.Probe start end again
-gone_on (recovery.Fast point high_rxt resent_at) una =
-    reached_by una (recovery.Fast point high_rxt resent_at) point
+gone_on (recovery.Fast point high_rxt resent_at acked) una =
+    reached_by una (recovery.Fast point high_rxt resent_at acked) point
 gone_on (recovery.Timeout point) una = reached_by una (recovery.Timeout point) point
 
 abbrev pub recovery_after : Before → View → Recovery
 recovery_after b w =
     if carries_data w.state
-    then (if begins b w then recovery.Fast w.remote_last_seq w.local_seq_no w.remote_last_seq
+    then (if begins b w then recovery.Fast w.remote_last_seq w.local_seq_no w.remote_last_seq false
     else gone_on (again b w) w.local_seq_no)
     else recovery.Open
 
@@ -350,11 +374,11 @@ told_of_bytes b w now =
     else w.congestion_controller)
 
 -- of a partial acknowledgement it hears that, and not that all was acknowledged; of a duplicate that lets out a hole
--- no more than the window, since the hole goes in place of new bytes
+-- no more than the window, since the hole goes in place of new bytes, and so of what is no duplicate
 abbrev pub controller_after : Before → View → Instant → AnyController
 controller_after b w now =
     if is_partial b w then partially_acked (before_it b w) now (seq_sub w.local_seq_no b.una)
-    else (if lets_out b w then before_it b w
+    else (if lets_out b w || is_void b w then before_it b w
     else (if is_uncounted b w then dup_acked w.congestion_controller now w.remote_mss (flight w)
     else told_of_bytes b w now))
 
@@ -385,18 +409,37 @@ running t sent queued keep e now = t
 abbrev pub waits_tail : Before → View → Bool
 waits_tail b w = is_news b w && may_probe (recovery_after b w) w
 
+-- of the partial acknowledgements the first alone begins the retransmission timer anew (RFC 6582, section 3.2, step 3)
+abbrev pub is_acked : Recovery → Bool
+is_acked (recovery.Fast point high_rxt resent_at acked) = acked
+is_acked _ = false
+
+abbrev pub is_later_partial : Before → View → Bool
+is_later_partial b w = is_partial b w && is_acked b.recovery
+
+abbrev pub kept_if : Bool → Timer → Timer → Timer
+kept_if true (timer.Retransmit at) (timer.Retransmit next) = timer.Retransmit at
+kept_if _ before t = t
+
+-- what runs while nothing is marked
+abbrev pub left_running : Before → View → Instant → Timer
+left_running b w now =
+    kept_if (is_later_partial b w) b.timer
+    (running w.timer (flight w) (length w.tx_buffer.bytes) w.keep_alive w.rtte now)
+
 abbrev pub waited_for : Before → View → Instant → Timer
 waited_for b w now =
-    if resends b w then timer.FastRetransmit
+    if tells_controller b w then timer.FastRetransmit
     else (if is_called b w then gone_on_from b.timer now w.rtte
-    else tail_waits (waits_tail b w)
-    (running w.timer (flight w) (length w.tx_buffer.bytes) w.keep_alive w.rtte now) now w.rtte (is_alone w))
+    else tail_waits (waits_tail b w) (left_running b w now) now w.rtte (is_alone w))
 
 abbrev pub timer_after : Before → View → Instant → Timer
 timer_after b w now = if has_timer w.state then waited_for b w now else w.timer
 
+-- what goes out again is not timed by its number
 abbrev pub estimator_after : Before → View → Estimator
-estimator_after b w = if is_opened b w then begun_anew w.rtte else w.rtte
+estimator_after b w =
+    if is_opened b w then begun_anew w.rtte else (if marks b w then retransmitted w.rtte else w.rtte)
 
 -- ---- the whole
 
@@ -410,6 +453,7 @@ recovered_from b w now =
       timer = timer_after b w now;
       rtte = estimator_after b w;
       local_rx_dup_acks = duplicates_after b w;
+      pending_fast_retransmit = w.pending_fast_retransmit || marks b w;
       congestion_controller = controller_after b w now;
       recovery = recovery_after b w;
       sacked = sacked_after b w;
