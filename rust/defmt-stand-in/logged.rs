@@ -1,8 +1,8 @@
 //! What the crate's values write where they are logged (live/rust).
-use smoltcp_proved::tcp::{ConnectError, Memory, Rules, Socket, State};
-use smoltcp_proved::time::{Duration, Instant};
-use smoltcp_proved::wire::{IpAddress, IpCidr, IpEndpoint};
-use smoltcp_proved::{PollAt, TooShort, icmp, udp};
+use smoltcp_proved::c_library::tcp::{ConnectError, Memory, Rules, Socket, State};
+use smoltcp_proved::c_library::time::{Duration, Instant};
+use smoltcp_proved::c_library::wire::{IpAddress, IpCidr, IpEndpoint};
+use smoltcp_proved::c_library::{PollAt, TooShort, icmp, udp};
 
 fn main() {
     let endpoint = IpEndpoint::from((IpAddress::v4(10, 0, 0, 2), 80));

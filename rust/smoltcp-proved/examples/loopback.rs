@@ -1,10 +1,10 @@
 //! Two sockets in one process: a connects to b and sends a line, b sends it back, and both close.
 //!
 //!     cargo run --example loopback
-use smoltcp_proved::tcp::{Memory, Socket, State};
-use smoltcp_proved::time::{Duration, Instant};
-use smoltcp_proved::wire::IpAddress;
-use smoltcp_proved::{Context, Words, tcp};
+use smoltcp_proved::c_library::tcp::{Memory, Socket, State};
+use smoltcp_proved::c_library::time::{Duration, Instant};
+use smoltcp_proved::c_library::wire::IpAddress;
+use smoltcp_proved::c_library::{Context, Words, tcp};
 
 const MTU: usize = 1500;
 

@@ -1,6 +1,6 @@
 //! A page by HTTP, in one process: packets pass between a client and a server in memory.
-use smoltcp_proved::time::Instant;
-use smoltcp_proved::{Context, Words, tcp, wire::IpAddress};
+use smoltcp_proved::c_library::time::Instant;
+use smoltcp_proved::c_library::{Context, Words, tcp, wire::IpAddress};
 use std::fmt::Write;
 
 /// Reads the request until its empty line, answers it, and closes: as it stands in a program for smoltcp.

@@ -3,9 +3,9 @@
 //!     tun_echo DEVICE SECONDS
 //!
 //! makes the device, which then has to be given the address 10.9.0.1/24 and set up, and ends after so many seconds.
-use smoltcp_proved::tcp::{Memory, RecvError, Socket, State};
-use smoltcp_proved::time::{Duration, Instant};
-use smoltcp_proved::{Context, NotAccepted, PollAt, Words, tcp, udp};
+use smoltcp_proved::c_library::tcp::{Memory, RecvError, Socket, State};
+use smoltcp_proved::c_library::time::{Duration, Instant};
+use smoltcp_proved::c_library::{Context, NotAccepted, PollAt, Words, tcp, udp};
 use std::collections::VecDeque;
 use std::fs::File;
 use std::io::{self, Read, Write};

@@ -5,10 +5,10 @@
 //!
 //! makes the device, which then has to be given the address 10.9.0.1/24 and set up, and ends with an error where an
 //! answer does not come within ten seconds.
-use smoltcp_proved::socket::{AnySocket, Socket};
-use smoltcp_proved::time::{Duration, Instant};
-use smoltcp_proved::wire::{Icmpv4Repr, IpAddress};
-use smoltcp_proved::{Context, NoWords, icmp, udp};
+use smoltcp_proved::c_library::socket::{AnySocket, Socket};
+use smoltcp_proved::c_library::time::{Duration, Instant};
+use smoltcp_proved::c_library::wire::{Icmpv4Repr, IpAddress};
+use smoltcp_proved::c_library::{Context, NoWords, icmp, udp};
 use std::io;
 
 #[path = "tun/device.rs"]

@@ -14,12 +14,13 @@
 //! nothing of them. It has no writable data of its own, starts no thread, and asks for nothing but `memcpy`, `memmove`
 //! and `memset` (`live/rust` and `live/header` look at its symbols), so that it gets at a socket only in a call that is
 //! given it; and there is no such call any more.
-use crate::ffi;
+use crate::c_library::ffi;
 use core::marker::PhantomData;
 use core::mem::MaybeUninit;
 use core::ptr::{NonNull, null};
 use core::slice;
 
+#[path = "calls/slots.rs"]
 mod slots;
 use slots::Own;
 pub use slots::Slots;
@@ -161,6 +162,7 @@ macro_rules! lends_places {
     };
 }
 
+#[path = "calls/datagrams.rs"]
 mod datagrams;
 pub use datagrams::*;
 
@@ -191,8 +193,14 @@ impl<'a> Tcp<'a> {
     /// Makes a closed socket. The buffers have at most 2^30 bytes.
     pub fn new(memory: Slots<'a, Memory>, rx: Slots<'a, u8>, tx: Slots<'a, u8>) -> Tcp<'a> {
         assert!(sizes().tcp <= size_of::<Memory>(), "a library with larger sockets");
-        assert!(rx.len() <= crate::LONGEST_BUFFER, "receiving buffer too large, cannot exceed 1 GiB");
-        assert!(tx.len() <= crate::LONGEST_BUFFER, "transmitting buffer too large, cannot exceed 1 GiB");
+        assert!(
+            rx.len() <= crate::c_library::LONGEST_BUFFER,
+            "receiving buffer too large, cannot exceed 1 GiB"
+        );
+        assert!(
+            tx.len() <= crate::c_library::LONGEST_BUFFER,
+            "transmitting buffer too large, cannot exceed 1 GiB"
+        );
         assert!(memory.len() == 1, "memory for one socket");
         let (at, _, own) = memory.taken();
         let (rx, tx) = (Buffer::new(rx), Buffer::new(tx));
@@ -304,7 +312,7 @@ impl<'a> Tcp<'a> {
         let answer = unsafe { ffi::smoltcp_tcp_peek_nonnull(&mut self.handle(), size, &mut place) };
         let len = usize::try_from(answer).map_err(|_| answer)?;
         let at = self.rx.reach.find(&place, len);
-        // SAFETY: C.md: "What `peek` and `reserve` lend may be used until the next call on the socket", and none is
+        // SAFETY: C.md: what `peek` and `reserve` hand out may be used until the next call on the socket, and none is
         // made while `self` is borrowed. The bytes lie in the receive buffer, as `find` tested, and were written: they
         // are bytes of a slice.
         Ok(unsafe { slice::from_raw_parts(at.as_ptr(), len) })
@@ -349,7 +357,7 @@ pub fn reset(packet: &[u8], reply: &mut [u8]) -> i64 {
 mod tests {
     extern crate std;
     use super::Reach;
-    use crate::ffi::Place;
+    use crate::c_library::ffi::Place;
     use core::ptr::NonNull;
 
     /// Whether `len` bytes that begin so far behind a buffer's beginning are found in it, which has ten.

@@ -1,7 +1,7 @@
 //! What a call is told of the interface.
-use crate::ffi;
-use crate::time::Instant;
-use crate::wire::{Ipv4Address, Ipv6Address};
+use crate::c_library::ffi;
+use crate::c_library::time::Instant;
+use crate::c_library::wire::{Ipv4Address, Ipv6Address};
 use core::fmt;
 
 /// A source of random words.
@@ -79,12 +79,12 @@ impl<W: Words> Context<W> {
 }
 
 impl<W> Context<W> {
-    /// The same context with this source of random words, as a closure: it is asked once for each connection.
+    /// Gives the context this source of random words, a closure that is called once for each connection.
     pub fn with_words<V: FnMut() -> u32>(self, words: V) -> Context<V> {
         self.with_source(words)
     }
 
-    /// The same with a source of another type.
+    /// Gives the context this source of random words, of any type that has [`Words`].
     pub fn with_source<V: Words>(self, words: V) -> Context<V> {
         Context { raw: self.raw, words, drawn: None }
     }

@@ -1,15 +1,15 @@
 //! ICMP sockets (RFC 792, RFC 4443). Each call of a [`Socket`] is one call of the library, which is proved. smoltcp's
 //! names and texts.
-use crate::calls::{self, Icmp, Slots};
-use crate::numbers::{
+use crate::c_library::calls::{self, Icmp, Slots};
+use crate::c_library::numbers::{
     address_of, address_told, count_in, done, flag_in, hop_limit_in, hop_limit_of, listen_of, not_in_contract,
 };
-use crate::room::Room;
-use crate::shown::shown;
-use crate::tcp::poll_in;
-use crate::wakers::{Wakers, registers};
-use crate::wire::{IpAddress, IpListenEndpoint};
-use crate::{Context, DispatchError, NotAccepted, PollAt, ffi};
+use crate::c_library::room::Room;
+use crate::c_library::shown::shown;
+use crate::c_library::tcp::poll_in;
+use crate::c_library::wakers::{Wakers, registers};
+use crate::c_library::wire::{IpAddress, IpListenEndpoint};
+use crate::c_library::{Context, DispatchError, NotAccepted, PollAt, ffi};
 #[cfg(feature = "alloc")]
 use alloc::vec::Vec;
 use core::fmt;
@@ -40,7 +40,7 @@ impl core::error::Error for BindError {}
 pub enum RecvError {
     /// Nothing waits.
     Exhausted,
-    /// The bytes given are too few, and what came is lost.
+    /// The bytes given are too few: `recv_slice` has lost what came, `peek_slice` has left it.
     Truncated,
 }
 
@@ -130,7 +130,7 @@ impl Default for Memory {
 shown!();
 
 /// A place of a queue: a message takes one.
-pub use crate::calls::IcmpPlace as PacketMetadata;
+pub use crate::c_library::calls::IcmpPlace as PacketMetadata;
 
 /// A queue of messages over borrowed places and bytes, or its own.
 pub struct PacketBuffer<'a>(calls::IcmpBuffer<'a>);
@@ -201,6 +201,10 @@ impl<'a> Socket<'a> {
     }
 
     /// Opens the socket for these messages. It stays open, as in smoltcp.
+    ///
+    /// # Errors
+    /// [`BindError::Unaddressable`] where no messages are named or the port is 0, else [`BindError::InvalidState`]
+    /// where the socket is open.
     pub fn bind<T: Into<Endpoint>>(&mut self, endpoint: T) -> Result<(), BindError> {
         match self.calls.bind(&endpoint_of(endpoint.into())) {
             ffi::OK => {
@@ -260,6 +264,10 @@ impl<'a> Socket<'a> {
 
     /// Puts an ICMP message into the transmit queue; `dispatch` computes its checksum. Where the bytes are no echo and
     /// no error of the address's version, `dispatch` drops them, as in smoltcp. The socket need not be open.
+    ///
+    /// # Errors
+    /// [`SendError::Unaddressable`] where the address is unspecified; [`SendError::BufferFull`] where the queue has no
+    /// room for the message, or it has more than 65495 bytes. Nothing changes then.
     pub fn send_slice(&mut self, data: &[u8], endpoint: IpAddress) -> Result<(), SendError> {
         sent(self.calls.send(&address_of(Some(endpoint)), data))
     }
@@ -267,12 +275,9 @@ impl<'a> Socket<'a> {
     /// Puts a message into the transmit queue that `f` writes: into so many bytes of the socket's room
     /// ([`lend_room`](Socket::lend_room)), the first of which are the message, as many as it answers. Answers how many.
     ///
-    /// `BufferFull` also where the room is shorter. Where the queue has bytes free, but fewer than the message has,
-    /// that is said behind `f`.
-    ///
     /// ```
-    /// use smoltcp_proved::icmp::{Memory, PacketBuffer, PacketMetadata, SendError, Socket};
-    /// use smoltcp_proved::wire::{Icmpv4Repr, IpAddress};
+    /// use smoltcp_proved::c_library::icmp::{Memory, PacketBuffer, PacketMetadata, SendError, Socket};
+    /// use smoltcp_proved::c_library::wire::{Icmpv4Repr, IpAddress};
     ///
     /// fn ping(socket: &mut Socket, to: IpAddress, seq_no: u16) -> Result<usize, SendError> {
     ///     let request = Icmpv4Repr::EchoRequest { ident: 7, seq_no, data: b"ping" };
@@ -289,6 +294,11 @@ impl<'a> Socket<'a> {
     /// socket.lend_room(&mut room);
     /// assert_eq!(ping(&mut socket, IpAddress::v4(10, 0, 0, 2), 1), Ok(12));
     /// ```
+    ///
+    /// # Errors
+    /// Those of [`send_slice`](Socket::send_slice), and [`SendError::BufferFull`] where the room is shorter than
+    /// `max_size`. `f` was called where the queue has bytes free, but fewer than the message has, and where the message
+    /// is too long.
     ///
     /// # Panics
     /// Where `f` answers more bytes than it was lent, as in smoltcp; without the feature `alloc`, where no room was
@@ -311,8 +321,8 @@ impl<'a> Socket<'a> {
     /// the message. Before, older bytes stand there.
     ///
     /// ```
-    /// use smoltcp_proved::icmp::{SendError, Socket};
-    /// use smoltcp_proved::wire::{Icmpv4Repr, IpAddress};
+    /// use smoltcp_proved::c_library::icmp::{SendError, Socket};
+    /// use smoltcp_proved::c_library::wire::{Icmpv4Repr, IpAddress};
     ///
     /// fn ping(socket: &mut Socket, to: IpAddress, seq_no: u16) -> Result<(), SendError> {
     ///     let request = Icmpv4Repr::EchoRequest { ident: 7, seq_no, data: b"ping" };
@@ -321,6 +331,10 @@ impl<'a> Socket<'a> {
     /// }
     /// # let _ = ping;
     /// ```
+    ///
+    /// # Errors
+    /// [`SendError::Unaddressable`] where the address is unspecified; [`SendError::BufferFull`] where the queue has no
+    /// room for the message, or it has more than 65495 bytes. Nothing changes then.
     pub fn send(&mut self, size: usize, endpoint: IpAddress) -> Result<&mut [u8], SendError> {
         self.calls.send_place(&address_of(Some(endpoint)), size).map_err(refused)
     }
@@ -328,8 +342,8 @@ impl<'a> Socket<'a> {
     /// Takes the first message, and lends it where it lies; and where it came from.
     ///
     /// ```
-    /// use smoltcp_proved::icmp::Socket;
-    /// use smoltcp_proved::wire::{Icmpv4Repr, IpAddress};
+    /// use smoltcp_proved::c_library::icmp::Socket;
+    /// use smoltcp_proved::c_library::wire::{Icmpv4Repr, IpAddress};
     ///
     /// /// Who has answered which request.
     /// fn answered(socket: &mut Socket) -> Option<(IpAddress, u16)> {
@@ -341,14 +355,20 @@ impl<'a> Socket<'a> {
     /// }
     /// # let _ = answered;
     /// ```
+    ///
+    /// # Errors
+    /// [`RecvError::Exhausted`] where no message waits.
     pub fn recv(&mut self) -> Result<(&[u8], IpAddress), RecvError> {
         let mut from = ffi::Address::default();
         let bytes = self.calls.recv_place(&mut from).map_err(nothing)?;
         Ok((bytes, address_told(&from)))
     }
 
-    /// Takes the first message: how many bytes it has, at the beginning of `data`, and where it came from. Where they
-    /// find no room, it is lost, as in smoltcp.
+    /// Takes the first message: copies it to the beginning of `data`, and returns its length and where it came from.
+    ///
+    /// # Errors
+    /// [`RecvError::Exhausted`] where no message waits; [`RecvError::Truncated`] where `data` is too short: the message
+    /// is lost.
     pub fn recv_slice(&mut self, data: &mut [u8]) -> Result<(usize, IpAddress), RecvError> {
         let mut from = ffi::Address::default();
         let answer = self.calls.recv(&mut from, data);
@@ -362,6 +382,9 @@ impl<'a> Socket<'a> {
 
     /// Takes an IP packet, where it carries a message for the socket: that is dropped where it finds no room, as in
     /// smoltcp.
+    ///
+    /// # Errors
+    /// [`NotAccepted`] where the packet carries no whole ICMP message, or none for this socket. Nothing changes then.
     pub fn process<W>(&mut self, cx: &Context<W>, packet: &[u8]) -> Result<(), NotAccepted> {
         match self.calls.process(&cx.raw, packet) {
             ffi::OK => {
@@ -373,8 +396,13 @@ impl<'a> Socket<'a> {
         }
     }
 
-    /// Writes the packet of the first message that was sent to the beginning of `out`, and answers its length, if
-    /// there is one. Where it finds no room, it stays the first; where it has no source, it is dropped.
+    /// Writes the packet of the first message that was sent to the beginning of `out`, and returns its length, if there
+    /// is one.
+    ///
+    /// # Errors
+    /// [`DispatchError::TooShort`] where `out` is too short for the packet: the message stays the first.
+    /// [`DispatchError::Unaddressable`] where the context has no address to send the message from: it has left the
+    /// queue.
     pub fn dispatch<W>(&mut self, cx: &Context<W>, out: &mut [u8]) -> Result<Option<usize>, DispatchError> {
         let waits = self.wakers.sends() && self.poll_at(cx) == PollAt::Now;
         let answer = self.calls.dispatch(&cx.raw, out);

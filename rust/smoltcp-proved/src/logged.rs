@@ -1,9 +1,11 @@
 //! `defmt::Format` of the values that a program logs: what their `Display` writes, or their `Debug`, where they have no
 //! other.
-use crate::tcp::{self, CongestionControl, Ended, Negotiated, Rules, RulesError, State};
-use crate::time::{Duration, Instant};
-use crate::wire::{self, IpAddress, IpCidr, IpEndpoint, IpListenEndpoint, IpVersion, Ipv4Cidr, Ipv6Cidr};
-use crate::{DispatchError, NotAccepted, PollAt, TooShort, icmp, raw, udp};
+use crate::c_library::tcp::{self, CongestionControl, Ended, Negotiated, Rules, RulesError, State};
+use crate::c_library::time::{Duration, Instant};
+use crate::c_library::wire::{
+    self, IpAddress, IpCidr, IpEndpoint, IpListenEndpoint, IpVersion, Ipv4Cidr, Ipv6Cidr,
+};
+use crate::c_library::{DispatchError, NotAccepted, PollAt, TooShort, icmp, raw, udp};
 use defmt::{Debug2Format, Display2Format, Format, Formatter, write};
 
 macro_rules! format {

@@ -1,6 +1,6 @@
 //! What the library's structs and numbers stand for.
-use crate::ffi;
-use crate::wire::{IpAddress, IpEndpoint, IpListenEndpoint, Ipv4Address, Ipv6Address};
+use crate::c_library::ffi;
+use crate::c_library::wire::{IpAddress, IpEndpoint, IpListenEndpoint, Ipv4Address, Ipv6Address};
 
 pub(crate) fn address_of(addr: Option<IpAddress>) -> ffi::Address {
     let mut out = ffi::Address::default();
@@ -32,7 +32,7 @@ pub(crate) fn address_told(addr: &ffi::Address) -> IpAddress {
     address_in(addr).unwrap_or_else(|| unreachable!("the library wrote no address"))
 }
 
-/// The same of an endpoint.
+/// An endpoint that the library wrote, where its contract says that there is one.
 pub(crate) fn endpoint_told(at: &ffi::Endpoint) -> IpEndpoint {
     IpEndpoint { addr: address_told(&at.addr), port: at.port }
 }

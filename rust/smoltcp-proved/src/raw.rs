@@ -1,20 +1,20 @@
 //! Raw sockets: whole IP packets, headers included, go in and out. Each call of a [`Socket`] is one call of the
 //! library, which is proved. smoltcp's names.
-use crate::calls::{self, Raw, Slots};
-use crate::icmp::nothing;
-use crate::numbers::{count_in, flag_in, not_in_contract};
-use crate::room::Room;
-use crate::shown::shown;
-use crate::tcp::poll_in;
-use crate::wakers::{Wakers, registers};
-use crate::wire::{IpProtocol, IpVersion};
-use crate::{Context, NotAccepted, PollAt, TooShort, ffi};
+use crate::c_library::calls::{self, Raw, Slots};
+use crate::c_library::icmp::nothing;
+use crate::c_library::numbers::{count_in, flag_in, not_in_contract};
+use crate::c_library::room::Room;
+use crate::c_library::shown::shown;
+use crate::c_library::tcp::poll_in;
+use crate::c_library::wakers::{Wakers, registers};
+use crate::c_library::wire::{IpProtocol, IpVersion};
+use crate::c_library::{Context, NotAccepted, PollAt, TooShort, ffi};
 #[cfg(feature = "alloc")]
 use alloc::vec::Vec;
 use core::fmt;
 use core::task::Waker;
 
-pub use crate::icmp::RecvError;
+pub use crate::c_library::icmp::RecvError;
 
 /// An error of [`Socket::send_slice`].
 #[derive(Debug, PartialEq, Eq, Clone, Copy)]
@@ -50,7 +50,7 @@ impl Default for Memory {
 shown!();
 
 /// A place of a queue: a packet takes one.
-pub use crate::calls::RawPlace as PacketMetadata;
+pub use crate::c_library::calls::RawPlace as PacketMetadata;
 
 /// A queue of packets over borrowed places and bytes, or its own.
 pub struct PacketBuffer<'a>(calls::RawBuffer<'a>);
@@ -180,6 +180,10 @@ impl<'a> Socket<'a> {
     }
 
     /// Puts a packet, its IP header first, into the transmit queue.
+    ///
+    /// # Errors
+    /// [`SendError::BufferFull`] where the queue has no room for the packet, or it has more than 65535 bytes. Nothing
+    /// changes then.
     pub fn send_slice(&mut self, data: &[u8]) -> Result<(), SendError> {
         sent(self.calls.send(data))
     }
@@ -188,8 +192,10 @@ impl<'a> Socket<'a> {
     /// room ([`lend_room`](Socket::lend_room)), the first of which are the packet, as many as it answers. Answers how
     /// many.
     ///
-    /// `BufferFull` also where the room is shorter. Where the queue has bytes free, but fewer than the packet has, that
-    /// is said behind `f`.
+    /// # Errors
+    /// [`SendError::BufferFull`] where the queue has no room for the packet, where it has more than 65535 bytes, or
+    /// where the room is shorter than `max_size`. `f` was called where the queue has bytes free, but fewer than the
+    /// packet has, and where the packet is too long.
     ///
     /// # Panics
     /// Where `f` answers more bytes than it was lent, as in smoltcp; without the feature `alloc`, where no room was
@@ -207,27 +213,44 @@ impl<'a> Socket<'a> {
 
     /// Puts a packet of `size` bytes, its IP header included, into the transmit queue, and lends them where they lie:
     /// what is written there is the packet. Before, older bytes stand there.
+    ///
+    /// # Errors
+    /// [`SendError::BufferFull`] where the queue has no room for the packet, or it has more than 65535 bytes. Nothing
+    /// changes then.
     pub fn send(&mut self, size: usize) -> Result<&mut [u8], SendError> {
         self.calls.send_place(size).map_err(refused)
     }
 
     /// Takes the first packet, and lends it where it lies.
+    ///
+    /// # Errors
+    /// [`RecvError::Exhausted`] where no packet waits.
     pub fn recv(&mut self) -> Result<&[u8], RecvError> {
         self.calls.recv_place().map_err(nothing)
     }
 
-    /// The same, and the packet stays.
+    /// Lends the first packet where it lies; the packet stays in the queue.
+    ///
+    /// # Errors
+    /// [`RecvError::Exhausted`] where no packet waits.
     pub fn peek(&mut self) -> Result<&[u8], RecvError> {
         self.calls.peek_place().map_err(nothing)
     }
 
-    /// Takes the first packet: how many bytes it has, at the beginning of `data`. Where they find no room, it is lost,
-    /// as in smoltcp.
+    /// Takes the first packet: copies it to the beginning of `data`, and returns its length.
+    ///
+    /// # Errors
+    /// [`RecvError::Exhausted`] where no packet waits; [`RecvError::Truncated`] where `data` is too short: the packet
+    /// is lost.
     pub fn recv_slice(&mut self, data: &mut [u8]) -> Result<usize, RecvError> {
         copied(self.calls.recv(data))
     }
 
-    /// The same, and the packet stays.
+    /// Copies the first packet to the beginning of `data`, and returns its length; the packet stays in the queue.
+    ///
+    /// # Errors
+    /// [`RecvError::Exhausted`] where no packet waits; [`RecvError::Truncated`] where `data` is too short: the packet
+    /// stays.
     pub fn peek_slice(&mut self, data: &mut [u8]) -> Result<usize, RecvError> {
         copied(self.calls.peek(data))
     }
@@ -238,6 +261,9 @@ impl<'a> Socket<'a> {
     }
 
     /// Takes an IP packet that is whole and for the socket: it is dropped where it finds no room, as in smoltcp.
+    ///
+    /// # Errors
+    /// [`NotAccepted`] where the packet is not whole, or not for this socket. Nothing changes then.
     pub fn process<W>(&mut self, cx: &Context<W>, packet: &[u8]) -> Result<(), NotAccepted> {
         match self.calls.process(&cx.raw, packet) {
             ffi::OK => {
@@ -249,8 +275,10 @@ impl<'a> Socket<'a> {
         }
     }
 
-    /// Writes the first packet that was sent to the beginning of `out`, and answers its length, if there is one. Where
-    /// it finds no room, it stays the first.
+    /// Writes the first packet that was sent to the beginning of `out`, and returns its length, if there is one.
+    ///
+    /// # Errors
+    /// [`TooShort`] where `out` is too short for the packet: it stays the first.
     pub fn dispatch<W>(&mut self, cx: &Context<W>, out: &mut [u8]) -> Result<Option<usize>, TooShort> {
         let waits = self.wakers.sends() && self.poll_at(cx) == PollAt::Now;
         let answer = self.calls.dispatch(&cx.raw, out);

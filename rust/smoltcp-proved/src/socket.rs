@@ -1,7 +1,7 @@
 //! The sockets under smoltcp's names for them, and a socket of any kind.
 //!
 //! ```
-//! use smoltcp_proved::socket::{AnySocket, Socket, tcp};
+//! use smoltcp_proved::c_library::socket::{AnySocket, Socket, tcp};
 //!
 //! let (mut memory, mut rx, mut tx) = (tcp::Memory::new(), [0; 64], [0; 64]);
 //! let mut sockets = [tcp::Socket::new(&mut memory, &mut rx, &mut tx).upcast()];
@@ -12,8 +12,8 @@
 //! }
 //! assert!(matches!(&sockets[0], Socket::Tcp(socket) if socket.is_listening()));
 //! ```
-use crate::{Context, DispatchError, NotAccepted, PollAt, TooShort, Words};
-pub use crate::{icmp, raw, tcp, udp};
+use crate::c_library::{Context, DispatchError, NotAccepted, PollAt, TooShort, Words};
+pub use crate::c_library::{icmp, raw, tcp, udp};
 
 /// A socket of any kind.
 #[derive(Debug)]
@@ -33,6 +33,10 @@ impl Socket<'_> {
     /// Takes an IP packet, where it is for the socket, and answers the length of the one that answers it, at the
     /// beginning of `reply`: only a TCP socket has one.
     ///
+    /// # Errors
+    /// [`NotAccepted`] where the packet is not for the socket, or not whole; also where a TCP socket listens and the
+    /// context has no source of random numbers. Nothing changes then.
+    ///
     /// # Panics
     /// Where the socket is of TCP and `reply` has less than [`REPLY_LEN`](tcp::REPLY_LEN) bytes; nothing has changed
     /// then.
@@ -50,7 +54,11 @@ impl Socket<'_> {
         }
     }
 
-    /// Writes the packet that is due to the beginning of `out`, and answers its length, if one is.
+    /// Writes the packet that is due to the beginning of `out`, and returns its length, if one is.
+    ///
+    /// # Errors
+    /// [`DispatchError::TooShort`] where `out` is too short for the packet: the next call writes it again.
+    /// [`DispatchError::Unaddressable`] where a UDP datagram or an ICMP message has no source: it has left the queue.
     pub fn dispatch<W>(&mut self, cx: &Context<W>, out: &mut [u8]) -> Result<Option<usize>, DispatchError> {
         match self {
             Socket::Raw(socket) => socket.dispatch(cx, out).map_err(|TooShort| DispatchError::TooShort),
@@ -79,7 +87,7 @@ pub trait AnySocket<'a>: Sized {
     /// The socket, where it is of this kind.
     fn downcast<'c>(socket: &'c Socket<'a>) -> Option<&'c Self>;
 
-    /// The same, to be changed.
+    /// The socket, borrowed to be changed, where it is of this kind.
     fn downcast_mut<'c>(socket: &'c mut Socket<'a>) -> Option<&'c mut Self>;
 }
 

@@ -1,20 +1,25 @@
 //! TCP sockets. Each call of a [`Socket`] is one call of the library, which is proved: what it does, when it refuses,
 //! and what it leaves. smoltcp's names and texts; where a signature differs, its documentation says so.
-use crate::calls::{self, Slots, Tcp};
-use crate::numbers::{
+use crate::c_library::calls::{self, Slots, Tcp};
+use crate::c_library::numbers::{
     count_in, done, endpoint_of, endpoint_told, flag_in, listen_in, listen_of, not_in_contract,
 };
-use crate::time::Instant;
-use crate::wakers::Wakers;
-use crate::wire::{IpEndpoint, IpListenEndpoint};
-use crate::{Context, NotAccepted, PollAt, TooShort, Words, ffi};
+use crate::c_library::time::Instant;
+use crate::c_library::wakers::Wakers;
+use crate::c_library::wire::{IpEndpoint, IpListenEndpoint};
+use crate::c_library::{Context, NotAccepted, PollAt, TooShort, Words, ffi};
 use core::fmt;
 
+#[path = "tcp/ends.rs"]
 mod ends;
+#[path = "tcp/kinds.rs"]
 mod kinds;
 #[cfg(feature = "alloc")]
+#[path = "tcp/owned.rs"]
 mod owned;
+#[path = "tcp/settings.rs"]
 mod settings;
+#[path = "tcp/wakes.rs"]
 mod wakes;
 pub use ends::{Ended, Negotiated};
 use kinds::STATES;
@@ -29,7 +34,7 @@ pub const REPLY_LEN: usize = 100;
 /// where its socket ends.
 ///
 /// ```
-/// use smoltcp_proved::tcp::{Memory, Socket, State};
+/// use smoltcp_proved::c_library::tcp::{Memory, Socket, State};
 /// use std::sync::Mutex;
 ///
 /// static MEMORY: Mutex<Memory> = Mutex::new(Memory::new());
@@ -78,6 +83,10 @@ impl<'a> Socket<'a> {
     }
 
     /// Waits for a peer on this endpoint: a port, or a port at one of the interface's addresses.
+    ///
+    /// # Errors
+    /// [`ListenError::Unaddressable`] where the port is 0, else [`ListenError::InvalidState`] where the socket is open
+    /// and does not listen on this endpoint. Nothing changes then.
     pub fn listen<T: Into<IpListenEndpoint>>(&mut self, local_endpoint: T) -> Result<(), ListenError> {
         let at = listen_of(local_endpoint.into());
         match self.watched(|calls| calls.listen(&at)) {
@@ -90,6 +99,11 @@ impl<'a> Socket<'a> {
 
     /// Opens a connection, from the interface's address where the local one is left out. A word of the context's source
     /// is the initial sequence number; without a source no connection is opened.
+    ///
+    /// # Errors
+    /// [`ConnectError::NoWords`] where the context has no source of random numbers, [`ConnectError::InvalidState`]
+    /// where the socket is open, and [`ConnectError::Unaddressable`] where a port is 0, an address is unspecified, the
+    /// two are of different versions, or the context has none of the version. Nothing changes then.
     pub fn connect<W, T, U>(&mut self, cx: &mut Context<W>, remote: T, local: U) -> Result<(), ConnectError>
     where
         W: Words,
@@ -122,12 +136,18 @@ impl<'a> Socket<'a> {
     }
 
     /// Takes as many bytes as fit, and answers how many.
+    ///
+    /// # Errors
+    /// [`SendError::InvalidState`] where [`may_send`](Socket::may_send) is false.
     pub fn send_slice(&mut self, data: &[u8]) -> Result<usize, SendError> {
         sent(self.calls.send(data))
     }
 
     /// Calls `f` with the free places behind the transmit queue that lie in one piece, and sends as many of them as it
     /// answers. (In smoltcp the closure's result may borrow the places.)
+    ///
+    /// # Errors
+    /// [`SendError::InvalidState`] where [`may_send`](Socket::may_send) is false; `f` is not called then.
     ///
     /// # Panics
     /// Where it answers more than there are, as in smoltcp; nothing is sent then.
@@ -142,14 +162,22 @@ impl<'a> Socket<'a> {
         sent(self.calls.commit(count)).map(|_| result)
     }
 
-    /// Gives as many bytes as are there and fit, and answers how many. When TIME-WAIT ends, bytes that were not read
-    /// are gone: read them before.
+    /// Copies as many bytes as are there and fit, and returns how many. When TIME-WAIT ends, bytes that were not read
+    /// are gone, unless the socket has [`Rules::Rfc`]: read them before.
+    ///
+    /// # Errors
+    /// Where [`may_recv`](Socket::may_recv) is false: [`RecvError::Finished`] if the peer has closed and all that it
+    /// sent was read, else [`RecvError::InvalidState`].
     pub fn recv_slice(&mut self, data: &mut [u8]) -> Result<usize, RecvError> {
         received(self.calls.recv(data))
     }
 
     /// Calls `f` with the front of the receive queue that lies in one piece, and drops as many bytes as it answers. (In
     /// smoltcp the closure may write them, and its result may borrow them.)
+    ///
+    /// # Errors
+    /// Where [`may_recv`](Socket::may_recv) is false: [`RecvError::Finished`] if the peer has closed and all that it
+    /// sent was read, else [`RecvError::InvalidState`]. `f` is not called then.
     ///
     /// # Panics
     /// Where it answers more than there are, as in smoltcp; nothing is dropped then.
@@ -165,12 +193,19 @@ impl<'a> Socket<'a> {
     }
 
     /// The front of the receive queue that lies in one piece, at most so many bytes. They stay.
+    ///
+    /// # Errors
+    /// Where [`may_recv`](Socket::may_recv) is false: [`RecvError::Finished`] if the peer has closed and all that it
+    /// sent was read, else [`RecvError::InvalidState`].
     pub fn peek(&mut self, size: usize) -> Result<&[u8], RecvError> {
         self.calls.peek(size).map_err(refused)
     }
 
-    /// Copies as many bytes as are there and fit, which stay, and answers how many. Refused as `recv_slice`, where
-    /// smoltcp answers 0.
+    /// Copies as many bytes as are there and fit, and returns how many. They stay in the queue.
+    ///
+    /// # Errors
+    /// Where [`may_recv`](Socket::may_recv) is false: [`RecvError::Finished`] if the peer has closed and all that it
+    /// sent was read, else [`RecvError::InvalidState`]. smoltcp returns 0 there.
     pub fn peek_slice(&mut self, data: &mut [u8]) -> Result<usize, RecvError> {
         received(self.calls.peek_slice(data))
     }
@@ -261,6 +296,10 @@ impl<'a> Socket<'a> {
     /// A SYN that a listening socket takes begins with a word of the context's source; without a source it is not
     /// taken.
     ///
+    /// # Errors
+    /// [`NotAccepted`] where the packet is not for the socket, or carries no whole TCP segment; also where the socket
+    /// listens and the context has no source of random numbers. Nothing changes then.
+    ///
     /// # Panics
     /// Where `reply` has less than [`REPLY_LEN`] bytes; nothing has changed then.
     pub fn process<W: Words>(
@@ -281,12 +320,15 @@ impl<'a> Socket<'a> {
         replied(answer)
     }
 
-    /// Writes the packet that is due to the beginning of `out`, and answers its length, if one is. Where it finds no
-    /// room, what the timers ask for is done, and the next call gives it again.
+    /// Writes the packet that is due to the beginning of `out`, and returns its length, if one is.
     ///
     /// Call it a limited number of times a round, 64 say: a peer can make a socket in FIN-WAIT-2 emit at every
     /// dispatch. Wait at least a millisecond between rounds that only such sockets asked for, and abort one that stays
     /// in FIN-WAIT-2 for long (`examples/tun_echo.rs`: a minute).
+    ///
+    /// # Errors
+    /// [`TooShort`] where `out` is too short for the packet. What the timers ask for is done, and the next call writes
+    /// the packet again.
     pub fn dispatch<W>(&mut self, cx: &Context<W>, out: &mut [u8]) -> Result<Option<usize>, TooShort> {
         match self.watched(|calls| calls.dispatch(&cx.raw, out)) {
             ffi::OK => Ok(None),
@@ -313,8 +355,11 @@ impl fmt::Debug for Socket<'_> {
     }
 }
 
-/// Answers a segment that no socket takes by an RST (RFC 9293, section 3.10.7.1): its length, at the beginning of
-/// `reply`; none for an RST. `NotAccepted` where the packet is no whole TCP segment.
+/// Writes the RST that answers a segment which no socket takes (RFC 9293, section 3.10.7.1) to the beginning of
+/// `reply`, and returns its length; none for an RST.
+///
+/// # Errors
+/// [`NotAccepted`] where the packet carries no whole TCP segment.
 ///
 /// # Panics
 /// Where `reply` has less than [`REPLY_LEN`] bytes.

@@ -26,12 +26,12 @@ impl Instant {
         Instant { micros: secs.into().saturating_mul(1_000_000) }
     }
 
-    /// As `from_micros`, in a constant.
+    /// The moment so many microseconds behind the beginning, in a constant.
     pub const fn from_micros_const(micros: i64) -> Instant {
         Instant { micros }
     }
 
-    /// As `from_millis`, in a constant.
+    /// The moment so many milliseconds behind the beginning, in a constant.
     pub const fn from_millis_const(millis: i64) -> Instant {
         Instant { micros: millis.saturating_mul(1000) }
     }
@@ -266,7 +266,7 @@ impl ops::DivAssign<u32> for Duration {
     }
 }
 
-/// As many times doubled, as smoltcp.
+/// The duration doubled so many times, as smoltcp's.
 ///
 /// # Panics
 /// In a build with overflow checks, where the shift is 64 or more.
@@ -284,7 +284,7 @@ impl ops::ShlAssign<u32> for Duration {
     }
 }
 
-/// As many times halved, as smoltcp.
+/// The duration halved so many times, as smoltcp's.
 ///
 /// # Panics
 /// In a build with overflow checks, where the shift is 64 or more.

@@ -1,22 +1,22 @@
 //! UDP sockets. Each call of a [`Socket`] is one call of the library, which is proved. smoltcp's names and texts.
-use crate::calls::{self, Slots, Udp};
-use crate::icmp::nothing;
-use crate::numbers::{
+use crate::c_library::calls::{self, Slots, Udp};
+use crate::c_library::icmp::nothing;
+use crate::c_library::numbers::{
     address_in, address_of, count_in, done, endpoint_of, endpoint_told, flag_in, hop_limit_in, hop_limit_of,
     listen_in, listen_of, not_in_contract,
 };
-use crate::room::Room;
-use crate::shown::shown;
-use crate::tcp::poll_in;
-use crate::wakers::{Wakers, registers};
-use crate::wire::{IpAddress, IpEndpoint, IpListenEndpoint};
-use crate::{Context, DispatchError, NotAccepted, PollAt, ffi};
+use crate::c_library::room::Room;
+use crate::c_library::shown::shown;
+use crate::c_library::tcp::poll_in;
+use crate::c_library::wakers::{Wakers, registers};
+use crate::c_library::wire::{IpAddress, IpEndpoint, IpListenEndpoint};
+use crate::c_library::{Context, DispatchError, NotAccepted, PollAt, ffi};
 #[cfg(feature = "alloc")]
 use alloc::vec::Vec;
 use core::fmt;
 use core::task::Waker;
 
-pub use crate::icmp::{BindError, RecvError};
+pub use crate::c_library::icmp::{BindError, RecvError};
 
 /// Where a datagram came from or goes to. (smoltcp has `meta` too.)
 #[derive(Debug, PartialEq, Eq, Clone, Copy)]
@@ -79,7 +79,7 @@ impl Default for Memory {
 shown!();
 
 /// A place of a queue: a datagram takes one.
-pub use crate::calls::UdpPlace as PacketMetadata;
+pub use crate::c_library::calls::UdpPlace as PacketMetadata;
 
 /// A queue of datagrams over borrowed places and bytes, or its own.
 pub struct PacketBuffer<'a>(calls::UdpBuffer<'a>);
@@ -155,6 +155,9 @@ impl<'a> Socket<'a> {
     }
 
     /// Opens the socket for datagrams to this port, and to this address where one is given.
+    ///
+    /// # Errors
+    /// [`BindError::Unaddressable`] where the port is 0, else [`BindError::InvalidState`] where the socket is open.
     pub fn bind<T: Into<IpListenEndpoint>>(&mut self, endpoint: T) -> Result<(), BindError> {
         match self.calls.bind(&listen_of(endpoint.into())) {
             ffi::OK => {
@@ -219,6 +222,11 @@ impl<'a> Socket<'a> {
     }
 
     /// Puts a datagram into the transmit queue. Whether its packet fits the MTU is the caller's to see.
+    ///
+    /// # Errors
+    /// [`SendError::Unaddressable`] where the socket is not open, the destination has no address or port, or the source
+    /// is of another version of IP; [`SendError::BufferFull`] where the queue has no room for the datagram, or its
+    /// packet would have more than 65535 bytes. Nothing changes then.
     pub fn send_slice(&mut self, data: &[u8], meta: impl Into<UdpMetadata>) -> Result<(), SendError> {
         sent(self.calls.send(&meta_of(meta.into()), data))
     }
@@ -227,8 +235,10 @@ impl<'a> Socket<'a> {
     /// ([`lend_room`](Socket::lend_room)), the first of which are the datagram, as many as it answers. Answers how
     /// many.
     ///
-    /// `BufferFull` also where the room is shorter. Where the queue has bytes free, but fewer than the datagram has,
-    /// that is said behind `f`.
+    /// # Errors
+    /// Those of [`send_slice`](Socket::send_slice), and [`SendError::BufferFull`] where the room is shorter than
+    /// `max_size`. `f` was called where the queue has bytes free, but fewer than the datagram has, where its packet
+    /// would be too long, and where the source is of another version of IP.
     ///
     /// # Panics
     /// Where `f` answers more bytes than it was lent, as in smoltcp; without the feature `alloc`, where no room was
@@ -255,33 +265,54 @@ impl<'a> Socket<'a> {
 
     /// Puts a datagram of `size` bytes into the transmit queue, and lends them where they lie: what is written there is
     /// the payload. Before, older bytes stand there.
+    ///
+    /// # Errors
+    /// [`SendError::Unaddressable`] where the socket is not open, the destination has no address or port, or the source
+    /// is of another version of IP; [`SendError::BufferFull`] where the queue has no room for the datagram, or its
+    /// packet would have more than 65535 bytes. Nothing changes then.
     pub fn send(&mut self, size: usize, meta: impl Into<UdpMetadata>) -> Result<&mut [u8], SendError> {
         self.calls.send_place(&meta_of(meta.into()), size).map_err(refused)
     }
 
     /// Takes the first datagram, and lends it where it lies; and where it came from.
+    ///
+    /// # Errors
+    /// [`RecvError::Exhausted`] where no datagram waits.
     pub fn recv(&mut self) -> Result<(&[u8], UdpMetadata), RecvError> {
         let mut from = ffi::UdpMetadata::default();
         let bytes = self.calls.recv_place(&mut from).map_err(nothing)?;
         Ok((bytes, meta_told(&from)))
     }
 
-    /// The same, and the datagram stays. (smoltcp lends the metadata too.)
+    /// Lends the first datagram where it lies, and returns where it came from; the datagram stays in the queue.
+    /// (smoltcp lends the metadata too.)
+    ///
+    /// # Errors
+    /// [`RecvError::Exhausted`] where no datagram waits.
     pub fn peek(&mut self) -> Result<(&[u8], UdpMetadata), RecvError> {
         let mut from = ffi::UdpMetadata::default();
         let bytes = self.calls.peek_place(&mut from).map_err(nothing)?;
         Ok((bytes, meta_told(&from)))
     }
 
-    /// Takes the first datagram: how many bytes it has, at the beginning of `data`, and where it came from. Where they
-    /// find no room, it is lost, as in smoltcp.
+    /// Takes the first datagram: copies its payload to the beginning of `data`, and returns its length and where it
+    /// came from.
+    ///
+    /// # Errors
+    /// [`RecvError::Exhausted`] where no datagram waits; [`RecvError::Truncated`] where `data` is too short: the
+    /// datagram is lost.
     pub fn recv_slice(&mut self, data: &mut [u8]) -> Result<(usize, UdpMetadata), RecvError> {
         let mut from = ffi::UdpMetadata::default();
         let answer = self.calls.recv(&mut from, data);
         copied(answer, &from)
     }
 
-    /// The same, and the datagram stays.
+    /// Copies the payload of the first datagram to the beginning of `data`, and returns its length and where it came
+    /// from; the datagram stays in the queue.
+    ///
+    /// # Errors
+    /// [`RecvError::Exhausted`] where no datagram waits; [`RecvError::Truncated`] where `data` is too short: the
+    /// datagram stays.
     pub fn peek_slice(&mut self, data: &mut [u8]) -> Result<(usize, UdpMetadata), RecvError> {
         let mut from = ffi::UdpMetadata::default();
         let answer = self.calls.peek(&mut from, data);
@@ -295,6 +326,9 @@ impl<'a> Socket<'a> {
 
     /// Takes an IP packet, where it carries a datagram for the socket: that is dropped where it finds no room, as in
     /// smoltcp.
+    ///
+    /// # Errors
+    /// [`NotAccepted`] where the packet carries no whole datagram, or none for this socket. Nothing changes then.
     pub fn process<W>(&mut self, cx: &Context<W>, packet: &[u8]) -> Result<(), NotAccepted> {
         match self.calls.process(&cx.raw, packet) {
             ffi::OK => {
@@ -306,8 +340,12 @@ impl<'a> Socket<'a> {
         }
     }
 
-    /// Writes the packet of the first datagram that was sent to the beginning of `out`, and answers its length, if
-    /// there is one. Where it finds no room, it stays the first; where it has no source, it is dropped.
+    /// Writes the packet of the first datagram that was sent to the beginning of `out`, and returns its length, if
+    /// there is one.
+    ///
+    /// # Errors
+    /// [`DispatchError::TooShort`] where `out` is too short for the packet: the datagram stays the first.
+    /// [`DispatchError::Unaddressable`] where the datagram has no source: it has left the queue.
     pub fn dispatch<W>(&mut self, cx: &Context<W>, out: &mut [u8]) -> Result<Option<usize>, DispatchError> {
         let waits = self.wakers.sends() && self.poll_at(cx) == PollAt::Now;
         let answer = self.calls.dispatch(&cx.raw, out);

@@ -1,9 +1,15 @@
 //! Addresses, endpoints, prefixes, headers of IP and ICMP messages, as smoltcp's.
+#[path = "wire/cidr.rs"]
 mod cidr;
+#[path = "wire/icmp.rs"]
 mod icmp;
+#[path = "wire/ip.rs"]
 mod ip;
+#[path = "wire/numbered.rs"]
 mod numbered;
+#[path = "wire/reasons.rs"]
 mod reasons;
+#[path = "wire/sum.rs"]
 mod sum;
 
 pub use cidr::{IpCidr, Ipv4Cidr, Ipv6Cidr};
@@ -28,6 +34,9 @@ pub enum IpVersion {
 
 impl IpVersion {
     /// The version of an IP packet, by its first four bits.
+    ///
+    /// # Errors
+    /// [`Error`] where the packet is empty, or these bits are neither 4 nor 6.
     pub const fn of_packet(packet: &[u8]) -> Result<IpVersion, Error> {
         match packet {
             [first, ..] if *first / 16 == 4 => Ok(IpVersion::Ipv4),
@@ -160,7 +169,7 @@ impl From<IpAddress> for IpAddr {
     }
 }
 
-/// As `core::net` reads it; the error is the unit, as smoltcp's.
+/// Reads an address in the forms that `core::net` reads; the error is the unit, as smoltcp's.
 impl FromStr for IpAddress {
     type Err = ();
 
@@ -240,7 +249,8 @@ impl From<IpEndpoint> for SocketAddr {
     }
 }
 
-/// As `core::net` reads it: `10.0.0.1:80`, `[fd00::1]:80`; the error is the unit, as smoltcp's.
+/// Reads an endpoint in the forms that `core::net` reads, `10.0.0.1:80` and `[fd00::1]:80`; the error is the unit, as
+/// smoltcp's.
 impl FromStr for IpEndpoint {
     type Err = ();
 

@@ -1,9 +1,9 @@
 //! A socket of any kind.
 mod common;
 use common::*;
-use smoltcp_proved::socket::{AnySocket, Socket, icmp, raw, tcp, udp};
-use smoltcp_proved::wire::{IpProtocol, IpVersion, Ipv4Repr};
-use smoltcp_proved::{DispatchError, NotAccepted, PollAt};
+use smoltcp_proved::c_library::socket::{AnySocket, Socket, icmp, raw, tcp, udp};
+use smoltcp_proved::c_library::wire::{IpProtocol, IpVersion, Ipv4Repr};
+use smoltcp_proved::c_library::{DispatchError, NotAccepted, PollAt};
 
 #[test]
 fn each_kind_and_no_other() {

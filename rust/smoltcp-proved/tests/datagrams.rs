@@ -1,10 +1,10 @@
 //! Worked examples of UDP and ICMP that bytes can show.
 mod common;
 use common::*;
-use smoltcp_proved::udp::{BindError, RecvError, UdpMetadata};
-use smoltcp_proved::wire::Ipv6Address;
-use smoltcp_proved::wire::{IpAddress, IpEndpoint, IpProtocol, IpVersion};
-use smoltcp_proved::{Context, DispatchError, NotAccepted, PollAt, TooShort, icmp, raw, tcp, udp};
+use smoltcp_proved::c_library::udp::{BindError, RecvError, UdpMetadata};
+use smoltcp_proved::c_library::wire::Ipv6Address;
+use smoltcp_proved::c_library::wire::{IpAddress, IpEndpoint, IpProtocol, IpVersion};
+use smoltcp_proved::c_library::{Context, DispatchError, NotAccepted, PollAt, TooShort, icmp, raw, tcp, udp};
 
 /// Memory for a UDP socket with two places and 100 bytes each way.
 struct Room {

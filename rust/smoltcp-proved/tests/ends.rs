@@ -1,10 +1,10 @@
 //! Why connections end, what was agreed, and bytes past a ring's end. Numbers are RFC 9293's and 2018's.
 mod common;
 use common::*;
-use smoltcp_proved::Context;
-use smoltcp_proved::tcp::{Ended, Memory, Negotiated, RecvError, Socket, reset};
+use smoltcp_proved::c_library::Context;
+use smoltcp_proved::c_library::tcp::{Ended, Memory, Negotiated, RecvError, Socket, reset};
 
-/// The same on each of two sockets that are connected, the second of which listened.
+/// Calls `then` with the hosts of two sockets that are connected, the second of which listened.
 fn connected(count: usize, then: impl FnOnce(Host<'_>, Host<'_>)) {
     let (mut m, mut n) = (Memory::new(), Memory::new());
     let (mut p, mut q, mut r, mut s) = (vec![0; count], vec![0; count], vec![0; count], vec![0; count]);
@@ -93,6 +93,6 @@ fn small_mtu() {
 
 #[test]
 fn versions() {
-    assert_eq!(smoltcp_proved::version(), env!("CARGO_PKG_VERSION"));
-    assert!(smoltcp_proved::build().starts_with("commit "));
+    assert_eq!(smoltcp_proved::c_library::version(), env!("CARGO_PKG_VERSION"));
+    assert!(smoltcp_proved::c_library::build().starts_with("commit "));
 }

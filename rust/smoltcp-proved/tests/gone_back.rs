@@ -1,9 +1,9 @@
-//! What docs/KNOWN.md says of two sides that send again at once.
+//! What docs/SMOLTCP.md says of two sides that send again at once.
 mod common;
 use common::*;
-use smoltcp_proved::PollAt;
-use smoltcp_proved::tcp::{CongestionControl, Memory, Socket, State};
-use smoltcp_proved::time::Duration;
+use smoltcp_proved::c_library::PollAt;
+use smoltcp_proved::c_library::tcp::{CongestionControl, Memory, Socket, State};
+use smoltcp_proved::c_library::time::Duration;
 
 /// All that is due, as at most 64 packets.
 fn emit(host: &mut Host) -> Vec<Vec<u8>> {

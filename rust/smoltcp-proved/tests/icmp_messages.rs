@@ -1,9 +1,9 @@
 //! ICMP messages as values: bytes of RFC 792 and RFC 4443, and what the library's own checksums say of them.
-use smoltcp_proved::wire::{
+use smoltcp_proved::c_library::wire::{
     Error, Icmpv4DstUnreachable, Icmpv4Repr, Icmpv4TimeExceeded, Icmpv6DstUnreachable, Icmpv6ParamProblem,
     Icmpv6Repr, Icmpv6TimeExceeded, IpAddress, IpProtocol, Ipv4Address, Ipv4Repr, Ipv6Address, Ipv6Repr,
 };
-use smoltcp_proved::{Context, NotAccepted, icmp};
+use smoltcp_proved::c_library::{Context, NotAccepted, icmp};
 
 /// A request whose checksum was worked out by hand: the sum of its words is 0x7101.
 const ECHO: [u8; 12] = [0x08, 0x00, 0x8e, 0xfe, 0x12, 0x34, 0xab, 0xcd, 0xaa, 0x00, 0x00, 0xff];

@@ -1,9 +1,9 @@
 //! Datagrams that are written and read where they lie, and written in a socket's room.
 mod common;
 use common::*;
-use smoltcp_proved::udp::{RecvError, SendError, UdpMetadata};
-use smoltcp_proved::wire::{Icmpv4Repr, IpAddress, IpEndpoint, IpProtocol, Ipv4Repr, Ipv6Address};
-use smoltcp_proved::{icmp, raw, udp};
+use smoltcp_proved::c_library::udp::{RecvError, SendError, UdpMetadata};
+use smoltcp_proved::c_library::wire::{Icmpv4Repr, IpAddress, IpEndpoint, IpProtocol, Ipv4Repr, Ipv6Address};
+use smoltcp_proved::c_library::{icmp, raw, udp};
 use std::panic::{AssertUnwindSafe, catch_unwind};
 
 macro_rules! socket {

@@ -1,9 +1,9 @@
 //! A thousand exchanges of random bytes both ways, over networks that lose, repeat and reorder packets.
 mod common;
 use common::*;
-use smoltcp_proved::tcp::{Memory, RecvError, Socket, State};
-use smoltcp_proved::time::Duration;
-use smoltcp_proved::{PollAt, tcp};
+use smoltcp_proved::c_library::tcp::{Memory, RecvError, Socket, State};
+use smoltcp_proved::c_library::time::Duration;
+use smoltcp_proved::c_library::{PollAt, tcp};
 
 /// Numbers by xorshift (Marsaglia 2003).
 struct Random(u64);
@@ -153,7 +153,7 @@ fn exchange(seed: u64) -> bool {
     a.finished && b.finished
 }
 
-/// Both sides can come to send again at once, and then the user timeout alone ends the connection (docs/KNOWN.md; seed
+/// Both sides can come to send again at once, and then the user timeout alone ends the connection (docs/SMOLTCP.md; seed
 /// 497 is one): what was read is a beginning of what was sent.
 #[test]
 fn a_thousand_exchanges() {

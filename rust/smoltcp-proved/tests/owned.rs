@@ -2,8 +2,8 @@
 #![cfg(feature = "alloc")]
 mod common;
 use common::*;
-use smoltcp_proved::tcp::{Socket, State};
-use smoltcp_proved::{icmp, raw, udp};
+use smoltcp_proved::c_library::tcp::{Socket, State};
+use smoltcp_proved::c_library::{icmp, raw, udp};
 use std::alloc::{GlobalAlloc, Layout, System};
 use std::cell::Cell;
 

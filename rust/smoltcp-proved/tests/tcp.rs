@@ -1,12 +1,12 @@
 //! Worked examples of TCP that bytes can show. Numbers are those of RFC 9293, and of smoltcp where it says so.
 mod common;
 use common::*;
-use smoltcp_proved::tcp::{
+use smoltcp_proved::c_library::tcp::{
     CongestionControl, ConnectError, ListenError, Memory, RecvError, SendError, Socket,
 };
-use smoltcp_proved::time::{Duration, Instant};
-use smoltcp_proved::wire::{IpEndpoint, IpListenEndpoint, Ipv6Address};
-use smoltcp_proved::{Context, NotAccepted, PollAt, TooShort, tcp};
+use smoltcp_proved::c_library::time::{Duration, Instant};
+use smoltcp_proved::c_library::wire::{IpEndpoint, IpListenEndpoint, Ipv6Address};
+use smoltcp_proved::c_library::{Context, NotAccepted, PollAt, TooShort, tcp};
 use tcp::State;
 
 /// Memory and buffers of two sockets.

@@ -1,6 +1,6 @@
 //! Addresses, endpoints, prefixes and times, beside what the standard library says of them.
-use smoltcp_proved::time::{Duration, Instant};
-use smoltcp_proved::wire::{
+use smoltcp_proved::c_library::time::{Duration, Instant};
+use smoltcp_proved::c_library::wire::{
     self, IpAddress, IpCidr, IpEndpoint, IpListenEndpoint, IpVersion, Ipv4Address, Ipv4Cidr, Ipv6Cidr,
 };
 use std::net::{IpAddr, SocketAddr, SocketAddrV4, SocketAddrV6};

@@ -1,10 +1,10 @@
 //! Tasks that wait for sockets: who is woken by what, as smoltcp's documentation says.
 mod common;
 use common::*;
-use smoltcp_proved::tcp::{ListenError, Memory, Socket, State};
-use smoltcp_proved::time::Duration;
-use smoltcp_proved::wire::{IpAddress, Ipv6Address};
-use smoltcp_proved::{DispatchError, icmp, raw, tcp, udp};
+use smoltcp_proved::c_library::tcp::{ListenError, Memory, Socket, State};
+use smoltcp_proved::c_library::time::Duration;
+use smoltcp_proved::c_library::wire::{IpAddress, Ipv6Address};
+use smoltcp_proved::c_library::{DispatchError, icmp, raw, tcp, udp};
 use std::cell::RefCell;
 use std::future::{Future, poll_fn};
 use std::pin::Pin;

@@ -1,6 +1,6 @@
 //! The calls of UDP, raw and ICMP sockets. What they ask of a caller is cited as in `calls`.
 use super::{Own, Reach, Slots};
-use crate::ffi;
+use crate::c_library::ffi;
 use core::fmt;
 use core::marker::PhantomData;
 use core::mem::MaybeUninit;
@@ -45,8 +45,8 @@ macro_rules! queue_memory {
         impl<'a> $buffer<'a> {
             /// At most 2^30 places, and as many bytes.
             pub fn new(places: Slots<'a, $place>, bytes: Slots<'a, u8>) -> $buffer<'a> {
-                assert!(places.len() <= crate::LONGEST_BUFFER, "more than 2^30 places");
-                assert!(bytes.len() <= crate::LONGEST_BUFFER, "more than 2^30 bytes");
+                assert!(places.len() <= crate::c_library::LONGEST_BUFFER, "more than 2^30 places");
+                assert!(bytes.len() <= crate::c_library::LONGEST_BUFFER, "more than 2^30 bytes");
                 $buffer { places, bytes }
             }
 

@@ -1,6 +1,6 @@
 //! Why a connection ended, what was agreed, and bytes that nobody reads.
 use super::{RecvError, Socket, received};
-use crate::numbers::{count_in, not_in_contract};
+use crate::c_library::numbers::{count_in, not_in_contract};
 use core::fmt;
 
 /// Why a connection ended.
@@ -79,7 +79,11 @@ impl Socket<'_> {
     }
 
     /// Drops as many bytes from the front of the receive queue as are there, but at most `count`, also past the piece
-    /// that `peek` lends, and answers how many. Refused as `recv_slice`.
+    /// that `peek` lends, and returns how many.
+    ///
+    /// # Errors
+    /// Where [`may_recv`](Socket::may_recv) is false: [`RecvError::Finished`] if the peer has closed and all that it
+    /// sent was read, else [`RecvError::InvalidState`].
     pub fn consume(&mut self, count: usize) -> Result<usize, RecvError> {
         let count = count.min(self.recv_queue());
         received(self.calls.consume(count))

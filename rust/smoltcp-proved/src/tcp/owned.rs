@@ -1,7 +1,7 @@
 //! TCP sockets that own their memory, behind the feature `alloc`.
 use super::Socket;
-use crate::calls::{Memory, Slots, Tcp};
-use crate::wakers::Wakers;
+use crate::c_library::calls::{Memory, Slots, Tcp};
+use crate::c_library::wakers::Wakers;
 use alloc::vec::Vec;
 
 impl Socket<'static> {
@@ -12,7 +12,7 @@ impl Socket<'static> {
     /// before.
     ///
     /// ```
-    /// use smoltcp_proved::tcp::{Socket, State};
+    /// use smoltcp_proved::c_library::tcp::{Socket, State};
     ///
     /// let mut sockets: Vec<Socket> = (0..32).map(|_| Socket::owned(vec![0; 1024], vec![0; 1024])).collect();
     /// for socket in &mut sockets {

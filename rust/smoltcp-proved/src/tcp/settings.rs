@@ -1,20 +1,21 @@
 //! What a TCP socket is told beside its connection.
 use super::{CongestionControl, Rules, RulesError, Socket};
-use crate::ffi;
-use crate::numbers::{done, flag_in, hop_limit_in, hop_limit_of, not_in_contract};
-use crate::time::Duration;
+use crate::c_library::ffi;
+use crate::c_library::numbers::{done, flag_in, hop_limit_in, hop_limit_of, not_in_contract};
+use crate::c_library::time::Duration;
 
 // The longest length of time that the library takes, in microseconds.
 const LONGEST: u64 = 1 << 61;
 
 impl Socket<'_> {
-    /// How long a peer may be silent while something is owed (RFC 9293, section 3.9.1), if there is a limit.
+    /// How long a peer may be silent (the user timeout of RFC 9293, section 3.9.1), if there is a limit.
     pub fn timeout(&self) -> Option<Duration> {
         duration_in(self.calls.timeout())
     }
 
-    /// Ends the connection where nothing was heard for so long while something is owed. Without it, and without
-    /// keep-alives, a connection can wait for ever. A length above 2^61 microseconds counts as that.
+    /// Ends a connection from which nothing arrived for so long, also an idle one, unless keep-alives of a shorter
+    /// interval ask its peer. Without it, and without keep-alives, a connection can wait for ever. A length above 2^61
+    /// microseconds counts as that.
     pub fn set_timeout(&mut self, duration: Option<Duration>) {
         done(self.calls.set_timeout(duration_of(duration)));
     }
@@ -36,8 +37,8 @@ impl Socket<'_> {
         duration_in(self.calls.keep_alive())
     }
 
-    /// Asks an idle peer so often whether it is there (RFC 9293, section 3.8.4): shorter than the timeout, by a factor
-    /// of four, say, and never 0. A length above 2^61 microseconds counts as that.
+    /// Sets the interval of keep-alives (RFC 9293, section 3.8.4): shorter than the timeout, by a factor of four, say,
+    /// and never 0. A length above 2^61 microseconds counts as that.
     pub fn set_keep_alive(&mut self, interval: Option<Duration>) {
         done(self.calls.set_keep_alive(duration_of(interval)));
     }
@@ -108,6 +109,9 @@ impl Socket<'_> {
     }
 
     /// Chooses the rules of a socket that is not open. (smoltcp has no such call.)
+    ///
+    /// # Errors
+    /// [`RulesError::InvalidState`] where the socket is open: it keeps its rules.
     pub fn set_rules(&mut self, rules: Rules) -> Result<(), RulesError> {
         match self.calls.set_rules(rules as u32) {
             ffi::OK => Ok(()),

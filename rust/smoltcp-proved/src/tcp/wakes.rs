@@ -1,6 +1,6 @@
 //! Tasks that wait for a TCP socket, and when they are woken.
 use super::{Socket, State};
-use crate::calls::Tcp;
+use crate::c_library::calls::Tcp;
 use core::task::Waker;
 
 /// What a waiting task would see of a socket.
@@ -20,7 +20,7 @@ impl<'a> Socket<'a> {
     ///
     /// ```
     /// use core::{future::poll_fn, task::Poll};
-    /// use smoltcp_proved::tcp::{RecvError, Socket};
+    /// use smoltcp_proved::c_library::tcp::{RecvError, Socket};
     ///
     /// /// Waits for bytes, whose count it answers.
     /// async fn read(socket: &mut Socket<'_>, data: &mut [u8]) -> Result<usize, RecvError> {

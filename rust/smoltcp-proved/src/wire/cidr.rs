@@ -8,7 +8,7 @@ const fn mask4(len: u8) -> u32 {
     if len == 0 { 0 } else { u32::MAX << (32 - len) }
 }
 
-/// The same of 128.
+/// The bits of an address that are the same in all of its subnet: the upper `len` of 128.
 const fn mask6(len: u8) -> u128 {
     if len == 0 { 0 } else { u128::MAX << (128 - len) }
 }
@@ -219,7 +219,7 @@ impl FromStr for IpCidr {
     }
 }
 
-/// As of `IpCidr`.
+/// An IPv4 address, a slash and a length of at most 32; the error is the unit, as smoltcp's.
 impl FromStr for Ipv4Cidr {
     type Err = ();
 
@@ -231,7 +231,7 @@ impl FromStr for Ipv4Cidr {
     }
 }
 
-/// As of `IpCidr`.
+/// An IPv6 address, a slash and a length of at most 128; the error is the unit, as smoltcp's.
 impl FromStr for Ipv6Cidr {
     type Err = ();
 

@@ -12,7 +12,7 @@ const QUOTED: usize = 8;
 /// An ICMP message over IPv4 (RFC 792).
 ///
 /// ```
-/// use smoltcp_proved::wire::Icmpv4Repr;
+/// use smoltcp_proved::c_library::wire::Icmpv4Repr;
 ///
 /// let request = Icmpv4Repr::EchoRequest { ident: 7, seq_no: 1, data: b"ping" };
 /// let mut bytes = [0; 12];
@@ -62,8 +62,11 @@ pub enum Icmpv4Repr<'a> {
 }
 
 impl<'a> Icmpv4Repr<'a> {
-    /// The message that the bytes are, and whose checksum fits. An error unless they have one of the four types; an
-    /// echo has 8 bytes or more and code 0; an error quotes a whole header of IPv4 and 8 bytes or more behind it.
+    /// The message that the bytes are, and whose checksum fits.
+    ///
+    /// # Errors
+    /// [`Error`] where the checksum does not fit, or the bytes are no message of the four types: an echo has 8 bytes or
+    /// more and code 0; an error quotes a whole header of IPv4 and 8 bytes or more behind it.
     pub fn parse(bytes: &'a [u8]) -> Result<Icmpv4Repr<'a>, Error> {
         if sum_after(0, bytes) != 0xffff {
             return Err(Error);
@@ -71,7 +74,11 @@ impl<'a> Icmpv4Repr<'a> {
         Icmpv4Repr::parse_unsummed(bytes)
     }
 
-    /// The same without a look at the checksum, as `process` has seen that of what a socket's `recv` gives.
+    /// The message that the bytes are, whose checksum is not tested: `process` has tested that of what a socket's
+    /// `recv` gives.
+    ///
+    /// # Errors
+    /// [`Error`] where the bytes are no message of the four types, as for [`parse`](Icmpv4Repr::parse).
     pub fn parse_unsummed(bytes: &'a [u8]) -> Result<Icmpv4Repr<'a>, Error> {
         let (Start { kind, code, words: [ident, seq_no] }, behind) = start(bytes)?;
         match (kind, code) {
@@ -186,8 +193,11 @@ pub enum Icmpv6Repr<'a> {
 
 impl<'a> Icmpv6Repr<'a> {
     /// The message that the bytes are, of a packet between these addresses, which the checksum sums too, and whose
-    /// checksum fits. An error unless they have one of the six types; an echo has 8 bytes or more and code 0; an error
-    /// quotes a header of IPv6 and 8 bytes or more behind it.
+    /// checksum fits.
+    ///
+    /// # Errors
+    /// [`Error`] where the checksum does not fit, or the bytes are no message of the six types: an echo has 8 bytes or
+    /// more and code 0; an error quotes a header of IPv6 and 8 bytes or more behind it.
     pub fn parse(
         src_addr: &Ipv6Address,
         dst_addr: &Ipv6Address,
@@ -199,7 +209,11 @@ impl<'a> Icmpv6Repr<'a> {
         Icmpv6Repr::parse_unsummed(bytes)
     }
 
-    /// The same without a look at the checksum, as `process` has seen that of what a socket's `recv` gives.
+    /// The message that the bytes are, whose checksum is not tested: `process` has tested that of what a socket's
+    /// `recv` gives.
+    ///
+    /// # Errors
+    /// [`Error`] where the bytes are no message of the six types, as for [`parse`](Icmpv6Repr::parse).
     pub fn parse_unsummed(bytes: &'a [u8]) -> Result<Icmpv6Repr<'a>, Error> {
         let (Start { kind, code, words: [ident, seq_no] }, behind) = start(bytes)?;
         let number = u32::from(ident) << 16 | u32::from(seq_no);
@@ -239,11 +253,11 @@ impl<'a> Icmpv6Repr<'a> {
         fill(bytes, pseudo(src_addr, dst_addr, bytes));
     }
 
-    /// The same with a checksum of 0, for a message that a socket sends: `dispatch` computes it, as it knows the
-    /// source.
+    /// Writes the message with a checksum of 0 to the beginning of the bytes, for a message that a socket sends:
+    /// `dispatch` computes the checksum, as it knows the source.
     ///
     /// # Panics
-    /// As [`emit`](Icmpv6Repr::emit).
+    /// Where they are fewer than `buffer_len`, or the header's payload is longer than 65535.
     pub fn emit_unsummed(&self, bytes: &mut [u8]) {
         let bytes = &mut bytes[..self.buffer_len()];
         let number = |number: u32| [(number >> 16) as u16, number as u16];

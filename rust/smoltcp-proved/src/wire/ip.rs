@@ -50,8 +50,10 @@ pub struct Ipv4Repr {
 
 impl Ipv4Repr {
     /// The header at the beginning of a packet, whose bytes behind it are those that are there: in an ICMP message that
-    /// quotes a packet they are fewer than its length says. Options are left out, the checksum is not tested. An error
-    /// unless there are 20 bytes of version 4, and as many as the header's own length says.
+    /// quotes a packet they are fewer than its length says. Options are left out, the checksum is not tested.
+    ///
+    /// # Errors
+    /// [`Error`] unless there are 20 bytes of version 4, and as many as the header's own length says.
     pub fn parse(packet: &[u8]) -> Result<(Ipv4Repr, &[u8]), Error> {
         let header_len = usize::from(packet.first().ok_or(Error)? % 16) * 4;
         if packet[0] / 16 != 4 || header_len < 20 || packet.len() < header_len {
@@ -122,8 +124,10 @@ pub struct Ipv6Repr {
 }
 
 impl Ipv6Repr {
-    /// The header at the beginning of a packet, whose bytes behind it are those that are there. An error unless there
-    /// are 40 bytes of version 6.
+    /// The header at the beginning of a packet, whose bytes behind it are those that are there.
+    ///
+    /// # Errors
+    /// [`Error`] unless there are 40 bytes of version 6.
     pub fn parse(packet: &[u8]) -> Result<(Ipv6Repr, &[u8]), Error> {
         if packet.len() < 40 || packet[0] / 16 != 6 {
             return Err(Error);

@@ -1,8 +1,8 @@
 //! Two contexts, and packets between two sockets.
 #![allow(dead_code)]
-use smoltcp_proved::time::{Duration, Instant};
-use smoltcp_proved::wire::IpAddress;
-use smoltcp_proved::{Context, PollAt, Words, tcp};
+use smoltcp_proved::c_library::time::{Duration, Instant};
+use smoltcp_proved::c_library::wire::IpAddress;
+use smoltcp_proved::c_library::{Context, PollAt, Words, tcp};
 
 pub const A: IpAddress = IpAddress::v4(10, 0, 0, 1);
 pub const B: IpAddress = IpAddress::v4(10, 0, 0, 2);

@@ -1,0 +1,462 @@
+"""What of a Rattle source is no Rust, and the words that stand in place of others: for rust/translate and bench/plain.
+
+A source becomes plain Rust by cuts, each of a form that is named here, and by a few words in place of others. Each is
+an `Edit` of the source's text, so that whoever asks can see what went, and where. A form that is not known here raises
+`Unknown`, with the line.
+"""
+import dataclasses
+import re
+
+TOKEN = re.compile(r"""
+    (?P<space>\s+) | (?P<comment>//[^\n]*|/\*.*?\*/)
+    | (?P<string>b?"(?:\\.|[^"\\])*"|b?r(?P<hashes>\#*)".*?"(?P=hashes))
+    | (?P<char>b?'(?:\\[^']*|[^'\\])') | (?P<lifetime>'\w+) | (?P<number>\d\w*(?:\.\d\w*)?) | (?P<word>[^\W\d]\w*)
+    | (?P<sign>::|\S)""", re.S | re.X)
+GHOST = re.compile(r"ghost\s+\w+\s*(?P<sort>[:=])\s*\{")
+CLAUSE = re.compile(r"(requires|ensures|follows)\*?(\s+[a-z_0-9]+)?\s*\{")
+MODEL = re.compile(r"impl(<[^{}]*?>)?\s+Model\s+for\s[^{]*\{")
+TESTS = re.compile(r"#\[cfg\(test\)\]\s*mod (\w+);")
+TACTIC = re.compile(r"#!?\[\s*(tactic|cycle)\b")
+ATTRIBUTE = re.compile(r"#!?\[\s*(\w+)")
+ATTRIBUTES = {"inline", "default", "cold", "must_use", "derive", "error", "allow", "non_exhaustive"}
+NOT_RUST = {"ghost": "a ghost", "final": "a final function", "prove": "prove!", "prove_eq": "prove_eq!",
+            "prove_ne": "prove_ne!", "unsafe": "unsafe code", "cfg": "a condition of the build",
+            "extern": "a function of C"}
+# what each part of the toolchain's `std` is
+CORE = {"cell", "cmp", "error", "fmt", "iter", "mem", "ops", "slice", "str"}
+KIT_MODULES = {"alloc", "collections", "env", "fs", "io", "simd"}
+STD = {"process"}
+KIT_CRATES = {"rand_core", "rand_chacha"}
+PRELUDE = {"HostRuntime", "String", "Vec"}  # names of the toolchain that a source has without a `use`
+# a public method of a socket takes what is `Into` one of these
+NEARER, NEARER_CRATES = {"IpEndpoint", "IpListenEndpoint", "UdpMetadata"}, {"sock_tcp", "sock_dgram"}
+# the fields on which the buffers of this crate stand
+STORAGE, STORAGE_CRATE = {"storage", "payload"}, "net_base"
+MACROS = {"format", "vec"}
+# What a cut or a word is called; `rust/translate --list` prints it.
+LIST = {
+    "ghost use": "an import for clauses: cut",
+    "ghost": "a ghost member, with the comment above it: cut",
+    "clause": "requires, ensures or follows: cut",
+    "tactic": "an attribute for the prover: cut",
+    "tests": "a module of tests, which are the toolchain's: cut, with its file",
+    "model": "an impl of Model, and its import: cut",
+    "drop": "Drop, derived or as a bound, which says that a value may be dropped: cut",
+    "error": "thiserror: its import, derive and attributes are cut; the Display that it derives is written at the end",
+    "formatter": "<W: fmt::Write> .. Formatter<W>: cut, .. Formatter<'_>",
+    "write_char": "use core::fmt::Write as _, where a formatter's write_char is called: added",
+    "crate": "crate:: -> crate::proved::CRATE::, in a library",
+    "other": "CRATE:: -> crate::proved::CRATE::, in a program smoltcp_proved::proved::CRATE::",
+    "core": f"std:: -> core::, before {', '.join(sorted(CORE))}",
+    "kit": f"std:: -> crate::kit::, before {', '.join(sorted(KIT_MODULES))}; {', '.join(sorted(KIT_CRATES))} the same",
+    "prelude": f"use crate::kit::{{..}} for {', '.join(sorted(PRELUDE | MACROS))}: added",
+    "into": "of public methods of the sockets, x: T -> x: impl Into<T>, and let x = x.into(), for "
+            f"{', '.join(sorted(NEARER))}",
+    "owned": f"of the buffers of {STORAGE_CRATE}, &'a mut [T] -> crate::kit::Storage<'a, T>, a lent slice or a vector",
+    "main": "fn main(rt: HostRuntime) { -> fn main() { let rt = HostRuntime;",
+}
+
+
+class Unknown(Exception):
+    """A form that is not known, and its line."""
+
+    def __init__(self, text, at, form):
+        super().__init__(form)
+        self.line, self.form = text.count("\n", 0, at) + 1, form
+
+
+@dataclasses.dataclass(frozen=True)
+class Token:
+    kind: str
+    text: str
+    start: int
+    end: int
+
+
+@dataclasses.dataclass(frozen=True)
+class Edit:
+    """What stands in place of a part of the source, and why: a key of LIST."""
+    start: int
+    end: int
+    new: str
+    form: str
+
+
+def token_at(text, at):
+    found = TOKEN.match(text, at)
+    return Token(found.lastgroup if found.lastgroup != "hashes" else "string", found.group(0), at, found.end())
+
+
+def tokens(text):
+    """All tokens of a Rust text but its space and comments."""
+    at, found = 0, []
+    while at < len(text):
+        one = token_at(text, at)
+        if one.kind not in ("space", "comment"):
+            found.append(one)
+        at = one.end
+    return found
+
+
+def behind(text, start, opening, closing):
+    """The place behind the bracket that closes the one at `start`."""
+    depth = 0
+    for place in range(start, len(text)):
+        depth += (text[place] == opening) - (text[place] == closing)
+        if depth == 0:
+            return place + 1
+    raise Unknown(text, start, "a bracket that is not closed")
+
+
+def ghost_end(text, found):
+    """Where a ghost member ends: behind its default, and the sign that follows."""
+    end = behind(text, found.end() - 1, "{", "}")
+    default = re.compile(r"\s*=\s*\{").match(text, end)
+    if found.group("sort") == ":" and default:
+        end = behind(text, default.end() - 1, "{", "}")
+    return re.compile(r"\s*[;,]?([ \t]*//[^\n]*)?").match(text, end).end()
+
+
+def cut_at(text, at):
+    """The end and the form of what is to be cut at a place, if anything is."""
+    if text.startswith("ghost use", at):
+        return text.index(";", at) + 1, "ghost use"
+    if found := GHOST.match(text, at):
+        return ghost_end(text, found), "ghost"
+    if found := CLAUSE.match(text, at):
+        return behind(text, found.end() - 1, "{", "}"), "clause"
+    if found := MODEL.match(text, at):
+        return behind(text, found.end() - 1, "{", "}"), "model"
+    if text.startswith("use std::marker::Model;", at):
+        return text.index(";", at) + 1, "model"
+    if text.startswith("use thiserror::Error;", at):
+        return text.index(";", at) + 1, "error"
+    if found := TESTS.match(text, at):
+        return found.end(), "tests"
+    if TACTIC.match(text, at):
+        return behind(text, text.index("[", at), "[", "]"), "tactic"
+    return None
+
+
+def begins_above(text, at, kept):
+    """Takes `pub`, and the comment above a ghost member, out of the kept tokens; the place where they begin."""
+    code = [".".join(one.text for one in kept[-count:]) for count in (1, 4)]
+    for count, word in ((1, code[0] == "pub"), (4, code[1] == "pub.(.crate.)")):
+        if word:
+            at = kept[-count].start
+            del kept[-count:]
+    while kept and kept[-1].kind == "comment" and not kept[-1].text.startswith("//!"):
+        own_line = text[text.rfind("\n", 0, kept[-1].start) + 1:kept[-1].start].strip() == ""
+        if not own_line or text[kept[-1].end:at].count("\n") != 1:
+            break
+        at = kept.pop().start
+    return at
+
+
+def refuse(text, one, kept):
+    """Raises for a word or an attribute that is no Rust of this subset."""
+    if one.text in NOT_RUST and not (kept and kept[-1].text in ("::", ".")):
+        raise Unknown(text, one.start, NOT_RUST[one.text])
+    found = ATTRIBUTE.match(text, one.start)
+    if found and found.group(1) not in ATTRIBUTES:
+        raise Unknown(text, one.start, f"the attribute {found.group(1)}")
+
+
+def cuts(text):
+    """The tokens and comments that stay, and what is cut between them."""
+    kept, edits, at = [], [], 0
+    while at < len(text):
+        one = token_at(text, at)
+        found = cut_at(text, at) if one.kind in ("word", "sign") else None
+        if found:
+            end, form = found
+            edits.append(Edit(begins_above(text, at, kept) if form == "ghost" else at, end, "", form))
+            at = end
+            continue
+        if one.kind in ("word", "sign"):
+            refuse(text, one, kept)
+        if one.kind != "space":
+            kept.append(one)
+        at = one.end
+    return kept, edits
+
+
+def derived(code, place):
+    """The edits of a list of derives: `Drop` and thiserror's `Error` go, and the attribute where nothing is left."""
+    end = next(i for i in range(place, len(code)) if code[i].text == "]")
+    names = [i for i in range(place + 4, end) if code[i].kind == "word"]
+    gone = {i: {"Drop": "drop", "Error": "error"}[code[i].text] for i in names if code[i].text in ("Drop", "Error")}
+    if not gone:
+        return []
+    if len(gone) == len(names):
+        return [Edit(code[place].start, code[end].end, "", form) for form in list(gone.values())[:1]]
+    edits = []
+    for i, form in gone.items():
+        behind_comma = code[i + 1].text == ","
+        first, last = (i, i + 1) if behind_comma and i == names[0] else (i - 1, i) if i != names[0] else (i, i)
+        edits.append(Edit(code[first].start, code[last].end, "", form))
+    return edits
+
+
+def bounds(code, place):
+    """The edit of a `Drop` that is a bound."""
+    before, after = code[place - 1], code[place + 1]
+    if before.text == "+":
+        return [Edit(before.start, code[place].end, "", "drop")]
+    if after.text == "+" and before.text == ":":
+        return [Edit(code[place].start, after.end, "", "drop")]
+    if before.text == ":" and code[place - 3].text == "where":
+        end = place + (after.text == ",")
+        first = place - 3 if code[end + 1].text in ("{", ";") else place - 2
+        return [Edit(code[first].start, code[end].end, "", "drop")]
+    if before.text == ":" and after.text in (",", ">", "{"):
+        return [Edit(before.start, code[place].end, "", "drop")]
+    return []
+
+
+def formatter(code, place):
+    """The edits of a function that writes to any formatter."""
+    words = [one.text for one in code[place:place + 7]]
+    if words != ["<", "W", ":", "fmt", "::", "Write", ">"]:
+        return []
+    end = next(i for i in range(place, len(code)) if code[i].text in ("{", ";"))
+    shown = [i + 2 for i in range(place, end - 3)
+             if [one.text for one in code[i:i + 4]] == ["Formatter", "<", "W", ">"]]
+    if not shown:
+        return []
+    edits = [Edit(code[i].start, code[i].end, "'_", "formatter") for i in shown]
+    return [Edit(code[place].start, code[place + 6].end, "", "formatter"), *edits]
+
+
+def toolchain(text, code, place, root):
+    """The edit of a path that begins with `std`."""
+    heads = [code[place + 2]]
+    if heads[0].text == "{":
+        end = next(i for i in range(place, len(code)) if code[i].text == "}")
+        heads = [code[i] for i in range(place + 3, end) if code[i].kind == "word" and code[i - 1].text in ("{", ",")]
+    places = {"core" if one.text in CORE else "kit" if one.text in KIT_MODULES else
+              "std" if one.text in STD else one.text for one in heads}
+    one = code[place]
+    if places == {"core"}:
+        return [Edit(one.start, one.end, "core", "core")]
+    if places == {"kit"}:
+        return [Edit(one.start, one.end, f"{root}::kit", "kit")]
+    if places != {"std"}:
+        raise Unknown(text, one.start, f"std::{heads[0].text}")
+    return []
+
+
+def nearer(code, place, crate):
+    """The edits of a public method of a socket that takes an endpoint or the like: it takes what is `Into` one."""
+    if crate not in NEARER_CRATES or code[place - 1].text != "pub":
+        return []
+    body = next(i for i in range(place, len(code)) if code[i].text == "{")
+    opening = next((i for i in range(place, body) if code[i].text == "(" and
+                    "self" in [one.text for one in code[i + 1:i + 4]]), body)
+    found = [i for i in range(opening, body) if code[i].text in NEARER and code[i - 1].text == ":"
+             and code[i - 2].kind == "word" and code[i + 1].text in (",", ")")]
+    lines = [f"\n let {code[i - 2].text} = {code[i - 2].text}.into();" for i in found]
+    edits = [Edit(code[i].start, code[i].end, f"impl Into<{code[i].text}>", "into") for i in found]
+    return edits + [Edit(code[body].end, code[body].end, line, "into") for line in lines]
+
+
+def nearest(code, place, texts):
+    """The place of the last of these words before a place."""
+    return next((i for i in range(place, -1, -1) if code[i].text in texts), 0)
+
+
+def owned(code, place):
+    """The edits of a lent slice on which a buffer stands: it may be a vector of the buffer's own as well."""
+    if [one.text for one in code[place + 1:place + 4]] != ["'a", "mut", "["]:
+        return []
+    end = next(i for i in range(place, len(code)) if code[i].text == "]")
+    method = nearest(code, place, ("fn", "struct"))
+    is_parameter = code[method].text == "fn" and code[place - 1].text == ":"
+    before, after = ("impl Into<", ">") if is_parameter else ("", "")
+    edits = [Edit(code[place].start, code[place + 3].end, f"{before}crate::kit::Storage<'a, ", "owned"),
+             Edit(code[end].start, code[end].end, f">{after}", "owned")]
+    if is_parameter:
+        body = next(one for one in code[place:] if one.text == "{")
+        name = code[place - 2].text
+        edits.append(Edit(body.end, body.end, f"\n let {name} = {name}.into();", "owned"))
+    return edits
+
+
+def lent_again(code, place):
+    """The edit of such a slice as a whole, where it is handed on."""
+    if [one.text for one in code[place:place + 2]] != ["self", "."] or code[place + 2].text not in STORAGE or \
+            code[place + 3].text not in (",", ")", "}"):
+        return []
+    method = nearest(code, place, ("fn",))
+    receiver = next(i for i in range(method, place) if code[i].text == "self")
+    word = "&mut " if code[receiver - 1].text == "mut" else "&"
+    return [Edit(code[place].start, code[place].start, word, "owned")]
+
+
+def of_buffers(code, place, crate):
+    """The edits of the buffers' storage, which is of one crate."""
+    return owned(code, place) + lent_again(code, place) if crate == STORAGE_CRATE else []
+
+
+def program_main(text, code, place):
+    """The edits of a program's `main`, which gets what it is handed by a name."""
+    if [one.text for one in code[place:place + 7]] != ["fn", "main", "(", "rt", ":", "HostRuntime", ")"]:
+        raise Unknown(text, code[place].start, "a main that takes something else")
+    body = next(one for one in code[place:] if one.text == "{")
+    return [Edit(code[place + 3].start, code[place + 5].end, "", "main"),
+            Edit(body.end, body.end, "\n    let rt = HostRuntime;", "main")]
+
+
+def paths(text, code, place, crate, crates, root):
+    """The edits of a word that begins a path."""
+    one, before, after = code[place], code[place - 1].text if place else "", code[place + 1].text
+    if before in ("::", ".") or (after != "::" and before != "use"):
+        return []
+    if one.text == "crate" and after == "::" and root == "crate":
+        return [Edit(one.start, one.end, f"crate::proved::{crate}", "crate")]
+    if one.text == "std" and after == "::":
+        return toolchain(text, code, place, root)
+    if one.text in crates:
+        return [Edit(one.start, one.end, f"{root}::proved::{one.text}", "other")]
+    if one.text in KIT_CRATES:
+        return [Edit(one.start, one.end, f"{root}::kit::{one.text}", "kit")]
+    return []
+
+
+def head_end(text, kept):
+    """Where the first token stands that is neither a comment on the file nor an attribute of it."""
+    place = 0
+    while place < len(kept):
+        if kept[place].text == "#" and kept[place + 1].text == "!":
+            place = next(i for i in range(place, len(kept)) if kept[i].text == "]") + 1
+        elif kept[place].text.startswith("//!"):
+            place += 1
+        else:
+            return kept[place].start
+    return len(text)
+
+
+def links(kept, crate, root):
+    """The edits of comments that link to a path in the crate."""
+    places = [one.start + found.start(1) for one in kept if one.kind == "comment" and root == "crate"
+              for found in re.finditer(r"\]\((crate)::", one.text)]
+    return [Edit(at, at + len("crate"), f"crate::proved::{crate}", "crate") for at in places]
+
+
+def imports(text, kept, code, root):
+    """The edit that adds what the toolchain's prelude has, and what a formatter's `write_char` needs."""
+    used = {one.text for one in code if one.kind == "word"}
+    named = {one.text for i, one in enumerate(code) if one.text in MACROS and code[i + 1].text == "!"}
+    wanted = sorted((used & PRELUDE) | named)
+    lines, at = [], head_end(text, kept)
+    if wanted:
+        names = wanted[0] if len(wanted) == 1 else "{" + ", ".join(wanted) + "}"
+        lines.append(Edit(at, at, f"use {root}::kit::{names};\n", "prelude"))
+    if "write_char" in used:
+        lines.append(Edit(at, at, "use core::fmt::Write as _;\n", "write_char"))
+    if lines and not text.startswith("use ", at):
+        lines[-1] = dataclasses.replace(lines[-1], new=lines[-1].new + "\n")
+    return lines
+
+
+def words(text, kept, crate, crates, root):
+    """The words that stand in place of others, and the cuts that need more than one token to be seen."""
+    code, edits = [one for one in kept if one.kind != "comment"], links(kept, crate, root)
+    for place, one in enumerate(code[:-1]):
+        edits += of_buffers(code, place, crate)
+        if one.text == "#" and code[place + 2].text == "derive":
+            edits += derived(code, place)
+        elif one.text == "#" and code[place + 2].text == "error":
+            edits.append(Edit(one.start, behind(text, code[place + 1].start, "[", "]"), "", "error"))
+        elif one.text == "Drop":
+            edits += bounds(code, place)
+        elif one.text == "<":
+            edits += formatter(code, place)
+        elif one.text == "fn" and code[place + 1].text == "main" and root != "crate" and code[place + 3].text != ")":
+            edits += program_main(text, code, place)
+        elif one.text == "fn":
+            edits += nearer(code, place, crate)
+        elif one.kind == "word":
+            edits += paths(text, code, place, crate, crates, root)
+    return edits + imports(text, kept, code, root)
+
+
+def whole_lines(text, edit):
+    """The cut with the ends of its lines, where nothing else stands on them."""
+    start, end = text.rfind("\n", 0, edit.start) + 1, text.find("\n", edit.end) + 1
+    alone = edit.end > edit.start and not edit.new and not (text[start:edit.start] + text[edit.end:end]).strip()
+    return dataclasses.replace(edit, start=start, end=end) if alone and end else edit
+
+
+def edits_of(text, crate, crates, root):
+    """What a source of a crate needs to be plain Rust. `crates` are those that are translated; `root` is `crate` in a
+    library, and the library's name in a program."""
+    kept, edits = cuts(text)
+    edits = [whole_lines(text, edit) for edit in edits + words(text, kept, crate, crates, root)]
+    return sorted(edits, key=lambda edit: (edit.start, edit.end))
+
+
+def edited(text, edits):
+    parts, at = [], 0
+    for edit in edits:
+        if edit.start < at:
+            raise Unknown(text, edit.start, f"{edit.form} within another form")
+        parts += [text[at:edit.start], edit.new]
+        at = edit.end
+    return "".join([*parts, text[at:]])
+
+
+def variants(text, code, place):
+    """The name of the enum at a place, and of each variant its name, how many fields it has, and its message."""
+    name, found, place = code[place + 1].text, [], place + 2
+    if code[place].text != "{":
+        raise Unknown(text, code[place].start, "thiserror on an enum with parameters")
+    place += 1
+    while code[place].text != "}":
+        if [one.text for one in code[place:place + 3]] != ["#", "[", "error"]:
+            raise Unknown(text, code[place].start, "a variant without a message of thiserror")
+        message, variant = code[place + 4], code[place + 7]
+        place, fields = place + 8, 0
+        if code[place].text == "(":
+            end = next(i for i in range(place, len(code)) if code[i].text == ")")
+            fields = 1 + sum(one.text == "," for one in code[place:end])
+            place = end + 1
+        if code[place].text == "{":
+            raise Unknown(text, code[place].start, "thiserror on a variant with named fields")
+        place += code[place].text == ","
+        found.append((variant.text, fields, message))
+    return name, found
+
+
+def arm(name, variant, fields, message):
+    bound = [f"_{i}" for i in range(fields)]
+    pattern = f"{name}::{variant}" + (f"({', '.join(bound)})" if bound else "")
+    if message.text == "transparent":
+        return f"{pattern} => core::fmt::Display::fmt(_0, f),"
+    if not bound:
+        return f"{pattern} => f.write_str({message.text}),"
+    return f"{pattern} => write!(f, {', '.join([message.text, *bound])}),"
+
+
+def displays(text):
+    """What thiserror derives for the enums of a source: `Display`, and `Error`."""
+    code, written = [one for one in cuts(text)[0] if one.kind != "comment"], []
+    for place, one in enumerate(code):
+        if one.text != "Error" or code[place - 1].text not in (",", "(") or code[place + 1].text not in (")", ","):
+            continue
+        start = next((i for i in range(place, min(place + 12, len(code))) if code[i].text in ("enum", "struct")), None)
+        if start is None:
+            continue
+        if code[start].text == "struct":
+            raise Unknown(text, code[start].start, "thiserror on a struct")
+        name, found = variants(text, code, start)
+        arms = "\n".join(arm(name, *one) for one in found)
+        written.append(f"\n// What thiserror derives.\nimpl core::fmt::Display for {name} {{\n"
+                       f"fn fmt(&self, f: &mut core::fmt::Formatter<'_>) -> core::fmt::Result {{\n"
+                       f"match self {{\n{arms}\n}}\n}}\n}}\n\nimpl core::error::Error for {name} {{}}\n")
+    return "".join(written)
+
+
+def plain(text, crate, crates, root):
+    """The source as plain Rust, not formatted yet."""
+    return edited(text, edits_of(text, crate, crates, root)) + displays(text)

@@ -1,0 +1,58 @@
+//! What stands in for the library of the proved sources' toolchain, where Rust's own has another form: vectors and
+//! strings that are given an allocator and may be refused memory, ChaCha20, and what a program is handed.
+//!
+//! It is written by hand, and not proved.
+pub mod alloc;
+mod chacha;
+#[cfg(feature = "alloc")]
+pub mod collections;
+#[cfg(feature = "std")]
+pub mod env;
+#[cfg(feature = "std")]
+pub mod fs;
+#[cfg(feature = "std")]
+pub mod io;
+#[cfg(feature = "std")]
+mod runtime;
+pub mod simd;
+mod storage;
+#[cfg(feature = "alloc")]
+mod string;
+#[cfg(feature = "alloc")]
+mod vec;
+
+pub use chacha::{rand_chacha, rand_core};
+#[cfg(feature = "std")]
+pub use runtime::HostRuntime;
+pub use storage::Storage;
+#[cfg(feature = "alloc")]
+pub use string::String;
+#[cfg(feature = "alloc")]
+pub use vec::Vec;
+
+/// A vector of one item so many times, as `vec![in alloc; 0u8; 10]`: an error where there is no memory for it.
+#[cfg(feature = "alloc")]
+#[doc(hidden)]
+#[macro_export]
+macro_rules! __vec {
+    (in $alloc:expr; $item:expr; $count:expr) => {
+        $crate::kit::Vec::filled($alloc, $item, $count)
+    };
+    (in $alloc:expr; $($item:expr),+ $(,)?) => {
+        $crate::kit::Vec::from_array($alloc, [$($item),+])
+    };
+}
+#[cfg(feature = "alloc")]
+pub use crate::__vec as vec;
+
+/// A text of values, as `format!(in alloc; "{a}")`: an error where there is no memory for it.
+#[cfg(feature = "alloc")]
+#[doc(hidden)]
+#[macro_export]
+macro_rules! __format {
+    (in $alloc:expr; $($text:tt)*) => {
+        $crate::kit::String::written($alloc, ::core::format_args!($($text)*))
+    };
+}
+#[cfg(feature = "alloc")]
+pub use crate::__format as format;

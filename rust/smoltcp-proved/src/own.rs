@@ -1,0 +1,101 @@
+//! Packets from an interface to itself, on a device that may hand back what is sent: [`net_host`] drops them, as from
+//! others they would be forged (RFC 1122, section 3.2.1.3). By hand, and not proved: which socket hears one; each call
+//! of that socket is.
+use crate::proved::ip_wire::{ChecksumCapabilities, IpAddress, IpProtocol, IpRepr, Ipv6Address};
+use crate::proved::net_base::Instant;
+use crate::proved::net_host::{self, Secret, SocketHandle};
+use crate::proved::segment_wire::packet::{carried, emit_tcp, parse_tcp, parse_udp};
+use crate::proved::smoltcp_socket::{Context, Socket};
+use crate::proved::sock_tcp::{self, State};
+
+type Host = net_host::Interface<Secret>;
+
+/// Hands a segment or a datagram between own addresses to its socket: the length of the answer in `reply`, and `None`
+/// where it is no such packet.
+pub(crate) fn hear(
+    host: &mut Host,
+    loops_back: bool,
+    (set, handles): (&mut net_host::SocketSet<'_>, &[Option<SocketHandle>]),
+    now: Instant,
+    packet: &[u8],
+    reply: &mut [u8],
+) -> Option<usize> {
+    if !loops_back || !is_between_own(host, packet) {
+        return None;
+    }
+    host.inner.environment.set_now(now);
+    let (ip, _) = carried(packet, &host.context().checksum_caps())?;
+    match ip.next_header() {
+        IpProtocol::Tcp => Some(hear_segment(host, set, handles, packet, reply)),
+        IpProtocol::Udp => {
+            hear_datagram(host, set, handles, packet);
+            Some(0)
+        }
+        _ => None,
+    }
+}
+
+// By the bytes where the addresses stand, before anything is looked at: few packets are.
+fn is_between_own(host: &Host, packet: &[u8]) -> bool {
+    let own = |addr: IpAddress| host.inner.environment.has_ip_addr(&addr);
+    match packet {
+        [0x40..=0x4f, ..] if packet.len() >= 20 => {
+            let addr = |at: usize| IpAddress::v4(packet[at], packet[at + 1], packet[at + 2], packet[at + 3]);
+            own(addr(12)) && own(addr(16))
+        }
+        [0x60..=0x6f, ..] if packet.len() >= 40 => {
+            let addr = |at: usize| {
+                <[u8; 16]>::try_from(&packet[at..at + 16]).map(|octets| Ipv6Address(octets).into())
+            };
+            addr(8).is_ok_and(own) && addr(24).is_ok_and(own)
+        }
+        _ => false,
+    }
+}
+
+// A connection that accepts it comes before a socket that listens; one for no socket is answered by an RST.
+fn hear_segment(
+    host: &mut Host,
+    set: &mut net_host::SocketSet<'_>,
+    handles: &[Option<SocketHandle>],
+    packet: &[u8],
+    reply: &mut [u8],
+) -> usize {
+    let (cx, caps) = (host.context(), ChecksumCapabilities::default());
+    let Ok((ip, repr)) = parse_tcp(packet, &cx.checksum_caps()) else { return 0 };
+    let wanted = |listens: bool| {
+        handles.iter().flatten().copied().find(|handle| match set.get(*handle) {
+            Some(Socket::Tcp(tcp)) => {
+                (tcp.state() == State::Listen) == listens && tcp.accepts(cx, &ip, &repr)
+            }
+            _ => false,
+        })
+    };
+    let answer = match wanted(false).or_else(|| wanted(true)) {
+        Some(handle) => set.tcp_mut(handle).and_then(|tcp| tcp.process(cx, &ip, &repr)),
+        None if repr.control == crate::proved::control_wire::TcpControl::Rst => None,
+        None => Some(sock_tcp::Socket::rst_reply(&ip, &repr)),
+    };
+    let Some((ip, repr)) = answer else { return 0 };
+    let len = ip.header_len() + ip.payload_len();
+    emit_tcp(&ip, &repr, &mut reply[..len], &caps);
+    len
+}
+
+fn hear_datagram(
+    host: &mut Host,
+    set: &mut net_host::SocketSet<'_>,
+    handles: &[Option<SocketHandle>],
+    packet: &[u8],
+) {
+    let cx = host.context();
+    let Ok((ip, repr, payload)) = parse_udp(packet, &cx.checksum_caps()) else { return };
+    let accepts = |ip: &IpRepr, handle| match set.get(handle) {
+        Some(Socket::Udp(udp)) => udp.accepts(cx, ip, &repr),
+        _ => false,
+    };
+    let found = handles.iter().flatten().copied().find(|handle| accepts(&ip, *handle));
+    if let Some(udp) = found.and_then(|handle| set.udp_mut(handle)) {
+        udp.process(cx, &ip, &repr, payload);
+    }
+}

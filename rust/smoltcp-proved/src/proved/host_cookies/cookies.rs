@@ -1,0 +1,74 @@
+// Made from crates/host_cookies/src/cookies.rt by rust/translate: change it there.
+//! Who is answered without a socket, and whose answer is believed.
+
+use crate::kit::rand_chacha::ChaCha20Rng;
+use crate::kit::rand_core::SeedableRng;
+use crate::proved::host_cookies::call::Call;
+use crate::proved::host_cookies::mix::{mixed, tag_of};
+
+// A step of time, in microseconds.
+const STEP: u128 = 64_000_000;
+
+/// Answers to SYNs that hold no socket (RFC 4987, section 3.6).
+#[derive(Clone, Copy)]
+pub struct SynCookies {
+    pub(crate) key: [u8; 32],
+    pub(crate) kept_from: usize,
+}
+
+impl SynCookies {
+    /// Under this key, which has to be drawn anew at each start of the program, and be told to nobody. The sockets of
+    /// a set from the place `kept_from` on are kept for peers that answer: as long as one of those alone listens for
+    /// a SYN, the SYN is answered, and no socket takes it.
+    pub fn new(key: [u8; 32], kept_from: usize) -> SynCookies {
+        SynCookies { key, kept_from }
+    }
+
+    /// From which place on sockets are kept for peers that answer.
+    pub fn kept_from(&self) -> usize {
+        self.kept_from
+    }
+
+    /// The number of the answer to a SYN that told a largest segment of this class, at this moment in microseconds.
+    pub fn number(&self, call: &Call, class: u8, micros: i64) -> u32 {
+        let mut words = ChaCha20Rng::from_seed(self.key);
+        let tag = tag_of(&mut words, call);
+        numbered(&mut words, tag, step_of(micros), class)
+    }
+
+    /// The class of the SYN that a number of this moment, or of up to 64 seconds before, answers, where it is that of
+    /// an answer to this call.
+    pub fn recognised(&self, call: &Call, number: u32, micros: i64) -> Option<u8> {
+        let mut words = ChaCha20Rng::from_seed(self.key);
+        let tag = tag_of(&mut words, call);
+        recognised(&mut words, tag, step_of(micros), number)
+    }
+}
+
+fn step_of(micros: i64) -> u64 {
+    ((i128::from(micros) + 9_223_372_036_854_775_808).unsigned_abs() / STEP) as u64
+}
+
+fn numbered(words: &mut ChaCha20Rng, tag: u64, step: u64, class: u8) -> u32 {
+    let mix = mixed(words, tag, step * 8 + u64::from(class)) % 536_870_912;
+    u32::from(class) * 536_870_912 + mix as u32
+}
+
+fn recognised(words: &mut ChaCha20Rng, tag: u64, step: u64, number: u32) -> Option<u8> {
+    let class = class_in(number);
+    if number == numbered(words, tag, step, class)
+        || number == numbered(words, tag, step.saturating_sub(1), class)
+    {
+        Some(class)
+    } else {
+        None
+    }
+}
+
+fn class_in(number: u32) -> u8 {
+    (number / 536_870_912) as u8
+}
+
+/// Within 64 seconds the number of an answer is recognised, as of the class of its SYN: of the same step of time, or of
+/// the next one.
+pub fn answers_are_recognised() {}

@@ -1,0 +1,33 @@
+// Made from crates/host_index/src/entry.rt by rust/translate: change it there.
+//! Places under keys.
+
+/// A place under a key.
+#[derive(Debug, Clone, Copy, PartialEq, Eq)]
+pub struct Entry {
+    /// The first part of the key.
+    pub major: u128,
+    /// The second part.
+    pub minor: u64,
+    /// The place.
+    pub place: usize,
+}
+
+/// Which of the two keys of a place.
+#[derive(Debug, Clone, Copy, PartialEq, Eq)]
+pub enum Which {
+    First,
+    Second,
+}
+
+pub(crate) fn is_less(a: Entry, b: Entry) -> bool {
+    a.major < b.major || a.major == b.major && (a.minor < b.minor || a.minor == b.minor && a.place < b.place)
+}
+
+pub(crate) fn is_entry(a: Entry, b: Entry) -> bool {
+    a.major == b.major && a.minor == b.minor && a.place == b.place
+}
+
+// Whether the key of one stands before that of the other.
+pub(crate) fn is_key_less(a: Entry, b: Entry) -> bool {
+    a.major < b.major || a.major == b.major && a.minor < b.minor
+}

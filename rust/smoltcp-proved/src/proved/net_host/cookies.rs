@@ -1,0 +1,222 @@
+// Made from crates/net_host/src/cookies.rt by rust/translate: change it there.
+//! SYN cookies: a SYN is answered and no socket holds it, and who answers that is believed (RFC 4987, section 3.6).
+
+use crate::proved::control_wire::TcpSeqNumber;
+use crate::proved::host_cookies::cookies::answers_are_recognised;
+use crate::proved::host_cookies::{Call, SynCookies, class_of, mss_of};
+use crate::proved::net_host::rest::opens;
+use crate::proved::net_host::segments::Taker;
+use crate::proved::net_host::slot::Slot;
+use crate::proved::smoltcp_socket::time::Instant;
+use crate::proved::smoltcp_socket::wire::{
+    ChecksumCapabilities, IpAddress, IpProtocol, IpRepr, Ipv4Address, Ipv6Address, TcpControl, TcpRepr,
+};
+use crate::proved::smoltcp_socket::{Context, Socket};
+use crate::proved::sock_tcp::Reply;
+
+/// What becomes of a segment where SYNs may be answered without a socket.
+#[derive(Debug, Clone, Copy, PartialEq, Eq)]
+pub enum Course {
+    /// What becomes of it where they are not.
+    Plain,
+    /// What becomes of an acknowledgement that no socket takes and that carries no valid cookie.
+    Doubted,
+    /// A SYN is answered with this number, and the listener at this place is kept.
+    Answered(usize, u32),
+    /// An acknowledgement of this number: the SYN before it, which told this class, goes to its taker, and then itself.
+    Believed(u8, u32),
+}
+
+/// A context whose next word is a number that was told.
+pub struct Told<'c, C> {
+    pub(crate) cx: &'c C,
+    pub(crate) word: u32,
+}
+
+impl<'c, C: Context> Context for Told<'c, C> {
+    fn now(&self) -> Instant {
+        self.cx.now()
+    }
+
+    fn has_ip_addr(&self, addr: IpAddress) -> bool {
+        self.cx.has_ip_addr(addr)
+    }
+
+    fn get_source_address(&self, dst: &IpAddress) -> Option<IpAddress> {
+        self.cx.get_source_address(dst)
+    }
+
+    fn get_source_address_ipv4(&self, dst: &Ipv4Address) -> Option<Ipv4Address> {
+        self.cx.get_source_address_ipv4(dst)
+    }
+
+    fn get_source_address_ipv6(&self, dst: &Ipv6Address) -> Ipv6Address {
+        self.cx.get_source_address_ipv6(dst)
+    }
+
+    fn is_broadcast(&self, addr: &IpAddress) -> bool {
+        self.cx.is_broadcast(addr)
+    }
+
+    fn ip_mtu(&self) -> usize {
+        self.cx.ip_mtu()
+    }
+
+    fn checksum_caps(&self) -> ChecksumCapabilities {
+        self.cx.checksum_caps()
+    }
+
+    fn rand_u32(&mut self) -> u32 {
+        self.word
+    }
+}
+
+fn call_of(ip: &IpRepr, repr: &TcpRepr<'_>, number: TcpSeqNumber) -> Call {
+    Call {
+        remote: ip.src_addr(),
+        local: ip.dst_addr(),
+        remote_port: repr.src_port,
+        local_port: repr.dst_port,
+        number: number.0,
+    }
+}
+
+// What an acknowledgement that may answer a SYN|ACK acknowledges.
+fn acked_by(repr: &TcpRepr<'_>) -> Option<TcpSeqNumber> {
+    match repr.control {
+        TcpControl::Syn | TcpControl::Rst => None,
+        _ => repr.ack_number,
+    }
+}
+
+/// The SYN before an acknowledgement, which told this class.
+pub(crate) fn syn_before(repr: &TcpRepr<'_>, class: u8) -> TcpRepr<'static> {
+    let mut syn = TcpRepr::bare(repr.src_port, repr.dst_port);
+    syn.control = TcpControl::Syn;
+    syn.seq_number = repr.seq_number.minus(1);
+    syn.window_len = repr.window_len;
+    syn.max_seg_size = mss_of(class);
+    syn
+}
+
+// The class of the SYN that this number answers.
+fn class_told(
+    cookies: &SynCookies,
+    now: Instant,
+    ip: &IpRepr,
+    repr: &TcpRepr<'_>,
+    number: TcpSeqNumber,
+) -> Option<u8> {
+    let call = call_of(ip, repr, repr.seq_number.minus(1));
+    cookies.recognised(&call, number.0, now.micros)
+}
+
+fn doubted_by(cookies: &SynCookies, now: Instant, ip: &IpRepr, repr: &TcpRepr<'_>) -> Course {
+    match acked_by(repr) {
+        None => Course::Plain,
+        Some(ack) => {
+            let number = ack.minus(1);
+            match class_told(cookies, now, ip, repr, number) {
+                Some(class) => Course::Believed(class, number.0),
+                None => Course::Doubted,
+            }
+        }
+    }
+}
+
+fn kept_or(cookies: &SynCookies, place: usize, now: Instant, ip: &IpRepr, repr: &TcpRepr<'_>) -> Course {
+    if cookies.kept_from() <= place && opens(repr) {
+        let call = call_of(ip, repr, repr.seq_number);
+        let number = cookies.number(&call, class_of(repr.max_seg_size), now.micros);
+        Course::Answered(place, number)
+    } else {
+        Course::Plain
+    }
+}
+
+fn course_under(cookies: &SynCookies, taker: Taker, now: Instant, ip: &IpRepr, repr: &TcpRepr<'_>) -> Course {
+    match taker {
+        Taker::Listener(place) => kept_or(cookies, place, now, ip, repr),
+        Taker::Nobody => doubted_by(cookies, now, ip, repr),
+        _ => Course::Plain,
+    }
+}
+
+/// What becomes of a segment that this taker has.
+pub(crate) fn course_of<C: Context>(
+    cookies: &Option<SynCookies>,
+    taker: Taker,
+    cx: &C,
+    ip: &IpRepr,
+    repr: &TcpRepr<'_>,
+) -> Course {
+    match cookies {
+        None => Course::Plain,
+        Some(cookies) => course_under(cookies, taker, cx.now(), ip, repr),
+    }
+}
+
+// ---- the answer
+
+impl<G> Slot<'_, G> {
+    fn room(&self) -> usize {
+        match &self.socket {
+            Some(Socket::Tcp(tcp)) => tcp.recv_capacity(),
+            _ => 0,
+        }
+    }
+}
+
+/// How many bytes the receive buffer of the socket at this place holds.
+pub(crate) fn room_at<G>(slots: &[Slot<'_, G>], place: usize) -> usize {
+    match slots.get(place) {
+        Some(slot) => slot.room(),
+        None => 0,
+    }
+}
+
+// The size of a segment that the host may receive.
+fn own_mss<C: Context>(cx: &C, own: &IpAddress) -> u16 {
+    let mtu = cx.ip_mtu();
+    match own {
+        IpAddress::Ipv4(_) => (mtu - 40) as u16,
+        IpAddress::Ipv6(_) => (mtu.max(576) - 60) as u16,
+    }
+}
+
+fn answer_segment<C: Context>(
+    cx: &C,
+    room: usize,
+    number: u32,
+    ip: &IpRepr,
+    repr: &TcpRepr<'_>,
+) -> TcpRepr<'static> {
+    let mut answer = TcpRepr::bare(repr.dst_port, repr.src_port);
+    answer.control = TcpControl::Syn;
+    answer.seq_number = TcpSeqNumber(number);
+    answer.ack_number = Some(repr.seq_number.plus(1));
+    answer.window_len = room.min(65535) as u16;
+    answer.max_seg_size = Some(own_mss(cx, &ip.dst_addr()));
+    answer
+}
+
+/// The SYN|ACK that answers a SYN with this number.
+// Not inlined, as few segments come here.
+#[inline(never)]
+pub(crate) fn answer_of<C: Context>(
+    cx: &C,
+    room: usize,
+    number: u32,
+    ip: &IpRepr,
+    repr: &TcpRepr<'_>,
+) -> Reply {
+    let answer = answer_segment(cx, room, number, ip, repr);
+    let header = IpRepr::new(ip.dst_addr(), ip.src_addr(), IpProtocol::Tcp, answer.buffer_len(), 64);
+    (header, answer)
+}
+
+/// Where no socket takes it, the acknowledgement of an answer is believed within 64 seconds: as of the class that the
+/// SYN told, and of the number of the answer.
+pub fn answers_are_believed() {
+    answers_are_recognised();
+}

@@ -1,0 +1,243 @@
+// Made from crates/net_host/src/find.rt by rust/translate: change it there.
+//! Walks through the places under a key.
+
+use crate::proved::host_index::{Entry, Index};
+use crate::proved::net_host::filing::{order, rest_major};
+use crate::proved::net_host::slot::Slot;
+use crate::proved::smoltcp_socket::Context;
+use crate::proved::smoltcp_socket::time::Instant;
+use crate::proved::smoltcp_socket::wire::{IpRepr, TcpRepr};
+use crate::proved::sock_tcp::TsvalSource;
+
+/// What is looked for, for a segment.
+#[derive(Debug, Clone, Copy, PartialEq, Eq)]
+pub enum Sought {
+    /// A connection that accepts it.
+    Connection,
+    /// A socket that listens and accepts it.
+    Listener,
+    /// A socket that serves its port.
+    Server,
+}
+
+/// Where an entry stands, seen from those under a key.
+#[derive(Debug, Clone, Copy, PartialEq, Eq)]
+pub enum Side {
+    Before,
+    Under,
+    Behind,
+}
+
+pub(crate) fn stands(entry: Entry, key: Entry) -> Side {
+    if entry.major < key.major || entry.major == key.major && entry.minor < key.minor {
+        return Side::Before;
+    }
+    if entry.major == key.major && entry.minor == key.minor {
+        return Side::Under;
+    }
+    Side::Behind
+}
+
+fn stands_of(entry: Entry, major: u128) -> Side {
+    if entry.major < major {
+        return Side::Before;
+    }
+    if entry.major == major {
+        return Side::Under;
+    }
+    Side::Behind
+}
+
+impl<'a, G: TsvalSource> Slot<'a, G> {
+    pub(crate) fn fits<C: Context>(&self, cx: &C, sought: Sought, ip: &IpRepr, repr: &TcpRepr<'_>) -> bool {
+        match sought {
+            Sought::Connection => self.takes_segment(cx, false, ip, repr),
+            Sought::Listener => self.takes_segment(cx, true, ip, repr),
+            Sought::Server => self.serves(ip, repr),
+        }
+    }
+}
+
+#[inline(always)]
+fn fits_at<C: Context, G: TsvalSource>(
+    slots: &[Slot<'_, G>],
+    place: usize,
+    cx: &C,
+    sought: Sought,
+    ip: &IpRepr,
+    repr: &TcpRepr<'_>,
+) -> bool {
+    match slots.get(place) {
+        Some(slot) => slot.fits(cx, sought, ip, repr),
+        None => false,
+    }
+}
+
+/// The first place under the key, where that is known and its socket fits.
+#[inline(always)]
+pub(crate) fn known_in<C: Context, G: TsvalSource>(
+    slots: &[Slot<'_, G>],
+    index: &Index,
+    key: Entry,
+    cx: &C,
+    sought: Sought,
+    ip: &IpRepr,
+    repr: &TcpRepr<'_>,
+) -> Option<usize> {
+    match index.known(key) {
+        Some(place) => {
+            if fits_at(slots, place, cx, sought, ip, repr) {
+                Some(place)
+            } else {
+                None
+            }
+        }
+        None => None,
+    }
+}
+
+/// The first place under the key whose socket fits.
+#[inline(always)]
+pub(crate) fn first_in<C: Context, G: TsvalSource>(
+    slots: &[Slot<'_, G>],
+    index: &Index,
+    key: Entry,
+    cx: &C,
+    sought: Sought,
+    ip: &IpRepr,
+    repr: &TcpRepr<'_>,
+) -> Option<usize> {
+    match known_in(slots, index, key, cx, sought, ip, repr) {
+        Some(place) => Some(place),
+        None => first_from(slots, index, index.lower(key), key, cx, sought, ip, repr),
+    }
+}
+
+/// The first slot under a key that takes the segment, where each entry mostly stands behind the key, as where nothing
+/// listens: that is seen by one look.
+#[inline(always)]
+pub(crate) fn first_if_any<C: Context, G: TsvalSource>(
+    slots: &[Slot<'_, G>],
+    index: &Index,
+    key: Entry,
+    cx: &C,
+    sought: Sought,
+    ip: &IpRepr,
+    repr: &TcpRepr<'_>,
+) -> Option<usize> {
+    let _count = slots.len(); // for its bound
+    if index.is_behind(key) {
+        return None;
+    }
+    first_in(slots, index, key, cx, sought, ip, repr)
+}
+
+/// The first slot under a key that takes the segment, where the key was sought, and the first slot under it is not
+/// known or does not fit.
+#[inline(always)]
+pub(crate) fn first_sought<C: Context, G: TsvalSource>(
+    slots: &[Slot<'_, G>],
+    index: &Index,
+    key: Entry,
+    cx: &C,
+    sought: Sought,
+    ip: &IpRepr,
+    repr: &TcpRepr<'_>,
+) -> Option<usize> {
+    first_from(slots, index, index.lower(key), key, cx, sought, ip, repr)
+}
+
+// The same, from where the entries under the key begin.
+#[inline(always)]
+fn first_from<C: Context, G: TsvalSource>(
+    slots: &[Slot<'_, G>],
+    index: &Index,
+    from: usize,
+    key: Entry,
+    cx: &C,
+    sought: Sought,
+    ip: &IpRepr,
+    repr: &TcpRepr<'_>,
+) -> Option<usize> {
+    let _count = slots.len(); // for its bound
+    for p in from..index.len() {
+        let entry = index.get(p);
+        match stands(entry, key) {
+            Side::Before => {}
+            Side::Under => {
+                if fits_at(slots, entry.place, cx, sought, ip, repr) {
+                    return Some(entry.place);
+                }
+            }
+            Side::Behind => return None,
+        }
+    }
+    None
+}
+
+/// The place that rests until the earliest moment, of those in TIME-WAIT that listened for the segment.
+pub(crate) fn earliest_in<G: TsvalSource>(
+    slots: &[Slot<'_, G>],
+    index: &Index,
+    ip: &IpRepr,
+    repr: &TcpRepr<'_>,
+) -> Option<(usize, Instant)> {
+    let _count = slots.len(); // for its bound
+    let major = rest_major(repr.dst_port);
+    let key = Entry { major, minor: 0, place: 0 };
+    for p in index.lower(key)..index.len() {
+        let entry = index.get(p);
+        match stands_of(entry, major) {
+            Side::Before => {}
+            Side::Under => {
+                if let Some(until) = rests_at(slots, entry, ip, repr) {
+                    return Some((entry.place, until));
+                }
+            }
+            Side::Behind => return None,
+        }
+    }
+    None
+}
+
+// Until when the socket rests that the entry leads to, where the entry says the same.
+fn rests_at<G: TsvalSource>(
+    slots: &[Slot<'_, G>],
+    entry: Entry,
+    ip: &IpRepr,
+    repr: &TcpRepr<'_>,
+) -> Option<Instant> {
+    match slots.get(entry.place) {
+        None => None,
+        Some(slot) => match slot.rests_until(ip, repr) {
+            None => None,
+            Some(until) => has_minor(order(until), entry.minor, until),
+        },
+    }
+}
+
+// The place, where it is before the end.
+fn if_before(place: usize, end: usize) -> Option<usize> {
+    if place < end { Some(place) } else { None }
+}
+
+/// The first place from one on, and before another, that has an entry under the key.
+pub(crate) fn next_under(index: &Index, key: Entry, start: usize, end: usize) -> Option<usize> {
+    let p = index.lower(Entry { major: key.major, minor: key.minor, place: start });
+    if index.len() <= p {
+        return None;
+    }
+    let entry = index.get(p);
+    match stands(entry, key) {
+        Side::Before => None,
+        Side::Under => if_before(entry.place, end),
+        Side::Behind => None,
+    }
+}
+
+fn has_minor(order: Option<u64>, minor: u64, until: Instant) -> Option<Instant> {
+    match order {
+        Some(order) if order == minor => Some(until),
+        _ => None,
+    }
+}

@@ -1,0 +1,77 @@
+// Made from crates/net_host/src/lent_turns.rt by rust/translate: change it there.
+//! A guard looks at its socket, and a socket has its turn, in a set with an index.
+
+use crate::kit::Vec;
+use crate::proved::net_host::environment::Environment;
+use crate::proved::net_host::guard::GuardSettings;
+use crate::proved::net_host::limits::Limits;
+use crate::proved::net_host::set::SocketSet;
+use crate::proved::net_host::sight::Sight;
+use crate::proved::net_host::slot::Slot;
+use crate::proved::net_host::wire::TooShort;
+use crate::proved::smoltcp_socket::time::Instant;
+use crate::proved::smoltcp_socket::wire::IpAddress;
+use crate::proved::sock_tcp::TsvalSource;
+
+fn sight_at<G: TsvalSource>(slots: &[Slot<'_, G>], i: usize, limits: &Limits, now: Instant) -> Sight {
+    slots[i].sight(limits, now)
+}
+
+fn keep_there<G: TsvalSource>(
+    slots: &mut Vec<Slot<'_, G>>,
+    i: usize,
+    limits: &Limits,
+    now: Instant,
+    sight: &Sight,
+) {
+    slots[i].keep(limits, now, sight);
+}
+
+fn watch_there<G: TsvalSource>(
+    slots: &mut Vec<Slot<'_, G>>,
+    i: usize,
+    settings: &GuardSettings,
+    now: Instant,
+) {
+    slots[i].watch(settings, now);
+}
+
+// Not inlined, as few looks come here.
+#[inline(never)]
+fn watch_lent<G: TsvalSource>(
+    sockets: &mut SocketSet<'_, G>,
+    i: usize,
+    settings: &GuardSettings,
+    now: Instant,
+) {
+    sockets.lend(i);
+    watch_there(&mut sockets.slots, i, settings, now);
+}
+
+// What is not ended keeps its keys.
+fn watch_kept<G: TsvalSource>(sockets: &mut SocketSet<'_, G>, i: usize, now: Instant, sight: &Sight) {
+    sockets.bounds.set(i, i64::MIN);
+    sockets.settled = false;
+    keep_there(&mut sockets.slots, i, &sockets.terms.guards, now, sight);
+}
+
+/// The guard of the socket at this place looks at it.
+pub(crate) fn watch_at<G: TsvalSource>(sockets: &mut SocketSet<'_, G>, i: usize, now: Instant) {
+    let sight = sight_at(&sockets.slots, i, &sockets.terms.guards, now);
+    if sight.is_over(now) {
+        let guards = sockets.terms.guards.settings();
+        watch_lent(sockets, i, &guards, now);
+    } else {
+        watch_kept(sockets, i, now, &sight);
+    }
+}
+
+/// The socket at this place has its turn.
+pub(crate) fn turn_there<G: TsvalSource>(
+    slots: &mut Vec<Slot<'_, G>>,
+    i: usize,
+    environment: &Environment,
+    out: &mut [u8],
+) -> (Result<(), TooShort>, usize) {
+    slots[i].take_turn(environment, out)
+}

@@ -1,0 +1,55 @@
+// Made from crates/net_host/src/speak.rt by rust/translate: change it there.
+//! Who speaks next.
+
+use crate::proved::host_context::Words;
+use crate::proved::net_host::environment::Environment;
+use crate::proved::net_host::inner::InterfaceInner;
+use crate::proved::net_host::lent_turns::turn_there;
+use crate::proved::net_host::looking::next_due;
+use crate::proved::net_host::set::SocketSet;
+use crate::proved::net_host::wire::TooShort;
+use crate::proved::smoltcp_socket::wire::IpAddress;
+use crate::proved::sock_tcp::TsvalSource;
+
+// The socket at this place has its turn: apart from `emit`, which mostly finds nobody to speak, so that it stays short.
+#[inline(never)]
+fn turn_at<G: TsvalSource>(
+    sockets: &mut SocketSet<'_, G>,
+    i: usize,
+    environment: &Environment,
+    out: &mut [u8],
+) -> (Result<(), TooShort>, usize) {
+    sockets.lend(i);
+    turn_there(&mut sockets.slots, i, environment, out)
+}
+
+/// The sockets that are due have their turns, from the place whose turn it is on, until one of them has written a
+/// packet: its length, or 0 where none is due. Before each turn guards look at the sockets that may want to be asked.
+/// `TooShort` where the packet does not fit; its socket offers it again.
+pub(crate) fn speak<W: Words, G: TsvalSource>(
+    sockets: &mut SocketSet<'_, G>,
+    turn: &mut usize,
+    cx: &InterfaceInner<W>,
+    out: &mut [u8],
+) -> Result<usize, TooShort> {
+    speak_on(sockets, turn, cx, out)
+}
+
+fn speak_on<W: Words, G: TsvalSource>(
+    sockets: &mut SocketSet<'_, G>,
+    turn: &mut usize,
+    cx: &InterfaceInner<W>,
+    out: &mut [u8],
+) -> Result<usize, TooShort> {
+    while let Some(i) = next_due(sockets, cx, *turn) {
+        *turn = i + 1;
+        let (answer, len) = turn_at(sockets, i, &cx.environment, out);
+        if answer.is_err() {
+            return Err(TooShort);
+        }
+        if len > 0 {
+            return Ok(len);
+        }
+    }
+    Ok(0)
+}

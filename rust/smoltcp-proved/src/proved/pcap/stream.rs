@@ -1,0 +1,137 @@
+// Made from crates/pcap/src/stream.rt by rust/translate: change it there.
+//! The pcap format (draft-ietf-opsawg-pcap): a header of 24 bytes, and then packets, each behind a header of 16 bytes.
+
+use crate::proved::ip_wire::octets::{be16, be32_at, put_three};
+
+/// The length of a stream's header, in bytes.
+pub const HEADER: usize = 24;
+
+/// The length of a record's header, in bytes.
+pub const RECORD: usize = 16;
+
+/// The longest packet that is read or written, in bytes: the longest of IPv4.
+pub const LONGEST: usize = 65535;
+
+// LINKTYPE_RAW: each packet begins with its IPv4 or IPv6 header.
+const RAW: usize = 101;
+
+/// What is wrong with a stream.
+#[derive(Debug, Clone, Copy, PartialEq, Eq)]
+pub enum PcapError {
+    Magic,
+    LinkType,
+    TooLong,
+    Cut,
+}
+
+/// How the numbers of a stream are written.
+#[derive(Debug, Clone, Copy, PartialEq, Eq)]
+pub struct Format {
+    /// Whether the first byte of a number is its lowest.
+    pub little: bool,
+    /// Whether the parts of a second are nanoseconds, and not microseconds.
+    pub nanos: bool,
+}
+
+/// The header of a record.
+#[derive(Debug, Clone, Copy, PartialEq, Eq)]
+pub struct Record {
+    /// When the packet came, in microseconds.
+    pub micros: usize,
+    /// How many bytes of it follow, at most 65535. Where none does, no packet came, and only time went by.
+    pub len: usize,
+    /// Whether those are all of its bytes.
+    pub whole: bool,
+}
+
+impl Format {
+    /// Reads the header of a stream: `Magic` where it begins with none of the four magic numbers, `LinkType` where its
+    /// packets are not raw IP.
+    pub fn of_header(header: &[u8]) -> Result<Format, PcapError> {
+        let format = of_magic(be32_at(header, 0))?;
+        if format.number_at(header, 20) % 0x1000_0000 == RAW { Ok(format) } else { Err(PcapError::LinkType) }
+    }
+
+    /// Reads the header of a record: `TooLong` where more than 65535 bytes follow.
+    pub fn record(&self, header: &[u8]) -> Result<Record, PcapError> {
+        let len = self.number_at(header, 8);
+        if len > LONGEST {
+            return Err(PcapError::TooLong);
+        }
+        Ok(Record {
+            micros: self.micros(self.number_at(header, 0), self.number_at(header, 4)),
+            len,
+            whole: self.number_at(header, 12) <= len,
+        })
+    }
+
+    fn micros(&self, secs: usize, part: usize) -> usize {
+        secs * 1_000_000 + if self.nanos { part / 1000 } else { part }
+    }
+
+    // The number of the four bytes at `at`.
+    fn number_at(&self, bytes: &[u8], at: usize) -> usize {
+        if self.little { le32_at(bytes, at) } else { be32_at(bytes, at) }
+    }
+}
+
+fn of_magic(magic: usize) -> Result<Format, PcapError> {
+    let (little, nanos) = match magic {
+        0xa1b2_c3d4 => (false, false),
+        0xa1b2_3c4d => (false, true),
+        0xd4c3_b2a1 => (true, false),
+        0x4d3c_b2a1 => (true, true),
+        _ => return Err(PcapError::Magic),
+    };
+    Ok(Format { little, nanos })
+}
+
+fn le32_at(bytes: &[u8], at: usize) -> usize {
+    bytes[at] as usize
+        + 256 * bytes[at + 1] as usize
+        + 65536 * bytes[at + 2] as usize
+        + 16777216 * bytes[at + 3] as usize
+}
+
+/// The header of a stream of raw IP packets with microseconds, the highest byte of each number first.
+pub fn stream_header() -> [u8; HEADER] {
+    [0xa1, 0xb2, 0xc3, 0xd4, 0, 2, 0, 4, 0, 0, 0, 0, 0, 0, 0, 0, 0, 0, 0xff, 0xff, 0, 0, 0, 101]
+}
+
+/// Writes the header of the record of a packet of `len` bytes into the first 16 bytes of `buffer`. The seconds count
+/// modulo 2^32.
+pub fn put_record_header(buffer: &mut [u8], micros: usize, len: usize) {
+    let (secs, part) = (be32(micros / 1_000_000), be32(micros % 1_000_000));
+    put_three(buffer, &secs, &part, &twice(be32(len)));
+}
+
+fn be32(number: usize) -> [u8; 4] {
+    let [a, b] = be16(number / 65536);
+    let [c, d] = be16(number);
+    [a, b, c, d]
+}
+
+fn twice(number: [u8; 4]) -> [u8; 8] {
+    let [a, b, c, d] = number;
+    [a, b, c, d, a, b, c, d]
+}
+
+/// The written header of a stream is read back.
+pub fn header_reads_back() {}
+
+/// The written header of a record is read back, where its second fits 32 bits.
+pub fn records_read_back() {}
+
+// What thiserror derives.
+impl core::fmt::Display for PcapError {
+    fn fmt(&self, f: &mut core::fmt::Formatter<'_>) -> core::fmt::Result {
+        match self {
+            PcapError::Magic => f.write_str("not a pcap stream"),
+            PcapError::LinkType => f.write_str("not a stream of raw IP packets (LINKTYPE_RAW)"),
+            PcapError::TooLong => f.write_str("a packet of more than 65535 bytes"),
+            PcapError::Cut => f.write_str("the stream ends inside a header or a packet"),
+        }
+    }
+}
+
+impl core::error::Error for PcapError {}

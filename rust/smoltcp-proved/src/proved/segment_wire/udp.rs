@@ -1,0 +1,80 @@
+// Made from crates/segment_wire/src/udp.rt by rust/translate: change it there.
+//! UDP datagrams as bytes (RFC 768).
+
+use crate::proved::control_wire::{UdpRepr, udp_source};
+use crate::proved::ip_wire::octets::{be16, be16_at, behind, put, put_two, word};
+use crate::proved::ip_wire::sum::{checksum_after, pseudo_sum, word_of};
+use crate::proved::ip_wire::{ChecksumCapabilities, Error, IpAddress};
+
+/// Writes the header and the payload into `buffer`, between these two addresses.
+///
+/// The length is written modulo 2^16. The checksum is 0 where it is not computed before sending; one that comes to 0 is
+/// written as 0xffff.
+pub fn emit(
+    repr: &UdpRepr,
+    payload: &[u8],
+    buffer: &mut [u8],
+    src_addr: &IpAddress,
+    dst_addr: &IpAddress,
+    caps: &ChecksumCapabilities,
+) {
+    if caps.udp.tx() {
+        emit_with_checksum(repr, payload, buffer, src_addr, dst_addr);
+    } else {
+        write(repr, payload, buffer);
+    }
+}
+
+fn emit_with_checksum(
+    repr: &UdpRepr,
+    payload: &[u8],
+    buffer: &mut [u8],
+    src_addr: &IpAddress,
+    dst_addr: &IpAddress,
+) {
+    write(repr, payload, buffer);
+    let start = pseudo_sum(src_addr, dst_addr, 17, buffer.len());
+    let front = header_sum(start, repr, 8 + payload.len());
+    fill_checksum(front, buffer);
+}
+
+// Writes it with a checksum of 0.
+fn write(repr: &UdpRepr, payload: &[u8], buffer: &mut [u8]) {
+    let [a, b] = be16(repr.src_port as usize);
+    let [c, d] = be16(repr.dst_port as usize);
+    let [e, f] = be16(buffer.len());
+    put_two(buffer, &[a, b, c, d, e, f, 0, 0], payload);
+}
+
+// The sum of a header with a checksum of 0, and of what was summed before, worked out from the numbers.
+fn header_sum(start: u16, repr: &UdpRepr, len: usize) -> u16 {
+    word_of(start as usize + repr.src_port as usize + repr.dst_port as usize + len % 0x10000)
+}
+
+// Writes the checksum of what was summed before, with the header, and of what stands behind the header.
+fn fill_checksum(front: u16, buffer: &mut [u8]) {
+    let checksum = ones_if_zero(checksum_after(front, behind(buffer, 8)));
+    put(buffer, 6, &be16(checksum as usize));
+}
+
+fn ones_if_zero(sum: u16) -> u16 {
+    if sum == 0 { 0xffff } else { sum }
+}
+
+/// The header and the payload of the datagram that the bytes spell, between these two addresses.
+///
+/// An error unless its length is from 8 to the bytes that there are, its destination port is not 0, and, where received
+/// checksums are tested, its checksum verifies; 0 passes over IPv4 alone. Bytes behind the length are ignored.
+pub fn parse<'a>(
+    bytes: &'a [u8],
+    src_addr: &IpAddress,
+    dst_addr: &IpAddress,
+    caps: &ChecksumCapabilities,
+) -> Result<(UdpRepr, &'a [u8]), Error> {
+    let Some(src_port) = udp_source(bytes, src_addr, dst_addr, caps) else {
+        return Err(Error);
+    };
+    let dst_port = word(bytes[2], bytes[3]);
+    let payload = &bytes[8..be16_at(bytes, 4)];
+    Ok((UdpRepr { src_port, dst_port }, payload))
+}

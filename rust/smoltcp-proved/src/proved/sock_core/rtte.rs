@@ -1,0 +1,239 @@
+// Made from crates/sock_core/src/rtte.rt by rust/translate: change it there.
+//! The estimator of round-trip times and of the retransmission timeout (RFC 6298).
+
+use crate::proved::control_wire::TcpSeqNumber;
+use crate::proved::net_base::time::{Duration, Instant};
+use crate::proved::sock_core::seq::before;
+
+// All in milliseconds.
+const INITIAL_TIMEOUT: u32 = 1_000;
+
+const LEAST_TIMEOUT: u32 = 1_000;
+
+const TIMEOUT_AFTER_LOST_SYN: u32 = 3_000;
+
+const LONGEST_TIMEOUT: u32 = 60_000;
+
+const LEAST_MARGIN: u32 = 5;
+
+const LONGEST_SAMPLE: u32 = 1 << 28;
+
+// How many timeouts without a sample between them clear the measurement.
+const TIMEOUTS_TO_CLEAR: u8 = 3;
+
+/// A measurement of round-trip times, in milliseconds.
+#[derive(Debug, Clone, Copy)]
+pub struct Smoothed {
+    /// The smoothed round-trip time (SRTT), at most 2^28 in an estimator.
+    pub srtt: u32,
+    /// The variation of the round-trip time (RTTVAR), at most 2^28 in an estimator.
+    pub rttvar: u32,
+}
+
+/// A number whose acknowledgement is waited for, and when what lies before it was sent.
+#[derive(Debug, Clone, Copy)]
+pub struct Timing {
+    /// When it was sent.
+    pub at: Instant,
+    /// The number.
+    pub number: TcpSeqNumber,
+}
+
+/// A timestamp whose echo is waited for, and when it was sent.
+#[derive(Debug, Clone, Copy)]
+pub struct StampTiming {
+    /// When a segment was sent with it.
+    pub at: Instant,
+    /// The timestamp, TSval (RFC 7323, section 3.2).
+    pub stamp: u32,
+}
+
+/// Estimates how long a segment and its acknowledgement travel, and from that how long to wait for an acknowledgement
+/// before a segment is sent again (RFC 6298).
+///
+/// The timeout is between 1,000 and 60,000 milliseconds, unless another lowest one is set. One number at a time is
+/// timed, and none that was sent again; that is timed by its timestamp, where the socket says which it has.
+#[derive(Debug, Clone, Copy)]
+pub struct RttEstimator {
+    smoothed: Option<Smoothed>,
+    rto: u32,
+    timing: Option<Timing>,
+    stamp_timing: Option<StampTiming>,
+    highest: Option<TcpSeqNumber>,
+    backoffs: u8,
+    least: u32,
+}
+
+impl Default for RttEstimator {
+    /// No measurement, and a timeout of a second.
+    fn default() -> Self {
+        RttEstimator {
+            smoothed: None,
+            rto: INITIAL_TIMEOUT,
+            timing: None,
+            stamp_timing: None,
+            highest: None,
+            backoffs: 0,
+            least: LEAST_TIMEOUT,
+        }
+    }
+}
+
+/// After any calls of a fresh estimator the timeout is between 1,000 and 60,000 milliseconds.
+pub fn timeout_stays_in_range() {}
+
+impl RttEstimator {
+    /// How long to wait for an acknowledgement.
+    pub fn retransmission_timeout(&self) -> Duration {
+        Duration::from_millis(self.rto as u64)
+    }
+
+    /// The smoothed round-trip time (SRTT), in milliseconds. 0 without a measurement.
+    pub fn srtt(&self) -> u32 {
+        match self.smoothed {
+            None => 0,
+            Some(smoothed) => smoothed.srtt,
+        }
+    }
+
+    /// The variation of the round-trip time (RTTVAR), in milliseconds. 0 without a measurement.
+    pub fn rttvar(&self) -> u32 {
+        match self.smoothed {
+            None => 0,
+            Some(smoothed) => smoothed.rttvar,
+        }
+    }
+
+    /// Takes a round-trip time, in milliseconds, of which at most 2^28 count (RFC 6298, section 2).
+    pub fn sample(&mut self, new_rtt: u32) {
+        let smoothed = smoothed_by(self.smoothed, new_rtt.min(LONGEST_SAMPLE));
+        self.smoothed = Some(smoothed);
+        self.rto = timeout_of(self.least, smoothed);
+        self.backoffs = 0;
+    }
+
+    /// The numbers before `number` are sent. A new highest one is timed where none is.
+    pub fn on_send(&mut self, now: Instant, number: TcpSeqNumber) {
+        let is_highest = match self.highest {
+            None => true,
+            Some(highest) => before(highest, number),
+        };
+        if is_highest {
+            self.highest = Some(number);
+            if self.timing.is_none() {
+                self.timing = Some(Timing { at: now, number });
+            }
+        }
+    }
+
+    /// The numbers before `number` are acknowledged. Where the timed one is among them, the time since it was sent, in
+    /// whole milliseconds, is a sample, and nothing is timed any more.
+    pub fn on_ack(&mut self, now: Instant, number: TcpSeqNumber) {
+        let Some(timing) = self.timing else {
+            return;
+        };
+        if before(number, timing.number) {
+            return;
+        }
+        let elapsed = (now - timing.at).total_millis();
+        self.sample(elapsed.min(LONGEST_SAMPLE as u64) as u32);
+        self.timing = None;
+        self.stamp_timing = None;
+    }
+
+    /// Something is sent again with the timestamp `stamp`. Where neither a number nor a timestamp is timed, that one is
+    /// (RFC 7323, section 4).
+    pub fn on_stamp(&mut self, now: Instant, stamp: u32) {
+        if self.timing.is_none() && self.stamp_timing.is_none() {
+            self.stamp_timing = Some(StampTiming { at: now, stamp });
+        }
+    }
+
+    /// Something new is acknowledged, by a segment that echoes the timestamp `echo`. Where that is the timed one, the
+    /// time since it was sent, in whole milliseconds, is a sample, also of what was sent more than once (RFC 6298,
+    /// section 3). A later one ends the timing without. Call it after `on_ack`. Answers whether it gave a sample.
+    pub fn on_echo(&mut self, now: Instant, echo: u32) -> bool {
+        let Some(timing) = self.stamp_timing else {
+            return false;
+        };
+        if echo == timing.stamp {
+            let elapsed = (now - timing.at).total_millis();
+            self.sample(elapsed.min(LONGEST_SAMPLE as u64) as u32);
+            self.stamp_timing = None;
+            return true;
+        }
+        if before(TcpSeqNumber(timing.stamp), TcpSeqNumber(echo)) {
+            self.stamp_timing = None;
+        }
+        false
+    }
+
+    /// The retransmission timer ran out: the timeout doubles (RFC 6298, section 5.5), and each third time without a
+    /// sample between the measurement is cleared. A timestamp is waited for no longer, since all is sent again.
+    pub fn on_rto(&mut self) {
+        self.rto = (self.rto * 2).min(LONGEST_TIMEOUT);
+        self.stamp_timing = None;
+        self.backoffs += 1;
+        if self.backoffs == TIMEOUTS_TO_CLEAR {
+            self.backoffs = 0;
+            self.smoothed = None;
+        }
+    }
+
+    /// What was sent is sent again, so that no acknowledgement tells a round-trip time: no number is timed any more.
+    pub fn on_retransmit(&mut self) {
+        self.timing = None;
+    }
+
+    /// The lowest timeout that a sample makes, in milliseconds.
+    pub fn least_timeout(&self) -> u32 {
+        self.least
+    }
+
+    /// Sets the lowest timeout that a sample makes, 1 to 60,000 milliseconds: 1,000 in a new estimator, as RFC 6298,
+    /// section 2.4, recommends. The timeout stays as it is until the next sample.
+    pub fn set_least_timeout(&mut self, least: u32) {
+        self.least = least;
+    }
+
+    /// A new one with the same lowest timeout.
+    pub fn renewed(&self) -> RttEstimator {
+        RttEstimator { least: self.least, ..RttEstimator::default() }
+    }
+
+    /// Whether there is a measurement.
+    pub fn is_measured(&self) -> bool {
+        self.smoothed.is_some()
+    }
+
+    /// Whether a SYN was sent again, and nothing was measured since.
+    pub fn is_backed_off(&self) -> bool {
+        self.smoothed.is_none() && self.rto > INITIAL_TIMEOUT
+    }
+
+    /// Bytes begin to go out, once the SYN is acknowledged: where it was sent again, the timeout is three seconds,
+    /// however long the SYN was waited for (RFC 6298, rule 5.7).
+    pub fn begin_anew(&mut self) {
+        if self.is_backed_off() {
+            self.rto = TIMEOUT_AFTER_LOST_SYN;
+            self.backoffs = 0;
+        }
+    }
+}
+
+// The measurement with one more sample.
+fn smoothed_by(smoothed: Option<Smoothed>, sample: u32) -> Smoothed {
+    match smoothed {
+        None => Smoothed { srtt: sample, rttvar: sample / 2 },
+        Some(Smoothed { srtt, rttvar }) => Smoothed {
+            srtt: (7 * srtt + sample).div_ceil(8),
+            rttvar: (3 * rttvar + srtt.abs_diff(sample)).div_ceil(4),
+        },
+    }
+}
+
+// The timeout of a measurement.
+fn timeout_of(least: u32, smoothed: Smoothed) -> u32 {
+    let margin = LEAST_MARGIN.max(4 * smoothed.rttvar);
+    (smoothed.srtt + margin).max(least).min(LONGEST_TIMEOUT)
+}

@@ -1,0 +1,90 @@
+// Made from crates/sock_tcp/src/waiting.rt by rust/translate: change it there.
+//! The retransmission timer once a segment was heard, by the rules of the RFCs (RFC 6298, section 5; RFC 6582, section
+//! 3.2).
+
+use crate::proved::net_base::time::Instant;
+use crate::proved::sock_core::rtte::RttEstimator;
+use crate::proved::sock_tcp::control_block::ControlBlock;
+use crate::proved::sock_tcp::recovery::Before;
+use crate::proved::sock_tcp::rules::Rules;
+use crate::proved::sock_tcp::state::State;
+use crate::proved::sock_tcp::timer::Timer;
+
+// Where no fast retransmission is to come, the retransmission timer goes on as it was.
+fn gone_on_from(timer: Timer, now: Instant, rtte: &RttEstimator) -> Timer {
+    match timer {
+        Timer::Retransmit { .. } => timer,
+        _ => Timer::retransmit(now, rtte),
+    }
+}
+
+impl Before {
+    // Of the partial acknowledgements the first alone begins the retransmission timer anew.
+    fn is_later_partial(&self, after: &ControlBlock<'_>) -> bool {
+        self.recovery.is_acked() && self.is_partial(after)
+    }
+
+    // What runs while nothing is marked.
+    fn left_running(&self, after: &ControlBlock<'_>, now: Instant) -> Timer {
+        let running = after.running(now);
+        if !self.is_later_partial(after) {
+            return running;
+        }
+        match (self.timer, running) {
+            (Timer::Retransmit { .. }, Timer::Retransmit { .. }) => self.timer,
+            _ => running,
+        }
+    }
+
+    fn waited_for(&self, after: &ControlBlock<'_>, now: Instant) -> Timer {
+        if self.tells_controller(after) {
+            return Timer::FastRetransmit;
+        }
+        if self.is_called(after) {
+            return gone_on_from(self.timer, now, &after.rtte);
+        }
+        let waits = self.waits_tail(after);
+        let alone = after.is_alone();
+        let running = self.left_running(after, now);
+        running.or_tail(waits, now, &after.rtte, alone)
+    }
+
+    pub(crate) fn timer_after(&self, after: &ControlBlock<'_>, now: Instant) -> Timer {
+        if after.state.has_timer() { self.waited_for(after, now) } else { after.timer }
+    }
+}
+
+impl State {
+    // Its timer is one for acknowledgements.
+    fn has_timer(self) -> bool {
+        matches!(self, State::SynReceived | State::FinWait2) || self.carries_data()
+    }
+}
+
+impl<'a> ControlBlock<'a> {
+    // The timer once that of a retransmission is over: a window is probed for where there is none, and bytes wait.
+    #[inline(always)]
+    pub(crate) fn timer_begun(&self, now: Instant) -> Timer {
+        match self.rules {
+            Rules::Rfc if self.remote_win_len == 0 && !self.tx_buffer.is_empty() => {
+                Timer::probe(now, &self.rtte)
+            }
+            _ => Timer::idle(now, self.keep_alive),
+        }
+    }
+
+    // A timer runs whenever something is in flight, and none for a window while there is nothing to send.
+    fn running(&self, now: Instant) -> Timer {
+        match self.timer {
+            Timer::Idle { .. } if self.flight() != 0 => Timer::retransmit(now, &self.rtte),
+            Timer::ZeroWindowProbe { .. } if self.tx_buffer.len() <= self.flight() => {
+                if self.flight() == 0 {
+                    Timer::idle(now, self.keep_alive)
+                } else {
+                    Timer::retransmit(now, &self.rtte)
+                }
+            }
+            timer => timer,
+        }
+    }
+}

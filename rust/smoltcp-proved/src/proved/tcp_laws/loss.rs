@@ -1,0 +1,20 @@
+// Made from crates/tcp_laws/src/loss.rt by rust/translate: change it there.
+//! Laws on what a sender knows of a loss, and on what a receiver tells of it.
+
+/// A scoreboard tells only what was told before, or stands in a block that is believed: of bytes that were sent and are
+/// not acknowledged.
+pub fn scoreboard_tells_only_what_came() {}
+
+/// What the first block of a segment tells, which is the newest (RFC 2018, section 4), is told then.
+pub fn scoreboard_tells_the_newest() {}
+
+/// Whatever segment a socket with the RFCs' rules processes, its scoreboard tells then of no byte but of which it told
+/// before, or which stands in a block of that segment that is believed, at the number that it has; wherever SND.UNA
+/// moves.
+pub fn scoreboard_follows_segments() {}
+
+/// Whatever segment comes, each range that the answer tells by SACK is one of bytes that the socket holds behind a gap
+/// when the call returns, at their numbers; and what a dispatch sends tells no range. A byte that is held stays until
+/// it joins the receive queue (`streams::bytes_stay_at_their_places`), so what was told is never taken back while the
+/// connection lasts (RFC 2018, section 8).
+pub fn answers_tell_what_is_held() {}
