@@ -358,7 +358,7 @@ impl<'a> Icmpv6Repr<'a> {
             }),
             (1, reason) => unreachable_v6(reason, body),
             (3, reason) => exceeded_v6(reason, body),
-            (4, reason) => problem_v6(reason, be32_at(bytes, 4) as u32, body),
+            (4, reason) => problem_v6(reason, be32_at(bytes, 4), body),
             _ => Err(Error),
         }
     }

@@ -27,7 +27,7 @@ use smoltcp_socket::icmp;
 use smoltcp_socket::tcp::CongestionControl;
 use sock_pair::script::ScriptError;
 use sock_pair::script::lines::Line;
-use sock_pair::script::values::{is_text, number, rules, switch};
+use sock_pair::script::values::{index, is_text, number, rules, switch};
 use sock_pair::script::words::{five_words, one_word, split_word, three_words, two_words};
 
 /// The largest moment, in milliseconds.
@@ -200,7 +200,7 @@ fn which_of(word: &[u8]) -> Option<Which>
     if word == b"last".as_slice() {
         return Some(Which::Last);
     }
-    let number = number(word, 9_999_999_999)?;
+    let number = index(word)?;
     Some(Which::Number(number))
 }
 

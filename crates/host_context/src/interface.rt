@@ -11,7 +11,7 @@ use smoltcp_socket::time::Instant;
 use smoltcp_socket::wire::{ChecksumCapabilities, IpAddress, Ipv4Address, Ipv6Address};
 
 // No moment is later, in microseconds: some 36,000 years.
-const LATEST: usize = 1 << 60;
+const LATEST: u64 = 1 << 60;
 
 /// An interface with at most one address of each version of IP: the context of every call of a socket.
 ///
@@ -28,7 +28,7 @@ const LATEST: usize = 1 << 60;
 pub struct Interface<W, O> {
     v4: Ipv4Address,
     v6: Ipv6Address,
-    micros: usize,
+    micros: u64,
     mtu: usize,
     /// Which checksums are computed and tested here, and which by the device; at first all are computed here.
     pub checksums: ChecksumCapabilities,
@@ -87,7 +87,7 @@ impl<W, O> Interface<W, O> {
     }
 
     /// Sets the time, in microseconds since any moment that the program chooses; some 36,000 years at most.
-    pub fn set_micros(&mut self, micros: usize)
+    pub fn set_micros(&mut self, micros: u64)
         ensures micros { self.new.micros ≡ min micros (2 ^ 60) }
         ensures same { (self.new.v4 ≡ self.old.v4) × (self.new.v6 ≡ self.old.v6) × (self.new.mtu ≡ self.old.mtu)
             × (self.new.checksums ≡ self.old.checksums) × (self.new.words ≡ self.old.words)
@@ -103,7 +103,7 @@ impl<W, O> Interface<W, O> {
             × (self.new.checksums ≡ self.old.checksums) × (self.new.words ≡ self.old.words)
             × (self.new.outbox ≡ self.old.outbox) }
     {
-        self.micros = millis as usize * 1000;
+        self.micros = millis as u64 * 1000;
     }
 
     /// The time in milliseconds; 2^32 - 1, some 49 days, where it is later.

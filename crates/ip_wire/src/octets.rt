@@ -26,12 +26,12 @@ pub fn be16_at(bytes: &[u8], at: usize) -> usize
 }
 
 /// The number of the four bytes at `at`.
-pub fn be32_at(bytes: &[u8], at: usize) -> usize
+pub fn be32_at(bytes: &[u8], at: usize) -> u32
     requires { at + 4 ≤ length bytes.now }
     ensures value { result ≡ be32_at bytes.now at }
     ensures small { result < 2 ^ 32 }
 {
-    65536 * be16_at(bytes, at) + be16_at(bytes, at + 2)
+    65536 * be16_at(bytes, at) as u32 + be16_at(bytes, at + 2) as u32
 }
 
 /// The bytes from `at` on.

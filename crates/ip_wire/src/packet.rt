@@ -58,7 +58,7 @@ fn header_sum(repr: &Ipv4Repr, protocol: u8) -> u16
 {
     let length = (repr.payload_len % 0x10000 + 20) % 0x10000;
     let total = 0x8500 + length + 256 * repr.hop_limit as usize + protocol as usize;
-    sum_with_addresses(total, &repr.src_addr, &repr.dst_addr)
+    sum_with_addresses(total as u64, &repr.src_addr, &repr.dst_addr)
 }
 
 #[tactic(auto, using(crate::proofs::Written::total_len))]

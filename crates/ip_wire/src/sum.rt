@@ -27,14 +27,14 @@ pub fn ones_add(a: u16, b: u16) -> u16
 pub fn sum_after(start: u16, bytes: &[u8]) -> u16
     ensures { result ≡ sum_after start bytes.now }
 {
-    sum_after_wide(start as usize, 0, bytes)
+    sum_after_wide(start as u64, 0, bytes)
 }
 
 /// The sum of the Internet checksum (RFC 1071) of `bytes` behind `start` and `swapped`; the latter's words have the low
 /// byte first. Neither sum need be folded, and a segment without a payload has nothing more to be read.
 #[inline(always)]
 #[tactic(auto, using(crate::proofs::Sums::after_nothing))]
-pub fn sum_after_wide(start: usize, swapped: usize, bytes: &[u8]) -> u16
+pub fn sum_after_wide(start: u64, swapped: u64, bytes: &[u8]) -> u16
     requires start { start < 2 ^ 40 }
     requires swapped { swapped < 2 ^ 36 }
     ensures { result ≡ sum_after (swapped_word start swapped) bytes.now }
@@ -46,7 +46,7 @@ pub fn sum_after_wide(start: usize, swapped: usize, bytes: &[u8]) -> u16
 }
 
 #[inline(never)]
-fn sum_by_eights(start: usize, swapped: usize, bytes: &[u8]) -> u16
+fn sum_by_eights(start: u64, swapped: u64, bytes: &[u8]) -> u16
     requires start { start < 2 ^ 40 }
     requires swapped { swapped < 2 ^ 36 }
     ensures { result ≡ sum_after (swapped_word start swapped) bytes.now }
@@ -114,7 +114,7 @@ fn le64_at(bytes: &[u8], at: usize) -> u128
 }
 
 // A wide sum with its upper half added to the lower one, and again: it comes to the same.
-fn narrowed(total: u128) -> usize
+fn narrowed(total: u128) -> u64
     ensures value { (start : ℕ) → swapped_word start result ≡ swapped_word start total }
     ensures small { result < 2 ^ 33 }
 {
@@ -122,15 +122,15 @@ fn narrowed(total: u128) -> usize
 }
 
 // A wide sum with its upper half added to the lower one, and the carry of that.
-fn carried(total: u128) -> usize
+fn carried(total: u128) -> u64
     ensures { (start : ℕ) → swapped_word start result ≡ swapped_word start total }
 {
     let once = total % 0x1_0000_0000_0000_0000 + total / 0x1_0000_0000_0000_0000;
-    (once % 0x1_0000_0000_0000_0000 + once / 0x1_0000_0000_0000_0000) as usize
+    (once % 0x1_0000_0000_0000_0000 + once / 0x1_0000_0000_0000_0000) as u64
 }
 
 // Adds the last bytes, fewer than eight, to a wide sum: each test looks at one bit of how many there are.
-fn add_few(total: usize, bytes: &[u8]) -> usize
+fn add_few(total: u64, bytes: &[u8]) -> u64
     requires { total < 2 ^ 33 }
     ensures value { (start : ℕ) → swapped_word start result
         ≡ sum_after (swapped_word start total) (drop (length bytes.now / 8 * 8) bytes.now) }
@@ -140,7 +140,7 @@ fn add_few(total: usize, bytes: &[u8]) -> usize
 }
 
 // Adds the four bytes behind the last eight, where there are as many.
-fn add_four(total: usize, bytes: &[u8]) -> usize
+fn add_four(total: u64, bytes: &[u8]) -> u64
     requires { total < 2 ^ 33 }
     ensures value { (start : ℕ) → sum_after (swapped_word start result) (drop (length bytes.now / 4 * 4) bytes.now)
         ≡ sum_after (swapped_word start total) (drop (length bytes.now / 8 * 8) bytes.now) }
@@ -153,7 +153,7 @@ fn add_four(total: usize, bytes: &[u8]) -> usize
 }
 
 // Adds the two bytes behind the last four, where there are as many.
-fn add_pair(total: usize, bytes: &[u8]) -> usize
+fn add_pair(total: u64, bytes: &[u8]) -> u64
     requires { total < 2 ^ 34 }
     ensures value { (start : ℕ) → sum_after (swapped_word start result) (drop (length bytes.now / 2 * 2) bytes.now)
         ≡ sum_after (swapped_word start total) (drop (length bytes.now / 4 * 4) bytes.now) }
@@ -166,7 +166,7 @@ fn add_pair(total: usize, bytes: &[u8]) -> usize
 }
 
 // Adds the last byte, where it has no other beside it.
-fn add_last(total: usize, bytes: &[u8]) -> usize
+fn add_last(total: u64, bytes: &[u8]) -> u64
     requires { total < 2 ^ 34 + 2 ^ 16 }
     ensures value { (start : ℕ) → swapped_word start result
         ≡ sum_after (swapped_word start total) (drop (length bytes.now / 2 * 2) bytes.now) }
@@ -175,11 +175,11 @@ fn add_last(total: usize, bytes: &[u8]) -> usize
     if bytes.len() % 2 == 0 {
         return total;
     }
-    total + bytes[bytes.len() - 1] as usize
+    total + bytes[bytes.len() - 1] as u64
 }
 
 // The number of the four bytes at `at`, the lowest first.
-fn le32_at(bytes: &[u8], at: usize) -> usize
+fn le32_at(bytes: &[u8], at: usize) -> u64
     requires { at + 4 ≤ length bytes.now }
     ensures value { result ≡ le32_at bytes.now at }
     ensures small { result < 2 ^ 32 }
@@ -187,16 +187,16 @@ fn le32_at(bytes: &[u8], at: usize) -> usize
     le16_at(bytes, at) + 65536 * le16_at(bytes, at + 2)
 }
 
-fn le16_at(bytes: &[u8], at: usize) -> usize
+fn le16_at(bytes: &[u8], at: usize) -> u64
     requires { at + 2 ≤ length bytes.now }
     ensures value { result ≡ le16_at bytes.now at }
     ensures small { result < 65536 }
 {
-    bytes[at] as usize + 256 * bytes[at + 1] as usize
+    bytes[at] as u64 + 256 * bytes[at + 1] as u64
 }
 
 // A wide sum with its upper half added to the lower one: it comes to the same.
-fn halved(total: usize) -> usize
+fn halved(total: u64) -> u64
     ensures word { (more : ℕ) → word_of (result + more) ≡ word_of (total + more) }
     ensures value { (start : ℕ) → swapped_word start result ≡ swapped_word start total }
     ensures small { result < 2 ^ 33 }
@@ -205,7 +205,7 @@ fn halved(total: usize) -> usize
 }
 
 // A start and a wide sum of numbers with the lowest byte first, as a word.
-fn swapped_word(start: usize, total: usize) -> u16
+fn swapped_word(start: u64, total: u64) -> u16
     requires start { start < 2 ^ 40 }
     requires total { total < 2 ^ 37 }
     ensures { result ≡ swapped_word start total }
@@ -215,7 +215,7 @@ fn swapped_word(start: usize, total: usize) -> u16
 
 // A wide sum as a word, each carry added at the other end.
 #[tactic(auto, using(crate::proofs::Sums::quarters))]
-fn folded(total: usize) -> u16
+fn folded(total: u64) -> u16
     requires { total < 2 ^ 47 }
     ensures { result ≡ word_of total }
 {
@@ -229,7 +229,7 @@ fn both_halves(total: u32) -> u16
     ensures { result ≡ word_of total }
 {
     let rotated = total % 0x10000 * 0x10000 + total / 0x10000;
-    ((total as usize + rotated as usize) / 0x10000 % 0x10000) as u16
+    ((total as u64 + rotated as u64) / 0x10000 % 0x10000) as u16
 }
 
 /// The sum of 20 bytes, as a header without options has, with no loop and no call.
@@ -254,12 +254,12 @@ pub fn checksum_after(start: u16, bytes: &[u8]) -> u16
 pub fn pseudo_sum(src: &IpAddress, dst: &IpAddress, protocol: u8, length: usize) -> u16
     ensures { result ≡ pseudo_sum src.now dst.now protocol length }
 {
-    let rest = length % 0x1_0000_0000 + protocol as usize;
+    let rest = length as u64 % 0x1_0000_0000 + protocol as u64;
     word_of(address_sum(src) + address_sum(dst) + rest)
 }
 
 /// The sum of words that were added up without a carry at the other end, up to 2^62.
-pub fn word_of(total: usize) -> u16
+pub fn word_of(total: u64) -> u16
     requires { total < 2 ^ 62 }
     ensures { result ≡ word_of total }
 {
@@ -268,7 +268,7 @@ pub fn word_of(total: usize) -> u16
 
 /// The sum of two IPv4 addresses and of words that were added up before.
 #[tactic(auto, using(crate::proofs::Sums::addresses_after))]
-pub fn sum_with_addresses(total: usize, src: &Ipv4Address, dst: &Ipv4Address) -> u16
+pub fn sum_with_addresses(total: u64, src: &Ipv4Address, dst: &Ipv4Address) -> u16
     requires { total < 2 ^ 60 }
     ensures { result ≡ sum_after (word_of total) (src.now.0 ++ dst.now.0) }
 {
@@ -279,7 +279,7 @@ pub fn sum_with_addresses(total: usize, src: &Ipv4Address, dst: &Ipv4Address) ->
 }
 
 /// The octets of an IPv4 address as a number, the lowest first: what they add to a sum of such numbers.
-pub fn swapped_octets(octets: &[u8; 4]) -> usize
+pub fn swapped_octets(octets: &[u8; 4]) -> u64
     ensures value { (start total : ℕ) → sum_after (swapped_word start total) octets.now
         ≡ swapped_word start (total + result) }
     ensures length { length octets.now ≡ 4 }
@@ -289,7 +289,7 @@ pub fn swapped_octets(octets: &[u8; 4]) -> usize
 }
 
 // The sum of an address as numbers of four bytes, not folded.
-fn address_sum(address: &IpAddress) -> usize
+fn address_sum(address: &IpAddress) -> u64
     ensures value { (total : ℕ) → sum_after (word_of total) (octets_of address.now) ≡ word_of (total + result) }
     ensures small { result < 2 ^ 34 }
 {
@@ -299,19 +299,19 @@ fn address_sum(address: &IpAddress) -> usize
     }
 }
 
-fn four_octets(octets: &[u8; 4]) -> usize
+fn four_octets(octets: &[u8; 4]) -> u64
     ensures value { (total : ℕ) → sum_after (word_of total) octets.now ≡ word_of (total + result) }
     ensures small { result < 2 ^ 34 }
 {
-    be32_at(octets, 0)
+    be32_at(octets, 0) as u64
 }
 
-fn sixteen_octets(octets: &[u8; 16]) -> usize
+fn sixteen_octets(octets: &[u8; 16]) -> u64
     ensures value { (total : ℕ) → sum_after (word_of total) octets.now ≡ word_of (total + result) }
     ensures small { result < 2 ^ 34 }
 {
-    let first = be32_at(octets, 0) + be32_at(octets, 4);
-    first + be32_at(octets, 8) + be32_at(octets, 12)
+    let first = be32_at(octets, 0) as u64 + be32_at(octets, 4) as u64;
+    first + be32_at(octets, 8) as u64 + be32_at(octets, 12) as u64
 }
 
 /// A sum over two pieces of which the first has an even length is that of both.

@@ -15,17 +15,17 @@ pub type Sockets<'a> = SocketSet<'a, Clock<'a>>;
 /// not go back: a peer takes what has an earlier timestamp for an old segment (RFC 7323, section 5).
 #[derive(Clone, Copy)]
 pub struct Clock<'c> {
-    millis: &'c Cell<usize>,
+    millis: &'c Cell<u64>,
 }
 
 impl<'c> Clock<'c> {
     /// The clock whose time stands here.
-    pub fn new(millis: &'c Cell<usize>) -> Clock<'c> {
+    pub fn new(millis: &'c Cell<u64>) -> Clock<'c> {
         Clock { millis }
     }
 
     /// It is so many microseconds past the start now, at the least.
-    pub fn advance(self, micros: usize) {
+    pub fn advance(self, micros: u64) {
         self.millis.set(self.millis.get().max(micros / 1000));
     }
 }

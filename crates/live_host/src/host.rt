@@ -114,7 +114,7 @@ impl<'a> Host<Sockets<'a>, Clock<'a>> {
     /// Takes an IP packet at a moment, in microseconds; one of no bytes only says what time it is. What the sockets
     /// answer, and what is due, waits to be written afterwards, in place of what waited before.
     /// A moment of more than 2^60 microseconds counts as so many.
-    pub fn receive(&mut self, micros: usize, packet: &[u8]) -> Result<(), AllocError> {
+    pub fn receive(&mut self, micros: u64, packet: &[u8]) -> Result<(), AllocError> {
         let now = moment(micros);
         let clock = self.clock;
         clock.advance(micros);
@@ -281,6 +281,6 @@ impl LiveHost<'_> {
     }
 }
 
-fn moment(micros: usize) -> Instant {
+fn moment(micros: u64) -> Instant {
     Instant::from_micros(micros.min(1 << 60) as i64)
 }

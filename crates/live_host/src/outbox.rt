@@ -16,7 +16,7 @@ pub struct Outbox {
     bytes: Vec<u8>,
     used: usize,
     // of the records, in microseconds
-    micros: usize,
+    micros: u64,
 }
 
 impl Outbox {
@@ -30,7 +30,7 @@ impl Outbox {
     }
 
     /// Forgets what waited: the packets to come are of this moment, in microseconds.
-    pub fn begin(&mut self, micros: usize) {
+    pub fn begin(&mut self, micros: u64) {
         self.used = 0;
         self.micros = micros;
     }

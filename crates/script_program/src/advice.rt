@@ -2,7 +2,7 @@
 
 use sock_pair::script::ScriptError;
 use sock_pair::script::lines::{Line, Lines};
-use sock_pair::script::values::{is_text, limit, number, rules, side, switch};
+use sock_pair::script::values::{index, is_text, limit, number, rules, side, switch};
 use sock_pair::script::words::split_word;
 use std::fmt;
 
@@ -15,6 +15,7 @@ enum Form {
     Limit,
     Text,
     Number(usize),
+    Index,
 }
 
 const SIZE: Form = Form::Number(1_048_576);
@@ -22,8 +23,6 @@ const SIZE: Form = Form::Number(1_048_576);
 const WORD: Form = Form::Number(4_294_967_295);
 
 const MILLIS: Form = Form::Number(1_000_000_000);
-
-const INDEX: Form = Form::Number(9_999_999_999);
 
 impl Form {
     fn fits(self, word: &[u8]) -> bool {
@@ -34,6 +33,7 @@ impl Form {
             Form::Limit => limit(word).is_some(),
             Form::Text => is_text(word),
             Form::Number(most) => number(word, most).is_some(),
+            Form::Index => index(word).is_some(),
         }
     }
 }
@@ -47,6 +47,7 @@ impl fmt::Display for Form {
             Form::Limit => f.write_str("-, or 1 to 10 digits that write at most 536870911"),
             Form::Text => f.write_str("printable ASCII characters"),
             Form::Number(most) => write!(f, "1 to 10 digits that write at most {most}"),
+            Form::Index => f.write_str("1 to 10 digits that write at most 9999999999"),
         }
     }
 }
@@ -77,7 +78,7 @@ const EVENTS: &[Shape] = &[
     Shape("dispatch", "S MS", &[Form::Side, MILLIS]),
     Shape("fail", "S MS", &[Form::Side, MILLIS]),
     Shape("gone", "S MS", &[Form::Side, MILLIS]),
-    Shape("deliver", "INDEX MS WORD", &[INDEX, MILLIS, WORD]),
+    Shape("deliver", "INDEX MS WORD", &[Form::Index, MILLIS, WORD]),
 ];
 
 // The shape of the lines that begin with this word.

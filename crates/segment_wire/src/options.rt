@@ -144,5 +144,5 @@ pub fn be32_at(bytes: &[u8], at: usize) -> u32
     requires { at + 4 ≤ length bytes.now }
     ensures { result ≡ be32_at bytes.now at }
 {
-    octets::be32_at(bytes, at) as u32
+    octets::be32_at(bytes, at)
 }

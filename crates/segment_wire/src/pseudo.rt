@@ -11,7 +11,7 @@ use ip_wire::{IpAddress, IpRepr, Ipv4Repr};
 /// with the low byte first. The addresses are read where they stand, and the sum is folded with the segment's alone.
 #[inline(always)]
 #[tactic(auto, using(crate::proofs::PseudoSums::alone))]
-pub(crate) fn pseudo_parts(ip: &IpRepr, length: usize) -> (usize, usize)
+pub(crate) fn pseudo_parts(ip: &IpRepr, length: usize) -> (u64, u64)
     ensures value { swapped_word result.0 result.1 ≡ pseudo_sum (src_addr_of ip.now) (dst_addr_of ip.now) 6 length }
     ensures start { result.0 < 2 ^ 33 }
     ensures swapped { result.1 < 2 ^ 33 }
@@ -25,19 +25,19 @@ pub(crate) fn pseudo_parts(ip: &IpRepr, length: usize) -> (usize, usize)
                 6,
                 length,
             );
-            (sum as usize, 0)
+            (sum as u64, 0)
         }
     }
 }
 
 #[inline(always)]
 #[tactic(auto, using(crate::proofs::PseudoSums::of_v4))]
-fn pseudo_parts_v4(header: &Ipv4Repr, length: usize) -> (usize, usize)
+fn pseudo_parts_v4(header: &Ipv4Repr, length: usize) -> (u64, u64)
     ensures value { swapped_word result.0 result.1
         ≡ pseudo_sum (Ipv4 header.now.src_addr) (Ipv4 header.now.dst_addr) 6 length }
     ensures start { result.0 < 2 ^ 33 }
     ensures swapped { result.1 < 2 ^ 33 }
 {
     let addresses = swapped_octets(&header.src_addr.0) + swapped_octets(&header.dst_addr.0);
-    (length % 0x1_0000_0000 + 6, addresses)
+    (length as u64 % 0x1_0000_0000 + 6, addresses)
 }

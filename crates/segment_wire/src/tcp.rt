@@ -63,7 +63,7 @@ pub fn emit_front(
     write_front(repr, header_len, buffer);
     if caps.tcp.tx() {
         let start = pseudo_sum(src_addr, dst_addr, 6, buffer.len());
-        write_checksum(repr, header_len, start as usize, 0, buffer);
+        write_checksum(repr, header_len, start as u64, 0, buffer);
     }
 }
 
@@ -94,8 +94,8 @@ pub(crate) fn emit_behind(
 fn write_checksum(
     repr: &TcpRepr<'_>,
     header_len: usize,
-    start: usize,
-    swapped: usize,
+    start: u64,
+    swapped: u64,
     buffer: &mut [u8],
 )
     requires counted { header_len ≡ segment_header_len (segment_of repr.now) }

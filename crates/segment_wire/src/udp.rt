@@ -67,7 +67,8 @@ fn write(repr: &UdpRepr, payload: &[u8], buffer: &mut [u8])
 fn header_sum(start: u16, repr: &UdpRepr, len: usize) -> u16
     ensures { result ≡ sum_after start (be16 repr.now.src_port ++ (be16 repr.now.dst_port ++ (be16 len ++ be16 0))) }
 {
-    word_of(start as usize + repr.src_port as usize + repr.dst_port as usize + len % 0x10000)
+    let total = start as usize + repr.src_port as usize + repr.dst_port as usize + len % 0x10000;
+    word_of(total as u64)
 }
 
 // Writes the checksum of what was summed before, with the header, and of what stands behind the header.

@@ -67,17 +67,17 @@ fn header(repr: &TcpRepr<'_>, header_len: usize) -> [u8; 20]
 
 /// What a header with a checksum of 0 adds to a sum that is not folded. It is worked out from the numbers: what was
 /// just written in single bytes is read slowly as words.
-pub fn header_sum(repr: &TcpRepr<'_>, header_len: usize) -> usize
+pub fn header_sum(repr: &TcpRepr<'_>, header_len: usize) -> u64
     requires counted { header_len ≡ segment_header_len (segment_of repr.now) }
     requires options { options_len (segment_of repr.now) ≤ 40 }
     ensures value { (start : ℕ) → sum_after (word_of start) (tcp_header (segment_of repr.now) 0)
         ≡ word_of (start + result) }
     ensures small { result < 2 ^ 34 }
 {
-    let ports = repr.src_port as usize + repr.dst_port as usize;
-    let numbers = repr.seq_number.0 as usize + ack_field(repr.ack_number) as usize;
-    let flags = (control_bits(repr.control) + ack_bit(repr.ack_number)) as usize;
-    let rest = header_len / 4 * 16 * 256 + flags + repr.window_len as usize;
+    let ports = repr.src_port as u64 + repr.dst_port as u64;
+    let numbers = repr.seq_number.0 as u64 + ack_field(repr.ack_number) as u64;
+    let flags = (control_bits(repr.control) + ack_bit(repr.ack_number)) as u64;
+    let rest = (header_len / 4 * 16) as u64 * 256 + flags + repr.window_len as u64;
     ports + numbers + rest
 }
 
@@ -243,7 +243,7 @@ fn put_padding(buffer: &mut [u8], at: usize, count: usize) -> usize
 }
 
 /// Writes the checksum of a segment, of what was summed before, with its header, and of what stands behind the header.
-pub fn fill_checksum(front: usize, swapped: usize, buffer: &mut [u8])
+pub fn fill_checksum(front: u64, swapped: u64, buffer: &mut [u8])
     requires room { 20 ≤ length buffer.old }
     requires front { front < 2 ^ 40 }
     requires swapped { swapped < 2 ^ 36 }

@@ -47,7 +47,7 @@ fn put_record<W: Write>(millis: u32, bytes: &[u8], writer: &mut W) -> Result<(),
         return Ok(());
     }
     let mut header = [0u8; RECORD];
-    put_record_header(&mut header, millis as usize * 1000, bytes.len());
+    put_record_header(&mut header, millis as u64 * 1000, bytes.len());
     put(writer, &header)?;
     put(writer, bytes)
 }

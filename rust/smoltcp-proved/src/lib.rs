@@ -24,10 +24,8 @@
 #![deny(unsafe_op_in_unsafe_fn, clippy::undocumented_unsafe_blocks)]
 #![cfg_attr(not(feature = "c-library"), forbid(unsafe_code))]
 
-#[cfg(not(target_pointer_width = "64"))]
-compile_error!(
-    "the sources are proved for a `usize` of 64 bits: with fewer, some sums of checksums would wrap"
-);
+#[cfg(not(any(target_pointer_width = "32", target_pointer_width = "64")))]
+compile_error!("a `usize` has at least 32 bits here: lengths and offsets of a TCP window do not fit fewer");
 
 #[cfg(feature = "alloc")]
 extern crate alloc;

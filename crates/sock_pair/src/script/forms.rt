@@ -9,7 +9,7 @@ ghost use Rattle.sock_pair.specs.ScriptLines.{rules_line, send_line};
 use crate::script::error::ScriptError;
 use crate::script::keyword::Keyword;
 use crate::script::lines::Line;
-use crate::script::values::{is_text, number, rules, side, switch};
+use crate::script::values::{index, is_text, number, rules, side, switch};
 use crate::script::words::{one_word, one_word_and_text, three_words, two_words};
 use net_base::time::Instant;
 use pair_core::{Event, Moment, Setting};
@@ -21,8 +21,6 @@ const WORD: usize = 4_294_967_295;
 const MILLIS: usize = 1_000_000_000;
 
 const SIZE: usize = 1_048_576;
-
-const INDEX: usize = 9_999_999_999;
 
 const IP_MTU: usize = 1500;
 
@@ -200,14 +198,10 @@ fn dispatch(line: usize, values: &[u8], has_address: bool, fail: bool) -> Result
 fn deliver(line: usize, values: &[u8]) -> Result<Event, ScriptError>
     ensures { Gives event_value (deliver_line line (words_of values.now)) result }
 {
-    let Some((index, millis, word)) = three_words(values) else {
+    let Some((place, millis, word)) = three_words(values) else {
         return Err(ScriptError::WrongNumberOfWords { line });
     };
-    match (
-        number(index, INDEX),
-        number(millis, MILLIS),
-        number(word, WORD),
-    ) {
+    match (index(place), number(millis, MILLIS), number(word, WORD)) {
         (Some(index), Some(millis), Some(word)) => Ok(Event::Deliver {
             index,
             moment: moment(true, millis, word),

@@ -57,7 +57,35 @@ pub fn number(word: &[u8], most: usize) -> Option<usize>
         return None;
     }
     let value = value(word);
-    if value <= most { Some(value) } else { None }
+    if value <= most as u64 {
+        Some(value as usize)
+    } else {
+        None
+    }
+}
+
+/// The index that 1 to 10 decimal digits write; none for any other word. Where a `usize` has 32 bits, its greatest stands
+/// for all that are greater.
+#[tactic(auto, unfolding(crate::specs::ScriptWords::number_of))]
+pub fn index(word: &[u8]) -> Option<usize>
+    ensures { result ≡ number_of 9999999999 word.now }
+{
+    if !is_number(word) {
+        return None;
+    }
+    let value = value(word);
+    if value <= 9_999_999_999 {
+        Some(nearest(value))
+    } else {
+        None
+    }
+}
+
+fn nearest(value: u64) -> usize
+    requires { value ≤ 9999999999 }
+    ensures { result ≡ value }
+{
+    value.min(usize::MAX as u64) as usize
 }
 
 /// A limit of at most 536870911, or `-` for none.
@@ -110,14 +138,14 @@ fn all_digits(word: &[u8]) -> bool
     word.iter().all(|b| b.is_ascii_digit())
 }
 
-fn value(digits: &[u8]) -> usize
+fn value(digits: &[u8]) -> u64
     requires few { length digits.now ≤ 10 }
     requires digits { IsTrue (list_all is_ascii_digit digits.now) }
     ensures { result ≡ value_of digits.now }
 {
     let mut value = 0;
     for digit in digits {
-        value = value * 10 + usize::from(*digit - b'0');
+        value = value * 10 + u64::from(*digit - b'0');
     }
     value
 }

@@ -69,19 +69,19 @@ fn packets_of(event: &Event, outcome: &Outcome) -> (Option<usize>, Option<usize>
 }
 
 // When packets go out and come in.
-fn micros_of(event: &Event) -> usize {
+fn micros_of(event: &Event) -> u64 {
     match event {
         Event::Dispatch { moment, .. } | Event::Deliver { moment, .. } => micros(moment),
         _ => 0,
     }
 }
 
-fn micros(moment: &Moment) -> usize {
+fn micros(moment: &Moment) -> u64 {
     let millis = moment.now.total_millis();
     if millis < 0 {
         return 0;
     }
-    (millis as usize).saturating_mul(1000)
+    (millis as u64).saturating_mul(1000)
 }
 
 // The segment of this index, where this side sent it.
@@ -93,7 +93,7 @@ fn sent_by<'p>(pair: &'p Pair<'_, NoTimestamps>, side: Side, index: Option<usize
 // Writes the record of a segment, if there is one.
 fn put_segment<W: Write>(
     alloc: Global,
-    micros: usize,
+    micros: u64,
     segment: Option<&Segment>,
     out: &mut W,
 ) -> Result<(), End> {

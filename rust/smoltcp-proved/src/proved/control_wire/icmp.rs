@@ -210,7 +210,7 @@ impl<'a> Icmpv6Repr<'a> {
             (129, 0) => Ok(Icmpv6Repr::EchoReply { ident, seq_no, body }),
             (1, reason) => unreachable_v6(reason, body),
             (3, reason) => exceeded_v6(reason, body),
-            (4, reason) => problem_v6(reason, be32_at(bytes, 4) as u32, body),
+            (4, reason) => problem_v6(reason, be32_at(bytes, 4), body),
             _ => Err(Error),
         }
     }

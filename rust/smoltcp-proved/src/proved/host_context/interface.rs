@@ -7,7 +7,7 @@ use crate::proved::smoltcp_socket::time::Instant;
 use crate::proved::smoltcp_socket::wire::{ChecksumCapabilities, IpAddress, Ipv4Address, Ipv6Address};
 
 // No moment is later, in microseconds: some 36,000 years.
-const LATEST: usize = 1 << 60;
+const LATEST: u64 = 1 << 60;
 
 /// An interface with at most one address of each version of IP: the context of every call of a socket.
 ///
@@ -23,7 +23,7 @@ const LATEST: usize = 1 << 60;
 pub struct Interface<W, O> {
     v4: Ipv4Address,
     v6: Ipv6Address,
-    micros: usize,
+    micros: u64,
     mtu: usize,
     /// Which checksums are computed and tested here, and which by the device; at first all are computed here.
     pub checksums: ChecksumCapabilities,
@@ -65,13 +65,13 @@ impl<W, O> Interface<W, O> {
     }
 
     /// Sets the time, in microseconds since any moment that the program chooses; some 36,000 years at most.
-    pub fn set_micros(&mut self, micros: usize) {
+    pub fn set_micros(&mut self, micros: u64) {
         self.micros = micros.min(LATEST);
     }
 
     /// Sets the time in milliseconds.
     pub fn set_millis(&mut self, millis: u32) {
-        self.micros = millis as usize * 1000;
+        self.micros = millis as u64 * 1000;
     }
 
     /// The time in milliseconds; 2^32 - 1, some 49 days, where it is later.

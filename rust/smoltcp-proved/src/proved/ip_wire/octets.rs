@@ -17,8 +17,8 @@ pub fn be16_at(bytes: &[u8], at: usize) -> usize {
 }
 
 /// The number of the four bytes at `at`.
-pub fn be32_at(bytes: &[u8], at: usize) -> usize {
-    65536 * be16_at(bytes, at) + be16_at(bytes, at + 2)
+pub fn be32_at(bytes: &[u8], at: usize) -> u32 {
+    65536 * be16_at(bytes, at) as u32 + be16_at(bytes, at + 2) as u32
 }
 
 /// The bytes from `at` on.

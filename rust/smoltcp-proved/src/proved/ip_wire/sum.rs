@@ -14,13 +14,13 @@ pub fn ones_add(a: u16, b: u16) -> u16 {
 ///
 /// A sum over pieces is worked out piece by piece, where all but the last have an even length.
 pub fn sum_after(start: u16, bytes: &[u8]) -> u16 {
-    sum_after_wide(start as usize, 0, bytes)
+    sum_after_wide(start as u64, 0, bytes)
 }
 
 /// The sum of the Internet checksum (RFC 1071) of `bytes` behind `start` and `swapped`; the latter's words have the low
 /// byte first. Neither sum need be folded, and a segment without a payload has nothing more to be read.
 #[inline(always)]
-pub fn sum_after_wide(start: usize, swapped: usize, bytes: &[u8]) -> u16 {
+pub fn sum_after_wide(start: u64, swapped: u64, bytes: &[u8]) -> u16 {
     if bytes.is_empty() {
         return swapped_word(start, swapped);
     }
@@ -28,7 +28,7 @@ pub fn sum_after_wide(start: usize, swapped: usize, bytes: &[u8]) -> u16 {
 }
 
 #[inline(never)]
-fn sum_by_eights(start: usize, swapped: usize, bytes: &[u8]) -> u16 {
+fn sum_by_eights(start: u64, swapped: u64, bytes: &[u8]) -> u16 {
     let mut total = swapped as u128;
     let mut at = 0;
     while at < bytes.len() / 128 * 128 {
@@ -70,23 +70,23 @@ fn le64_at(bytes: &[u8], at: usize) -> u128 {
 }
 
 // A wide sum with its upper half added to the lower one, and again: it comes to the same.
-fn narrowed(total: u128) -> usize {
+fn narrowed(total: u128) -> u64 {
     halved(carried(total))
 }
 
 // A wide sum with its upper half added to the lower one, and the carry of that.
-fn carried(total: u128) -> usize {
+fn carried(total: u128) -> u64 {
     let once = total % 0x1_0000_0000_0000_0000 + total / 0x1_0000_0000_0000_0000;
-    (once % 0x1_0000_0000_0000_0000 + once / 0x1_0000_0000_0000_0000) as usize
+    (once % 0x1_0000_0000_0000_0000 + once / 0x1_0000_0000_0000_0000) as u64
 }
 
 // Adds the last bytes, fewer than eight, to a wide sum: each test looks at one bit of how many there are.
-fn add_few(total: usize, bytes: &[u8]) -> usize {
+fn add_few(total: u64, bytes: &[u8]) -> u64 {
     add_last(add_pair(add_four(total, bytes), bytes), bytes)
 }
 
 // Adds the four bytes behind the last eight, where there are as many.
-fn add_four(total: usize, bytes: &[u8]) -> usize {
+fn add_four(total: u64, bytes: &[u8]) -> u64 {
     if bytes.len() % 8 < 4 {
         return total;
     }
@@ -94,7 +94,7 @@ fn add_four(total: usize, bytes: &[u8]) -> usize {
 }
 
 // Adds the two bytes behind the last four, where there are as many.
-fn add_pair(total: usize, bytes: &[u8]) -> usize {
+fn add_pair(total: u64, bytes: &[u8]) -> u64 {
     if bytes.len() % 4 < 2 {
         return total;
     }
@@ -102,34 +102,34 @@ fn add_pair(total: usize, bytes: &[u8]) -> usize {
 }
 
 // Adds the last byte, where it has no other beside it.
-fn add_last(total: usize, bytes: &[u8]) -> usize {
+fn add_last(total: u64, bytes: &[u8]) -> u64 {
     if bytes.len() % 2 == 0 {
         return total;
     }
-    total + bytes[bytes.len() - 1] as usize
+    total + bytes[bytes.len() - 1] as u64
 }
 
 // The number of the four bytes at `at`, the lowest first.
-fn le32_at(bytes: &[u8], at: usize) -> usize {
+fn le32_at(bytes: &[u8], at: usize) -> u64 {
     le16_at(bytes, at) + 65536 * le16_at(bytes, at + 2)
 }
 
-fn le16_at(bytes: &[u8], at: usize) -> usize {
-    bytes[at] as usize + 256 * bytes[at + 1] as usize
+fn le16_at(bytes: &[u8], at: usize) -> u64 {
+    bytes[at] as u64 + 256 * bytes[at + 1] as u64
 }
 
 // A wide sum with its upper half added to the lower one: it comes to the same.
-fn halved(total: usize) -> usize {
+fn halved(total: u64) -> u64 {
     total % 0x1_0000_0000 + total / 0x1_0000_0000
 }
 
 // A start and a wide sum of numbers with the lowest byte first, as a word.
-fn swapped_word(start: usize, total: usize) -> u16 {
+fn swapped_word(start: u64, total: u64) -> u16 {
     folded(start + 256 * total)
 }
 
 // A wide sum as a word, each carry added at the other end.
-fn folded(total: usize) -> u16 {
+fn folded(total: u64) -> u16 {
     both_halves((total % 0x10000 + total / 0x10000) as u32)
 }
 
@@ -137,7 +137,7 @@ fn folded(total: usize) -> u16 {
 // is added to the other. No test and no jump.
 fn both_halves(total: u32) -> u16 {
     let rotated = total % 0x10000 * 0x10000 + total / 0x10000;
-    ((total as usize + rotated as usize) / 0x10000 % 0x10000) as u16
+    ((total as u64 + rotated as u64) / 0x10000 % 0x10000) as u16
 }
 
 /// The sum of 20 bytes, as a header without options has, with no loop and no call.
@@ -155,40 +155,40 @@ pub fn checksum_after(start: u16, bytes: &[u8]) -> u16 {
 /// The sum of the pseudo header of a packet whose payload has `length` bytes, of this protocol (RFC 8200, section 8.1;
 /// for IPv4 RFC 9293, section 3.1).
 pub fn pseudo_sum(src: &IpAddress, dst: &IpAddress, protocol: u8, length: usize) -> u16 {
-    let rest = length % 0x1_0000_0000 + protocol as usize;
+    let rest = length as u64 % 0x1_0000_0000 + protocol as u64;
     word_of(address_sum(src) + address_sum(dst) + rest)
 }
 
 /// The sum of words that were added up without a carry at the other end, up to 2^62.
-pub fn word_of(total: usize) -> u16 {
+pub fn word_of(total: u64) -> u16 {
     folded(halved(total))
 }
 
 /// The sum of two IPv4 addresses and of words that were added up before.
-pub fn sum_with_addresses(total: usize, src: &Ipv4Address, dst: &Ipv4Address) -> u16 {
+pub fn sum_with_addresses(total: u64, src: &Ipv4Address, dst: &Ipv4Address) -> u16 {
     swapped_word(halved(total), swapped_octets(&src.0) + swapped_octets(&dst.0))
 }
 
 /// The octets of an IPv4 address as a number, the lowest first: what they add to a sum of such numbers.
-pub fn swapped_octets(octets: &[u8; 4]) -> usize {
+pub fn swapped_octets(octets: &[u8; 4]) -> u64 {
     le32_at(octets, 0)
 }
 
 // The sum of an address as numbers of four bytes, not folded.
-fn address_sum(address: &IpAddress) -> usize {
+fn address_sum(address: &IpAddress) -> u64 {
     match address {
         IpAddress::Ipv4(address) => four_octets(&address.0),
         IpAddress::Ipv6(address) => sixteen_octets(&address.0),
     }
 }
 
-fn four_octets(octets: &[u8; 4]) -> usize {
-    be32_at(octets, 0)
+fn four_octets(octets: &[u8; 4]) -> u64 {
+    be32_at(octets, 0) as u64
 }
 
-fn sixteen_octets(octets: &[u8; 16]) -> usize {
-    let first = be32_at(octets, 0) + be32_at(octets, 4);
-    first + be32_at(octets, 8) + be32_at(octets, 12)
+fn sixteen_octets(octets: &[u8; 16]) -> u64 {
+    let first = be32_at(octets, 0) as u64 + be32_at(octets, 4) as u64;
+    first + be32_at(octets, 8) as u64 + be32_at(octets, 12) as u64
 }
 
 /// A sum over two pieces of which the first has an even length is that of both.

@@ -13,7 +13,7 @@ pub const RECORD: usize = 16;
 pub const LONGEST: usize = 65535;
 
 // LINKTYPE_RAW: each packet begins with its IPv4 or IPv6 header.
-const RAW: usize = 101;
+const RAW: u32 = 101;
 
 /// What is wrong with a stream.
 #[derive(Debug, Clone, Copy, PartialEq, Eq)]
@@ -37,7 +37,7 @@ pub struct Format {
 #[derive(Debug, Clone, Copy, PartialEq, Eq)]
 pub struct Record {
     /// When the packet came, in microseconds.
-    pub micros: usize,
+    pub micros: u64,
     /// How many bytes of it follow, at most 65535. Where none does, no packet came, and only time went by.
     pub len: usize,
     /// Whether those are all of its bytes.
@@ -54,28 +54,28 @@ impl Format {
 
     /// Reads the header of a record: `TooLong` where more than 65535 bytes follow.
     pub fn record(&self, header: &[u8]) -> Result<Record, PcapError> {
-        let len = self.number_at(header, 8);
+        let len = self.number_at(header, 8) as usize;
         if len > LONGEST {
             return Err(PcapError::TooLong);
         }
         Ok(Record {
             micros: self.micros(self.number_at(header, 0), self.number_at(header, 4)),
             len,
-            whole: self.number_at(header, 12) <= len,
+            whole: self.number_at(header, 12) as usize <= len,
         })
     }
 
-    fn micros(&self, secs: usize, part: usize) -> usize {
-        secs * 1_000_000 + if self.nanos { part / 1000 } else { part }
+    fn micros(&self, secs: u32, part: u32) -> u64 {
+        secs as u64 * 1_000_000 + if self.nanos { part / 1000 } else { part } as u64
     }
 
     // The number of the four bytes at `at`.
-    fn number_at(&self, bytes: &[u8], at: usize) -> usize {
+    fn number_at(&self, bytes: &[u8], at: usize) -> u32 {
         if self.little { le32_at(bytes, at) } else { be32_at(bytes, at) }
     }
 }
 
-fn of_magic(magic: usize) -> Result<Format, PcapError> {
+fn of_magic(magic: u32) -> Result<Format, PcapError> {
     let (little, nanos) = match magic {
         0xa1b2_c3d4 => (false, false),
         0xa1b2_3c4d => (false, true),
@@ -86,11 +86,11 @@ fn of_magic(magic: usize) -> Result<Format, PcapError> {
     Ok(Format { little, nanos })
 }
 
-fn le32_at(bytes: &[u8], at: usize) -> usize {
-    bytes[at] as usize
-        + 256 * bytes[at + 1] as usize
-        + 65536 * bytes[at + 2] as usize
-        + 16777216 * bytes[at + 3] as usize
+fn le32_at(bytes: &[u8], at: usize) -> u32 {
+    bytes[at] as u32
+        + 256 * bytes[at + 1] as u32
+        + 65536 * bytes[at + 2] as u32
+        + 16777216 * bytes[at + 3] as u32
 }
 
 /// The header of a stream of raw IP packets with microseconds, the highest byte of each number first.
@@ -100,14 +100,14 @@ pub fn stream_header() -> [u8; HEADER] {
 
 /// Writes the header of the record of a packet of `len` bytes into the first 16 bytes of `buffer`. The seconds count
 /// modulo 2^32.
-pub fn put_record_header(buffer: &mut [u8], micros: usize, len: usize) {
+pub fn put_record_header(buffer: &mut [u8], micros: u64, len: usize) {
     let (secs, part) = (be32(micros / 1_000_000), be32(micros % 1_000_000));
-    put_three(buffer, &secs, &part, &twice(be32(len)));
+    put_three(buffer, &secs, &part, &twice(be32(len as u64)));
 }
 
-fn be32(number: usize) -> [u8; 4] {
-    let [a, b] = be16(number / 65536);
-    let [c, d] = be16(number);
+fn be32(number: u64) -> [u8; 4] {
+    let [a, b] = be16((number / 65536) as usize);
+    let [c, d] = be16(number as usize);
     [a, b, c, d]
 }
 

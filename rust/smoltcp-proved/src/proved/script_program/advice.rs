@@ -3,7 +3,7 @@
 
 use crate::proved::sock_pair::script::ScriptError;
 use crate::proved::sock_pair::script::lines::{Line, Lines};
-use crate::proved::sock_pair::script::values::{is_text, limit, number, rules, side, switch};
+use crate::proved::sock_pair::script::values::{index, is_text, limit, number, rules, side, switch};
 use crate::proved::sock_pair::script::words::split_word;
 use core::fmt;
 use core::fmt::Write as _;
@@ -17,6 +17,7 @@ enum Form {
     Limit,
     Text,
     Number(usize),
+    Index,
 }
 
 const SIZE: Form = Form::Number(1_048_576);
@@ -24,8 +25,6 @@ const SIZE: Form = Form::Number(1_048_576);
 const WORD: Form = Form::Number(4_294_967_295);
 
 const MILLIS: Form = Form::Number(1_000_000_000);
-
-const INDEX: Form = Form::Number(9_999_999_999);
 
 impl Form {
     fn fits(self, word: &[u8]) -> bool {
@@ -36,6 +35,7 @@ impl Form {
             Form::Limit => limit(word).is_some(),
             Form::Text => is_text(word),
             Form::Number(most) => number(word, most).is_some(),
+            Form::Index => index(word).is_some(),
         }
     }
 }
@@ -49,6 +49,7 @@ impl fmt::Display for Form {
             Form::Limit => f.write_str("-, or 1 to 10 digits that write at most 536870911"),
             Form::Text => f.write_str("printable ASCII characters"),
             Form::Number(most) => write!(f, "1 to 10 digits that write at most {most}"),
+            Form::Index => f.write_str("1 to 10 digits that write at most 9999999999"),
         }
     }
 }
@@ -71,7 +72,7 @@ const EVENTS: &[Shape] = &[
     Shape("dispatch", "S MS", &[Form::Side, MILLIS]),
     Shape("fail", "S MS", &[Form::Side, MILLIS]),
     Shape("gone", "S MS", &[Form::Side, MILLIS]),
-    Shape("deliver", "INDEX MS WORD", &[INDEX, MILLIS, WORD]),
+    Shape("deliver", "INDEX MS WORD", &[Form::Index, MILLIS, WORD]),
 ];
 
 // The shape of the lines that begin with this word.

@@ -93,5 +93,5 @@ fn stamp_at(bytes: &[u8]) -> TcpTimestampRepr {
 
 /// The number of the four bytes at `at`, in network order.
 pub fn be32_at(bytes: &[u8], at: usize) -> u32 {
-    octets::be32_at(bytes, at) as u32
+    octets::be32_at(bytes, at)
 }

@@ -7,19 +7,19 @@ use crate::proved::ip_wire::{IpAddress, IpRepr, Ipv4Repr};
 /// What comes to `pseudo_sum` between the addresses of the header, of a segment of so many bytes: numbers, and others
 /// with the low byte first. The addresses are read where they stand, and the sum is folded with the segment's alone.
 #[inline(always)]
-pub(crate) fn pseudo_parts(ip: &IpRepr, length: usize) -> (usize, usize) {
+pub(crate) fn pseudo_parts(ip: &IpRepr, length: usize) -> (u64, u64) {
     match ip {
         IpRepr::Ipv4(header) => pseudo_parts_v4(header, length),
         IpRepr::Ipv6(header) => {
             let sum =
                 pseudo_sum(&IpAddress::Ipv6(header.src_addr), &IpAddress::Ipv6(header.dst_addr), 6, length);
-            (sum as usize, 0)
+            (sum as u64, 0)
         }
     }
 }
 
 #[inline(always)]
-fn pseudo_parts_v4(header: &Ipv4Repr, length: usize) -> (usize, usize) {
+fn pseudo_parts_v4(header: &Ipv4Repr, length: usize) -> (u64, u64) {
     let addresses = swapped_octets(&header.src_addr.0) + swapped_octets(&header.dst_addr.0);
-    (length % 0x1_0000_0000 + 6, addresses)
+    (length as u64 % 0x1_0000_0000 + 6, addresses)
 }

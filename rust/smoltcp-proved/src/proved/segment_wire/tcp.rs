@@ -40,7 +40,7 @@ pub fn emit_front(
     write_front(repr, header_len, buffer);
     if caps.tcp.tx() {
         let start = pseudo_sum(src_addr, dst_addr, 6, buffer.len());
-        write_checksum(repr, header_len, start as usize, 0, buffer);
+        write_checksum(repr, header_len, start as u64, 0, buffer);
     }
 }
 
@@ -60,7 +60,7 @@ pub(crate) fn emit_behind(
 }
 
 // Writes the checksum of a segment that has 0 in its place, behind a pseudo header of this sum, not folded.
-fn write_checksum(repr: &TcpRepr<'_>, header_len: usize, start: usize, swapped: usize, buffer: &mut [u8]) {
+fn write_checksum(repr: &TcpRepr<'_>, header_len: usize, start: u64, swapped: u64, buffer: &mut [u8]) {
     let front = start + header_sum(repr, header_len);
     fill_checksum(front, swapped, buffer);
 }

@@ -48,7 +48,8 @@ fn write(repr: &UdpRepr, payload: &[u8], buffer: &mut [u8]) {
 
 // The sum of a header with a checksum of 0, and of what was summed before, worked out from the numbers.
 fn header_sum(start: u16, repr: &UdpRepr, len: usize) -> u16 {
-    word_of(start as usize + repr.src_port as usize + repr.dst_port as usize + len % 0x10000)
+    let total = start as usize + repr.src_port as usize + repr.dst_port as usize + len % 0x10000;
+    word_of(total as u64)
 }
 
 // Writes the checksum of what was summed before, with the header, and of what stands behind the header.

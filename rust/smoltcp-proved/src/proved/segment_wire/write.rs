@@ -36,11 +36,11 @@ fn header(repr: &TcpRepr<'_>, header_len: usize) -> [u8; 20] {
 
 /// What a header with a checksum of 0 adds to a sum that is not folded. It is worked out from the numbers: what was
 /// just written in single bytes is read slowly as words.
-pub fn header_sum(repr: &TcpRepr<'_>, header_len: usize) -> usize {
-    let ports = repr.src_port as usize + repr.dst_port as usize;
-    let numbers = repr.seq_number.0 as usize + ack_field(repr.ack_number) as usize;
-    let flags = (control_bits(repr.control) + ack_bit(repr.ack_number)) as usize;
-    let rest = header_len / 4 * 16 * 256 + flags + repr.window_len as usize;
+pub fn header_sum(repr: &TcpRepr<'_>, header_len: usize) -> u64 {
+    let ports = repr.src_port as u64 + repr.dst_port as u64;
+    let numbers = repr.seq_number.0 as u64 + ack_field(repr.ack_number) as u64;
+    let flags = (control_bits(repr.control) + ack_bit(repr.ack_number)) as u64;
+    let rest = (header_len / 4 * 16) as u64 * 256 + flags + repr.window_len as u64;
     ports + numbers + rest
 }
 
@@ -145,7 +145,7 @@ fn put_padding(buffer: &mut [u8], at: usize, count: usize) -> usize {
 }
 
 /// Writes the checksum of a segment, of what was summed before, with its header, and of what stands behind the header.
-pub fn fill_checksum(front: usize, swapped: usize, buffer: &mut [u8]) {
+pub fn fill_checksum(front: u64, swapped: u64, buffer: &mut [u8]) {
     let checksum = 0xffff - sum_after_wide(front, swapped, behind(buffer, 20));
     put(buffer, 16, &be16(checksum as usize));
 }

@@ -16,7 +16,7 @@ pub type Reply = (IpRepr, TcpRepr<'static>);
 const HOP_LIMIT: u8 = 64;
 
 // How many sequence numbers there are.
-const SEQUENCE_SPACE: usize = 0x1_0000_0000;
+const SEQUENCE_SPACE: u64 = 0x1_0000_0000;
 
 // The reply with its header.
 pub(crate) fn with_header(ip_repr: &IpRepr, reply: TcpRepr<'static>) -> Reply {
@@ -46,7 +46,7 @@ fn rst_segment(repr: &TcpRepr<'_>) -> TcpRepr<'static> {
 
 // The number so far behind `next`.
 fn wire_number(next: TcpSeqNumber, offset: usize) -> u32 {
-    next.plus(offset % SEQUENCE_SPACE).0
+    next.plus((offset as u64 % SEQUENCE_SPACE) as usize).0
 }
 
 // A range's edges on the wire.

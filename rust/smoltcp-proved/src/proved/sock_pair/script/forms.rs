@@ -8,7 +8,7 @@ use crate::proved::pair_core::{Event, Moment, Setting};
 use crate::proved::sock_pair::script::error::ScriptError;
 use crate::proved::sock_pair::script::keyword::Keyword;
 use crate::proved::sock_pair::script::lines::Line;
-use crate::proved::sock_pair::script::values::{is_text, number, rules, side, switch};
+use crate::proved::sock_pair::script::values::{index, is_text, number, rules, side, switch};
 use crate::proved::sock_pair::script::words::{one_word, one_word_and_text, three_words, two_words};
 
 // The largest values of a line.
@@ -17,8 +17,6 @@ const WORD: usize = 4_294_967_295;
 const MILLIS: usize = 1_000_000_000;
 
 const SIZE: usize = 1_048_576;
-
-const INDEX: usize = 9_999_999_999;
 
 const IP_MTU: usize = 1500;
 
@@ -151,10 +149,10 @@ fn dispatch(line: usize, values: &[u8], has_address: bool, fail: bool) -> Result
 
 // `deliver INDEX MS WORD`
 fn deliver(line: usize, values: &[u8]) -> Result<Event, ScriptError> {
-    let Some((index, millis, word)) = three_words(values) else {
+    let Some((place, millis, word)) = three_words(values) else {
         return Err(ScriptError::WrongNumberOfWords { line });
     };
-    match (number(index, INDEX), number(millis, MILLIS), number(word, WORD)) {
+    match (index(place), number(millis, MILLIS), number(word, WORD)) {
         (Some(index), Some(millis), Some(word)) => {
             Ok(Event::Deliver { index, moment: moment(true, millis, word) })
         }
