@@ -210,6 +210,8 @@ impl<'a> Tcp<'a> {
         // SAFETY: C.md: buffers, bytes. The memory has the size and the alignment of `struct smoltcp_tcp`, and holds no
         // socket that is used: it is this one's alone, for 'a or for good. The lengths were tested.
         unsafe { ffi::smoltcp_tcp_init_nonnull(&mut made.handle(), rx, tx) };
+        // a new socket of C has the RFCs' rules, one of Rust smoltcp's
+        made.set_rules(0);
         made
     }
 
