@@ -1,4 +1,5 @@
-/* Asks a name server for the addresses of a name (RFC 1035), by one UDP socket in a host on a TUN device of Linux.
+/* Asks a name server for the addresses of a name (RFC 1035), by one UDP socket in a host on a TUN device of Linux, and
+ * by an ICMP socket that hears when nobody serves the port.
  *
  *     resolve DEVICE OWN SERVER NAME [A|AAAA]
  *
@@ -10,16 +11,32 @@
 enum { PLACES = 4, ROOM = 4096, TRIES = 5, A = 1, AAAA = 28 };
 
 static struct tun tun;
-static struct smoltcp_socket_id id;
+static struct smoltcp_socket_id id, errors_id;
 static struct smoltcp_udp_place rx_places[PLACES], tx_places[PLACES];
-static uint8_t rx[ROOM], tx[ROOM];
+static struct smoltcp_icmp_place error_places[PLACES];
+static uint8_t rx[ROOM], tx[ROOM], errors_rx[ROOM];
 
-static int add_socket(void) {
-    struct smoltcp_endpoint at = smoltcp_any(tun_port());
+static int add_socket(const struct smoltcp_endpoint *at) {
     struct smoltcp_udp_buffer in = {rx_places, PLACES, rx, ROOM}, out = {tx_places, PLACES, tx, ROOM};
     struct smoltcp_udp s;
-    return smoltcp_udp_init(&s, in, out) == SMOLTCP_OK && smoltcp_udp_bind(&s, &at) == SMOLTCP_OK
+    return smoltcp_udp_init(&s, in, out) == SMOLTCP_OK && smoltcp_udp_bind(&s, at) == SMOLTCP_OK
            && smoltcp_host_add_udp(&tun.host, &s, &id) == SMOLTCP_OK;
+}
+
+/* A socket for the ICMP errors about what is sent by UDP from this port; it sends nothing. */
+static int add_errors(const struct smoltcp_endpoint *at) {
+    struct smoltcp_icmp_endpoint about = {SMOLTCP_ICMP_UDP, 0, {{0, {0}, {0}}, 0}};
+    struct smoltcp_icmp_buffer in = {error_places, PLACES, errors_rx, ROOM}, out = {error_places, 0, errors_rx, 0};
+    struct smoltcp_icmp s;
+    about.endpoint = *at;
+    return smoltcp_icmp_init(&s, in, out) == SMOLTCP_OK && smoltcp_icmp_bind(&s, &about) == SMOLTCP_OK
+           && smoltcp_host_add_icmp(&tun.host, &s, &errors_id) == SMOLTCP_OK;
+}
+
+/* 1 when an ICMP error has come about what was asked, else 0. */
+static int is_refused(void) {
+    struct smoltcp_icmp *s;
+    return smoltcp_host_icmp(&tun.host, &errors_id, &s) == SMOLTCP_OK && smoltcp_icmp_can_recv(s) == 1;
 }
 
 /* Writes a query of 12 bytes of header, the name as labels, and two numbers; its length, or 0 if the name is none. */
@@ -100,21 +117,22 @@ static size_t answered(const struct smoltcp_endpoint *server, const uint8_t *ask
 
 int main(int argc, char **argv) {
     uint8_t asked[300], data[TUN_MTU];
-    struct smoltcp_endpoint server;
+    struct smoltcp_endpoint server, own = smoltcp_any(tun_port());
     size_t len, n = 0;
     int attempt;
     if (argc != 5 && argc != 6) return fprintf(stderr, "usage: resolve DEVICE OWN SERVER NAME [A|AAAA]\n"), 2;
     len = query(asked, (uint16_t)tun_random(), argv[4], argc == 6 && strcmp(argv[5], "AAAA") == 0 ? AAAA : A);
     server.port = 53;
     if (len == 0 || smoltcp_address_from(argv[3], &server.addr) != SMOLTCP_OK) return fputs("resolve: ?\n", stderr), 2;
-    if (!tun_open(&tun, argv[1], argv[2], 1)) return perror(argv[1]), 2;
-    if (!add_socket()) return 2;
+    if (!tun_open(&tun, argv[1], argv[2], 2)) return perror(argv[1]), 2;
+    if (!add_socket(&own) || !add_errors(&own)) return 2;
     for (attempt = 0; attempt < TRIES && n == 0; attempt++) {
         int64_t until = tun_clock() + SECOND;
         ask(&server, asked, len);
         while (n == 0 && tun.now < until) {
             tun_round(&tun, until);
             n = answered(&server, asked, data, sizeof data);
+            if (is_refused()) return fprintf(stderr, "resolve: nobody serves the port\n"), 1;
         }
     }
     if (n == 0) return fprintf(stderr, "resolve: no answer\n"), 1;

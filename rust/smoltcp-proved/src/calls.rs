@@ -204,7 +204,7 @@ impl<'a> Tcp<'a> {
         assert!(memory.len() == 1, "memory for one socket");
         let (at, _, own) = memory.taken();
         let (rx, tx) = (Buffer::new(rx), Buffer::new(tx));
-        let made = Tcp { at: at.cast(), rx, tx, _own: own, borrowed: PhantomData };
+        let mut made = Tcp { at: at.cast(), rx, tx, _own: own, borrowed: PhantomData };
         let [rx, tx] =
             [made.rx.reach, made.tx.reach].map(|of| ffi::Bytes { at: of.at.as_ptr(), len: of.len });
         // SAFETY: C.md: buffers, bytes. The memory has the size and the alignment of `struct smoltcp_tcp`, and holds no
