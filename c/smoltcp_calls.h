@@ -65,38 +65,38 @@ SMOLTCP_INLINE const char *smoltcp_end_name(int64_t end) {
     }
 }
 
-SMOLTCP_INLINE struct smoltcp_sizes smoltcp_sizes(void) {
+SMOLTCP_INLINE struct smoltcp_sizes smoltcp_library_sizes(void) {
     struct smoltcp_sizes sizes;
     smoltcp_sizes_nonnull(&sizes);
     return sizes;
 }
 
 SMOLTCP_INLINE size_t smoltcp_tcp_size(void) {
-    return smoltcp_sizes().tcp;
+    return smoltcp_library_sizes().tcp;
 }
 
 SMOLTCP_INLINE size_t smoltcp_udp_size(void) {
-    return smoltcp_sizes().udp;
+    return smoltcp_library_sizes().udp;
 }
 
 SMOLTCP_INLINE size_t smoltcp_udp_place_size(void) {
-    return smoltcp_sizes().udp_place;
+    return smoltcp_library_sizes().udp_place;
 }
 
 SMOLTCP_INLINE size_t smoltcp_raw_size(void) {
-    return smoltcp_sizes().raw;
+    return smoltcp_library_sizes().raw;
 }
 
 SMOLTCP_INLINE size_t smoltcp_raw_place_size(void) {
-    return smoltcp_sizes().raw_place;
+    return smoltcp_library_sizes().raw_place;
 }
 
 SMOLTCP_INLINE size_t smoltcp_icmp_size(void) {
-    return smoltcp_sizes().icmp;
+    return smoltcp_library_sizes().icmp;
 }
 
 SMOLTCP_INLINE size_t smoltcp_icmp_place_size(void) {
-    return smoltcp_sizes().icmp_place;
+    return smoltcp_library_sizes().icmp_place;
 }
 
 SMOLTCP_INLINE int64_t smoltcp_tcp_init_sized(struct smoltcp_tcp *s, size_t size, uint8_t *rx, size_t rx_len,
@@ -104,7 +104,7 @@ SMOLTCP_INLINE int64_t smoltcp_tcp_init_sized(struct smoltcp_tcp *s, size_t size
     struct smoltcp_tcp_handle h = {SMOLTCP_AT(s)};
     struct smoltcp_bytes of_rx = {rx, rx_len}, of_tx = {tx, tx_len};
     if (!s || !rx || !tx) return SMOLTCP_ERROR_NULL;
-    if (size != smoltcp_sizes().tcp) return SMOLTCP_ERROR_VERSION;
+    if (size != smoltcp_library_sizes().tcp) return SMOLTCP_ERROR_VERSION;
     if (rx_len > SMOLTCP_LONGEST_BUFFER || tx_len > SMOLTCP_LONGEST_BUFFER) return SMOLTCP_ERROR_RANGE;
     return smoltcp_tcp_init_nonnull(&h, of_rx, of_tx);
 }
@@ -161,7 +161,7 @@ SMOLTCP_INLINE int64_t smoltcp_udp_init_sized(struct smoltcp_udp *s, size_t size
     struct smoltcp_udp_handle h = {SMOLTCP_AT(s)}, place;
     size_t i;
     if (!s || !rx.places || !rx.bytes || !tx.places || !tx.bytes) return SMOLTCP_ERROR_NULL;
-    if (size != smoltcp_sizes().udp) return SMOLTCP_ERROR_VERSION;
+    if (size != smoltcp_library_sizes().udp) return SMOLTCP_ERROR_VERSION;
     if (rx.count > SMOLTCP_LONGEST_BUFFER || rx.len > SMOLTCP_LONGEST_BUFFER) return SMOLTCP_ERROR_RANGE;
     if (tx.count > SMOLTCP_LONGEST_BUFFER || tx.len > SMOLTCP_LONGEST_BUFFER) return SMOLTCP_ERROR_RANGE;
     for (i = 0; i < rx.count; i++) {
@@ -253,7 +253,7 @@ SMOLTCP_INLINE int64_t smoltcp_raw_init_sized(struct smoltcp_raw *s, size_t size
     struct smoltcp_raw_handle h = {SMOLTCP_AT(s)}, place;
     size_t i;
     if (!s || !filter || !rx.places || !rx.bytes || !tx.places || !tx.bytes) return SMOLTCP_ERROR_NULL;
-    if (size != smoltcp_sizes().raw) return SMOLTCP_ERROR_VERSION;
+    if (size != smoltcp_library_sizes().raw) return SMOLTCP_ERROR_VERSION;
     if (filter->version != 0 && filter->version != 4 && filter->version != 6) return SMOLTCP_ERROR_RANGE;
     if (rx.count > SMOLTCP_LONGEST_BUFFER || rx.len > SMOLTCP_LONGEST_BUFFER) return SMOLTCP_ERROR_RANGE;
     if (tx.count > SMOLTCP_LONGEST_BUFFER || tx.len > SMOLTCP_LONGEST_BUFFER) return SMOLTCP_ERROR_RANGE;
@@ -347,7 +347,7 @@ SMOLTCP_INLINE int64_t smoltcp_icmp_init_sized(struct smoltcp_icmp *s, size_t si
     struct smoltcp_icmp_handle h = {SMOLTCP_AT(s)}, place;
     size_t i;
     if (!s || !rx.places || !rx.bytes || !tx.places || !tx.bytes) return SMOLTCP_ERROR_NULL;
-    if (size != smoltcp_sizes().icmp) return SMOLTCP_ERROR_VERSION;
+    if (size != smoltcp_library_sizes().icmp) return SMOLTCP_ERROR_VERSION;
     if (rx.count > SMOLTCP_LONGEST_BUFFER || rx.len > SMOLTCP_LONGEST_BUFFER) return SMOLTCP_ERROR_RANGE;
     if (tx.count > SMOLTCP_LONGEST_BUFFER || tx.len > SMOLTCP_LONGEST_BUFFER) return SMOLTCP_ERROR_RANGE;
     for (i = 0; i < rx.count; i++) {

@@ -83,7 +83,8 @@ size_t smoltcp_host_size(void);
  * the heap for one socket, and some 850 a socket for ten or more. Its moment is 0, its MTU 1500 bytes, and its guards
  * are 30 seconds for a handshake, a minute for closing and for timeout, and two minutes for window. The key is what
  * initial sequence numbers are made of (RFC 6528): no two hosts have the same. SMOLTCP_ERROR_ADDRESS where an address
- * is of no version, SMOLTCP_ERROR_MEMORY where the heap has too little; nothing is kept then, and no host is there.
+ * is of no version, SMOLTCP_ERROR_MEMORY where the heap has too little; nothing is kept then, and no host is there. What
+ * lies in the memory is not looked at: a host that was not released loses its tables, which stay allocated.
  *
  * Errors: SMOLTCP_ERROR_ADDRESS, SMOLTCP_ERROR_MEMORY, SMOLTCP_ERROR_VERSION, SMOLTCP_ERROR_NULL. */
 int64_t smoltcp_host_init(struct smoltcp_host *host, size_t capacity, const struct smoltcp_cidr *addresses,

@@ -13,8 +13,8 @@ extern "C" {
  * Errors: SMOLTCP_ERROR_RANGE, SMOLTCP_ERROR_NULL. */
 int64_t smoltcp_tcp_ask(const struct smoltcp_tcp *s, uint32_t what);
 
-/* Makes a closed socket in the memory, over the two buffers, of at most 2^30 bytes each (else SMOLTCP_ERROR_RANGE, with
- * nothing changed). The memory and the buffers are the socket's until smoltcp_tcp_release has answered SMOLTCP_OK.
+/* Makes a closed socket with SMOLTCP_RULES_RFC in the memory, over the two buffers, of at most 2^30 bytes each (else
+ * SMOLTCP_ERROR_RANGE, with nothing changed). The memory and the buffers are the socket's until smoltcp_tcp_release has answered SMOLTCP_OK.
  *
  * Errors: SMOLTCP_ERROR_RANGE, SMOLTCP_ERROR_VERSION, SMOLTCP_ERROR_NULL. */
 int64_t smoltcp_tcp_init(struct smoltcp_tcp *s, uint8_t *rx, size_t rx_len, uint8_t *tx, size_t tx_len);
@@ -240,7 +240,8 @@ int64_t smoltcp_tcp_pause_synack(struct smoltcp_tcp *s, uint8_t pause);
  * Errors: SMOLTCP_ERROR_RANGE, SMOLTCP_ERROR_NULL. */
 int64_t smoltcp_tcp_set_congestion_control(struct smoltcp_tcp *s, uint32_t kind);
 
-/* Chooses the rules of a socket that is not open: a new one has smoltcp's. SMOLTCP_ERROR_STATE where it is open.
+/* Chooses the rules of a socket that is not open: a new one has SMOLTCP_RULES_RFC; SMOLTCP_RULES_SMOLTCP does what
+ * smoltcp does, to the letter. SMOLTCP_ERROR_STATE where it is open.
  *
  * Errors: SMOLTCP_ERROR_RANGE, SMOLTCP_ERROR_STATE, SMOLTCP_ERROR_NULL. */
 int64_t smoltcp_tcp_set_rules(struct smoltcp_tcp *s, uint32_t rules);

@@ -177,7 +177,7 @@ const char *smoltcp_state_name(int64_t state);
 const char *smoltcp_end_name(int64_t end);
 
 /* The sizes that the library has. */
-struct smoltcp_sizes smoltcp_sizes(void);
+struct smoltcp_sizes smoltcp_library_sizes(void);
 size_t smoltcp_tcp_size(void);
 size_t smoltcp_udp_size(void);
 size_t smoltcp_udp_place_size(void);

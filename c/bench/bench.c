@@ -30,6 +30,7 @@ static void *ours_make(int host, size_t buffer) {
     s->cx.v4[0] = 10;
     s->cx.v4[3] = (uint8_t)host;
     smoltcp_tcp_init(&s->tcp, calloc(1, buffer), buffer, calloc(1, buffer), buffer);
+    smoltcp_tcp_set_rules(&s->tcp, SMOLTCP_RULES_SMOLTCP); /* what it is measured beside has these */
     smoltcp_tcp_set_ack_delay(&s->tcp, -1);
     smoltcp_tcp_set_congestion_control(&s->tcp, SMOLTCP_CONGESTION_NONE);
     return s;

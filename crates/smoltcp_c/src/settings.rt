@@ -206,8 +206,8 @@ pub extern "C" fn smoltcp_tcp_set_congestion_control_nonnull(h: &mut TcpHandle, 
     OK
 }
 
-/// Chooses the rules of a socket that is not open: 0 for smoltcp's, which a new socket has, 1 for those of RFC 9293
-/// outside of the receive window (sections 3.4 and 3.10.7.4). 0; or `ERROR_STATE` where the socket is open, or
+/// Chooses the rules of a socket that is not open: 0 for smoltcp's, 1 for those of the RFCs, which a new socket has
+/// (`Rules::Rfc`). 0; or `ERROR_STATE` where the socket is open, or
 /// `ERROR_RANGE` for another number, where nothing changes.
 #[unsafe(no_mangle)]
 pub extern "C" fn smoltcp_tcp_set_rules_nonnull(h: &mut TcpHandle, rules: u32) -> i64

@@ -8,10 +8,9 @@ ghost use Rattle.sock_core.specs.Received.{receiving};
 ghost use Rattle.sock_tcp.specs.Closing.{closed, aborted};
 ghost use Rattle.sock_tcp.specs.Opening.{Listens};
 ghost use Rattle.sock_tcp.specs.Queue.{queue_of};
-ghost use Rattle.sock_tcp.specs.View.{fresh};
 ghost use Rattle.sock_tcp.specs.Ended.{ended_by_abort, ended_by_close};
 ghost use Rattle.smoltcp_c.specs.Ends.{ended_by_answer};
-ghost use Rattle.smoltcp_c.specs.Tcp.{Answers, clock, ended, view, IsSocket};
+ghost use Rattle.smoltcp_c.specs.Tcp.{Answers, clock, ended, made_over, view, IsSocket};
 
 use crate::answers::{OK, listen_answer};
 use crate::clock::Clock;
@@ -20,10 +19,10 @@ use crate::handles::{TcpHandle, TcpRoom};
 use crate::memory::Bytes;
 use ip_wire::IpEndpoint;
 use net_base::ring_buffer::RingBuffer;
-use sock_tcp::Socket;
+use sock_tcp::{Rules, Socket};
 
-/// Makes a closed socket over the two buffers, of at most 2^30 bytes each, in the room. The socket has no source of
-/// timestamps. The three pieces of memory are the socket's until it is released. Answers 0.
+/// Makes a closed socket over the two buffers, of at most 2^30 bytes each, in the room. The socket has the RFCs' rules
+/// and no source of timestamps. The three pieces of memory are the socket's until it is released. Answers 0.
 #[unsafe(no_mangle)]
 pub extern "C" fn smoltcp_tcp_init_nonnull(room: &mut TcpRoom, rx: Bytes, tx: Bytes) -> i64
     requires empty { room.old.made ≡ None }
@@ -32,7 +31,7 @@ pub extern "C" fn smoltcp_tcp_init_nonnull(room: &mut TcpRoom, rx: Bytes, tx: By
     ensures answer { result ≡ pos 0 }
     ensures at { room.new.at ≡ room.old.at }
     ensures made { ForSome room.new.made (λ s. s.control_block
-        ≡ fresh (receiving (empty_ring rx.bytes)) (queue_of (empty_ring tx.bytes))) }
+        ≡ made_over (receiving (empty_ring rx.bytes)) (queue_of (empty_ring tx.bytes))) }
     ensures clock { ForSome room.new.made (λ s. s.tsval_generator ≡ None) }
     ensures ended { ForSome room.new.made (λ s. s.ended ≡ None) }
 {
@@ -42,16 +41,18 @@ pub extern "C" fn smoltcp_tcp_init_nonnull(room: &mut TcpRoom, rx: Bytes, tx: By
     OK
 }
 
-// A closed socket.
+// A closed socket by the RFCs' rules: who writes C has no programs for smoltcp's.
 #[tactic(auto, unfolding(sock_tcp::specs::View::fresh))]
 fn closed_over(rx: RingBuffer<'static, u8>, tx: RingBuffer<'static, u8>) -> Socket<'static, Clock>
     requires rx { length rx.queue + length rx.spare ≤ 2 ^ 30 }
     requires tx { length tx.queue + length tx.spare ≤ 2 ^ 30 }
-    ensures socket { result.control_block ≡ fresh (receiving rx.entry) (queue_of tx.entry) }
+    ensures socket { result.control_block ≡ made_over (receiving rx.entry) (queue_of tx.entry) }
     ensures clock { result.tsval_generator ≡ None }
     ensures ended { result.ended ≡ None }
 {
-    Socket::closed(rx, tx, None)
+    let mut socket = Socket::closed(rx, tx, None);
+    let _ = socket.set_rules(Rules::Rfc);
+    socket
 }
 
 /// Waits for a peer on this endpoint. 0, or an error: `ERROR_ADDRESS` where the port is 0, `ERROR_STATE` where the

@@ -204,12 +204,14 @@ impl<'a> Tcp<'a> {
         assert!(memory.len() == 1, "memory for one socket");
         let (at, _, own) = memory.taken();
         let (rx, tx) = (Buffer::new(rx), Buffer::new(tx));
-        let made = Tcp { at: at.cast(), rx, tx, _own: own, borrowed: PhantomData };
+        let mut made = Tcp { at: at.cast(), rx, tx, _own: own, borrowed: PhantomData };
         let [rx, tx] =
             [made.rx.reach, made.tx.reach].map(|of| ffi::Bytes { at: of.at.as_ptr(), len: of.len });
         // SAFETY: C.md: buffers, bytes. The memory has the size and the alignment of `struct smoltcp_tcp`, and holds no
         // socket that is used: it is this one's alone, for 'a or for good. The lengths were tested.
         unsafe { ffi::smoltcp_tcp_init_nonnull(&mut made.handle(), rx, tx) };
+        // a new socket of C has the RFCs' rules, one of Rust smoltcp's
+        made.set_rules(0);
         made
     }
 
