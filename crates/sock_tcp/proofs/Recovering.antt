@@ -9,7 +9,7 @@ use Rattle.ip_wire.specs.declared.repr.IpRepr.{IpRepr}
 use Rattle.sock_tcp.specs.Arrival.{arrival}
 use Rattle.sock_tcp.specs.Process.{Outcome, answered, by_verdict, processed_by, tuple_of}
 use Rattle.sock_tcp.specs.Replies.{ack_kept, ack_segment, sack_range}
-use Rattle.sock_tcp.specs.Rfc.Recovery.{before_of, begun_by, echo_known, gone_on_from, has_timer, is_called, is_later_partial, is_news, kept_if, left_running, recovered, recovered_by, running, tells_controller, timer_after, waited_for, marked_by, waits_tail}
+use Rattle.sock_tcp.specs.Rfc.Recovery.{before_of, begun_by, echo_known, gone_on_from, has_timer, is_called, is_later_partial, is_news, kept_if, left_running, probe_from_last, probe_soonest, recovered, recovered_by, running, soonest, tells_controller, timer_after, waited_for, marked_by, waits_tail}
 use Rattle.sock_tcp.specs.Due.{flight, window_field}
 use Rattle.sock_tcp.proofs.OwnWindow.{field_is}
 use Rattle.sock_tcp.specs.Rfc.TailLoss.{is_alone, tail_from, tail_waits}
@@ -82,9 +82,9 @@ unfolding processed_by
 passes o r v now word ip s p h = h ∙ ap (λ x. by_verdict r x v (arrival now (tuple_of ip s) word (windowed r v s))) (sym p)
 
 -- ---- the timer that is left: as it was, a fast retransmission's, one that went on, a new one, that of a tail-loss probe,
--- or that of keep-alives where it was a probe's
+-- or that of keep-alives where it was a probe's; a probe may come sooner
 
-module _ (Q : Timer → Type 0) (b : Before) (w : View) (now : Instant) (same : Q w.timer) (fast : Q timer.FastRetransmit) (kept : (at : Instant) → b.timer ≡ timer.Retransmit at → Q (timer.Retransmit at)) (new : Q (retransmit_from now w.rtte)) (tail : Q (tail_from now w.rtte (is_alone w))) (idle : (at : Instant) (delay : Duration) → w.timer ≡ timer.ZeroWindowProbe at delay → Q (idle_from now w.keep_alive)) where
+module _ (Q : Timer → Type 0) (b : Before) (w : View) (now : Instant) (same : Q w.timer) (fast : Q timer.FastRetransmit) (kept : (at : Instant) → b.timer ≡ timer.Retransmit at → Q (timer.Retransmit at)) (new : Q (retransmit_from now w.rtte)) (tail : Q (tail_from now w.rtte (is_alone w))) (idle : (at : Instant) (delay : Duration) → w.timer ≡ timer.ZeroWindowProbe at delay → Q (idle_from now w.keep_alive)) (soon : (at : Instant) (delay : Duration) → Q (timer.ZeroWindowProbe at delay) → Q (timer.ZeroWindowProbe (soonest w.idle_at at) delay)) where
   goes : (t : Timer) → b.timer ≡ t → Q (gone_on_from t now w.rtte)
   goes (timer.Retransmit at) e = kept at e
   goes (timer.Idle at) e = new
@@ -130,13 +130,28 @@ module _ (Q : Timer → Type 0) (b : Before) (w : View) (now : Instant) (same : 
   keeps true (timer.Close at) t e h = h
   keeps false u t e h = h
 
+  -- or a probe that comes sooner
+  comes : (t : Timer) → Q t → Q (probe_soonest w.idle_at t)
+  comes (timer.ZeroWindowProbe at delay) h = soon at delay h
+  comes (timer.Idle at) h = h
+  comes (timer.Retransmit at) h = h
+  comes timer.FastRetransmit h = h
+  comes (timer.Close at) h = h
+
+  begins : (u t : Timer) → Q t → Q (probe_from_last u w.idle_at t)
+  begins (timer.ZeroWindowProbe at delay) t h = h
+  begins (timer.Idle at) t h = comes t h
+  begins (timer.Retransmit at) t h = comes t h
+  begins timer.FastRetransmit t h = comes t h
+  begins (timer.Close at) t h = comes t h
+
   pub waited_as : Q (waited_for b w now)
   waited_as = by (tells_controller b w) (is_called b w)
     where
       by : (r c : Bool) → Q (if r then timer.FastRetransmit else (if c then gone_on_from b.timer now w.rtte else tail_waits (waits_tail b w) (left_running b w now) now w.rtte (is_alone w)))
       by true c = fast
       by false true = goes b.timer refl
-      by false false = probes (waits_tail b w) (left_running b w now) (keeps (is_later_partial b w) b.timer _ refl (runs w.timer refl same))
+      by false false = probes (waits_tail b w) (left_running b w now) (begins b.timer _ (keeps (is_later_partial b w) b.timer _ refl (runs w.timer refl same)))
 
   pub timer_as : Q (timer_after b w now)
   timer_as = by (has_timer w.state)

@@ -111,17 +111,19 @@ impl<'a> ControlBlock<'a> {
             .min(self.congestion_left())
     }
 
-    // Nagle: a small segment waits while bytes are in flight (RFC 9293, section 3.7.4).
-    fn waits_by_nagle(&self, mss: usize) -> bool
+    // Nagle: a small segment waits while bytes are in flight (RFC 9293, section 3.7.4). Both windows let out so much.
+    fn waits_by_nagle(&self, out: usize, mss: usize) -> bool
+        requires { out ≡ sendable self.now }
         ensures { result ≡ waits_by_nagle self.now mss }
     {
-        self.nagle && self.flight() != 0 && self.sendable() < mss && !self.state.is_closing()
+        self.nagle && self.flight() != 0 && out < mss && !self.state.is_closing()
     }
 
-    fn is_held_back(&self, mss: usize) -> bool
+    fn is_held_back(&self, out: usize, mss: usize) -> bool
+        requires { out ≡ sendable self.now }
         ensures { result ≡ is_held_back self.now mss }
     {
-        self.waits_by_nagle(mss) || self.is_cut_short(mss)
+        self.waits_by_nagle(out, mss) || self.is_cut_short(out, mss)
     }
 
     #[inline(always)]
@@ -133,7 +135,8 @@ impl<'a> ControlBlock<'a> {
             return self.control_due();
         }
         let marked = self.pending_fast_retransmit;
-        let some = self.sendable() != 0 && !self.is_held_back(self.effective_mss(cx, tuple));
+        let out = self.sendable();
+        let some = out != 0 && !self.is_held_back(out, self.effective_mss(cx, tuple));
         marked || some || self.control_due()
     }
 

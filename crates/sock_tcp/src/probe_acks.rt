@@ -23,7 +23,7 @@ fn is_duplicate_of(start: TcpSeqNumber, end: TcpSeqNumber, block: (u32, u32)) ->
 
 impl Recovery {
     // A segment that went out again as a probe repaired a loss.
-    fn is_repaired(self, una: TcpSeqNumber) -> bool
+    pub(crate) fn is_repaired(self, una: TcpSeqNumber) -> bool
         ensures { result ≡ is_repaired_in self una }
     {
         match self {

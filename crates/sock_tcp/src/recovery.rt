@@ -2,7 +2,8 @@
 ghost use Rattle.std.specs.Prelude.{◌≡◌, ◌≤◌, length};
 ghost use Rattle.control_wire.specs.Segment.{segment_of};
 ghost use Rattle.sock_core.specs.Bounds.{IsMoment};
-ghost use Rattle.sock_tcp.specs.Rfc.Recovery.{before_it, before_of, begins, controller_after, duplicates_after};
+ghost use Rattle.sock_tcp.specs.Rfc.Recovery.{before_it, before_of, begins, bytes_counted, controller_after};
+ghost use Rattle.sock_tcp.specs.Rfc.Recovery.{duplicates_after};
 ghost use Rattle.sock_tcp.specs.Rfc.Recovery.{estimator_after, gone_on, highest_of, is_acked, is_bare_control};
 ghost use Rattle.sock_tcp.specs.Rfc.Recovery.{is_called, is_recovering};
 ghost use Rattle.sock_tcp.specs.Rfc.Recovery.{is_counted, is_early, is_fast, is_news, is_opened, is_over, is_partial};
@@ -312,6 +313,22 @@ impl Before {
         controller
     }
 
+    // How many bytes a congestion window of this size grows by: none where the application holds back what goes out,
+    // and not the window, of which less than half was queued.
+    fn bytes_counted(&self, after: &ControlBlock<'_>, window: usize) -> usize
+        ensures { result ≡ bytes_counted self.now after.now window }
+    {
+        let count = after.local_seq_no.since(self.una);
+        let queued = after.tx_buffer.len() + count;
+        if 2 * queued < window
+            && (self.recovery.is_over() && !self.recovery.is_repaired(after.local_seq_no))
+        {
+            0
+        } else {
+            count
+        }
+    }
+
     // The controller is told of the bytes that are acknowledged, or that the connection is open.
     fn told_of_bytes(&self, after: &ControlBlock<'_>, now: Instant) -> AnyController
         ensures { result ≡ told_of_bytes self.now after.now now }
@@ -323,7 +340,7 @@ impl Before {
         }
         if self.is_news(after) && self.state.carries_data() {
             let mut controller = self.told_repaired(after, now);
-            let count = after.local_seq_no.since(self.una);
+            let count = self.bytes_counted(after, controller.window());
             controller.on_bytes_acked(now, count, self.recovery.is_timed_out());
             return controller;
         }

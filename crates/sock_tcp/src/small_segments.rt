@@ -1,7 +1,8 @@
 //! Which small segments wait by the RFCs' rules, and how long (RFC 9293, section 3.8.6.2.1).
-ghost use Rattle.std.specs.Prelude.{◌≡◌, ◌&&◌, ◌==◌, length, not};
+ghost use Rattle.std.specs.Prelude.{◌≡◌, ◌&&◌, ◌==◌, length, min, not};
 ghost use Rattle.sock_tcp.specs.Due.{ack_poll, congestion_left, flight, held_poll, may_wait, sendable};
-ghost use Rattle.sock_tcp.specs.Rfc.SmallSegments.{held_by, is_cut_by, larger, moment_at, sends_again, small_poll};
+ghost use Rattle.sock_tcp.specs.Rfc.SmallSegments.{held_by, is_cut_by, is_cut_by_network, is_cut_by_window};
+ghost use Rattle.sock_tcp.specs.Rfc.SmallSegments.{larger, moment_at, sends_again, small_poll};
 ghost use Rattle.sock_tcp.specs.Rfc.SmallSegments.{waits_alone};
 ghost use Rattle.sock_tcp.specs.Window.{has_window};
 ghost use Rattle.sock_tcp.specs.declared.rules.Rules.TheVariants.{Rfc};
@@ -43,11 +44,33 @@ impl<'a> ControlBlock<'a> {
             && (self.idle_at.is_some() && !self.recovery.sends_again())
     }
 
-    // Whether the peer's window alone makes the next segment smaller than one of `mss` bytes: it waits for an
-    // acknowledgement, for a larger window, or for the moment at which it goes out.
+    // Whether the peer's window makes the next segment smaller than one of `mss` bytes, or the congestion window does
+    // of half as many: it waits for an acknowledgement, for a larger window, or for the moment at which it goes out.
+    // Both windows let out so much.
     #[inline(never)]
-    fn is_cut(&self, mss: usize) -> bool
+    fn is_cut(&self, out: usize, mss: usize) -> bool
+        requires { out ≡ sendable self.now }
         ensures { result ≡ is_cut_by Rfc (waits_alone Rfc self.now.recovery self.now.idle_at self.now.remote_win_len
+            self.now.largest_window) (flight self.now) self.now.remote_win_len (length self.now.tx_buffer.bytes)
+            (congestion_left self.now) mss }
+    {
+        self.is_cut_by_network(out, mss) || self.is_cut_by_window(mss)
+    }
+
+    fn is_cut_by_network(&self, out: usize, mss: usize) -> bool
+        ensures { result ≡ is_cut_by_network (flight self.now)
+            (min self.now.remote_win_len (length self.now.tx_buffer.bytes)) out mss }
+    {
+        if out >= mss / 2 {
+            return false;
+        }
+        let flight = self.flight();
+        let usable = self.remote_win_len.min(self.tx_buffer.len());
+        out < usable.saturating_sub(flight) && flight != 0
+    }
+
+    fn is_cut_by_window(&self, mss: usize) -> bool
+        ensures { result ≡ is_cut_by_window (waits_alone Rfc self.now.recovery self.now.idle_at self.now.remote_win_len
             self.now.largest_window) (flight self.now) self.now.remote_win_len (length self.now.tx_buffer.bytes)
             (congestion_left self.now) mss }
     {
@@ -59,13 +82,14 @@ impl<'a> ControlBlock<'a> {
     }
 
     #[inline(always)]
-    pub(crate) fn is_cut_short(&self, mss: usize) -> bool
+    pub(crate) fn is_cut_short(&self, out: usize, mss: usize) -> bool
+        requires { out ≡ sendable self.now }
         ensures { result ≡ is_cut_by self.now.rules (may_wait self.now) (flight self.now) self.now.remote_win_len
             (length self.now.tx_buffer.bytes) (congestion_left self.now) mss }
     {
         match self.rules {
             Rules::Smoltcp => false,
-            Rules::Rfc => self.is_cut(mss),
+            Rules::Rfc => self.is_cut(out, mss),
         }
     }
 

@@ -43,7 +43,7 @@ fn tail_wait(rtte: &RttEstimator, alone: bool) -> Duration
     }
 }
 
-fn sooner(at: Instant, other: Instant) -> Instant
+pub(crate) fn sooner(at: Instant, other: Instant) -> Instant
     ensures { result ≡ sooner at other }
 {
     if is_over(at, other) { at } else { other }

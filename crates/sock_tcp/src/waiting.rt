@@ -3,14 +3,15 @@
 ghost use Rattle.std.specs.Prelude.{◌≡◌, length};
 ghost use Rattle.sock_core.specs.Bounds.{IsMoment};
 ghost use Rattle.sock_tcp.specs.Due.{flight};
-ghost use Rattle.sock_tcp.specs.Rfc.Recovery.{begun_by, gone_on_from, has_timer, is_later_partial, left_running};
-ghost use Rattle.sock_tcp.specs.Rfc.Recovery.{running, timer_after, waited_for};
+ghost use Rattle.sock_tcp.specs.Rfc.Recovery.{begun_by, gone_on_from, has_timer, is_later_partial, kept_if};
+ghost use Rattle.sock_tcp.specs.Rfc.Recovery.{left_running, probe_soonest, running, soonest, timer_after, waited_for};
 ghost use Rattle.sock_tcp.specs.Timers.{IsTimer};
 
 use crate::control_block::ControlBlock;
 use crate::recovery::Before;
 use crate::rules::Rules;
 use crate::state::State;
+use crate::tail::sooner;
 use crate::timer::Timer;
 use net_base::time::Instant;
 use sock_core::rtte::RttEstimator;
@@ -27,6 +28,30 @@ fn gone_on_from(timer: Timer, now: Instant, rtte: &RttEstimator) -> Timer
     }
 }
 
+// A probe that begins comes a retransmission timeout after the last segment that took numbers, where that is sooner.
+fn soonest(idle_at: Option<Instant>, at: Instant) -> Instant
+    ensures { result ≡ soonest idle_at at }
+{
+    match idle_at {
+        None => at,
+        Some(idle) => sooner(at, idle),
+    }
+}
+
+fn probe_soonest(idle_at: Option<Instant>, timer: Timer) -> Timer
+    requires { IsTimer timer }
+    ensures value { result ≡ probe_soonest idle_at timer }
+    ensures lawful { IsTimer result }
+{
+    match timer {
+        Timer::ZeroWindowProbe { expires_at, delay } => Timer::ZeroWindowProbe {
+            expires_at: soonest(idle_at, expires_at),
+            delay,
+        },
+        _ => timer,
+    }
+}
+
 impl Before {
     // Of the partial acknowledgements the first alone begins the retransmission timer anew.
     fn is_later_partial(&self, after: &ControlBlock<'_>) -> bool
@@ -35,19 +60,31 @@ impl Before {
         self.recovery.is_acked() && self.is_partial(after)
     }
 
+    // Of a later partial acknowledgement the retransmission timer is as it was.
+    fn kept(&self, after: &ControlBlock<'_>, timer: Timer) -> Timer
+        requires { IsTimer timer }
+        ensures value { result ≡ kept_if (is_later_partial self.now after.now) self.now.timer timer }
+        ensures lawful { IsTimer result }
+    {
+        if !self.is_later_partial(after) {
+            return timer;
+        }
+        match (self.timer, timer) {
+            (Timer::Retransmit { .. }, Timer::Retransmit { .. }) => self.timer,
+            _ => timer,
+        }
+    }
+
     // What runs while nothing is marked.
     fn left_running(&self, after: &ControlBlock<'_>, now: Instant) -> Timer
         requires { IsMoment now.micros }
         ensures value { result ≡ left_running self.now after.now now }
         ensures lawful { IsTimer result }
     {
-        let running = after.running(now);
-        if !self.is_later_partial(after) {
-            return running;
-        }
-        match (self.timer, running) {
-            (Timer::Retransmit { .. }, Timer::Retransmit { .. }) => self.timer,
-            _ => running,
+        let timer = self.kept(after, after.running(now));
+        match self.timer {
+            Timer::ZeroWindowProbe { .. } => timer,
+            _ => probe_soonest(after.idle_at, timer),
         }
     }
 

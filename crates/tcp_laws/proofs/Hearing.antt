@@ -115,10 +115,14 @@ module _ (now : Instant) (s : Segment) where
 -- a fast retransmission that the tables call for
 fast_or_timed : (b : Before) (w : View) (now : Instant) → w.timer ≡ timer.FastRetransmit → Resends rules.Rfc (recovered b w now).timer
 unfolding recovered
-fast_or_timed b w now e = timer_as (Resends rules.Rfc) b (echo_known b w now) now (inl known) (inl refl) (λ at i. inr refl) (inr refl) (inr refl) no_probe
+fast_or_timed b w now e = timer_as (Resends rules.Rfc) b (echo_known b w now) now (inl known) (inl refl) (λ at i. inr refl) (inr refl) (inr refl) no_probe (λ at delay h. no_sooner at _ delay h)
   where
     known : (echo_known b w now).timer ≡ timer.FastRetransmit
     known = known_as (λ t. t ≡ timer.FastRetransmit) b w now (λ at i. let no : timer.Retransmit at ≡ timer.FastRetransmit = i in absurd cc) e
+
+    no_sooner : (at next : Instant) (delay : Duration) → Resends rules.Rfc (timer.ZeroWindowProbe at delay) → Resends rules.Rfc (timer.ZeroWindowProbe next delay)
+    no_sooner at next delay (inl e) = let no : timer.ZeroWindowProbe at delay ≡ timer.FastRetransmit = e in absurd cc
+    no_sooner at next delay (inr e) = let no : false ≡ true = e in absurd cc
 
     no_probe : (at : Instant) (delay : Duration) → (echo_known b w now).timer ≡ timer.ZeroWindowProbe at delay → Resends rules.Rfc (idle_from now w.keep_alive)
     no_probe at delay i = let no : timer.FastRetransmit ≡ timer.ZeroWindowProbe at delay = sym known ∙ i in absurd cc

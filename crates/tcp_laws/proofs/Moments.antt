@@ -19,6 +19,7 @@ use Rattle.sock_tcp.specs.declared.rules.Rules.TheVariants as rules
 use Rattle.sock_core.specs.Seq.{is_before}
 use Rattle.sock_tcp.specs.Process.{timer_restarted}
 use Rattle.sock_tcp.specs.Rfc.TailLoss.{tail_wait, sooner}
+use Rattle.sock_tcp.specs.Rfc.Recovery.{soonest}
 use Rattle.sock_tcp.specs.Steps.{delay_of, next_delay, is_ack_owed, timer_acked, probe_ended, probe_set, begins_probe}
 use Rattle.sock_tcp.specs.Timers.{after, close_delay, close_from, retransmit_from, rto_of, twice, idle_from, is_over, keep_alive_renewed, probe_doubled, probe_from, retransmit_unless_set}
 use Rattle.sock_tcp.specs.View.{View}
@@ -199,6 +200,13 @@ module _ (most : Duration) (minute : 60000000 ≤ most.micros) where
         go : (b : Bool) → is_by now most (if b then t else u) ≡ true
         go true = h
         go false = k
+
+    pub soonest_by : (idle : Option Instant) (t : Instant) → is_moment_by now most idle ≡ true → is_by now most t ≡ true → is_by now most (soonest idle t) ≡ true
+    soonest_by None t i h = h
+    soonest_by (Some u) t i h = sooner_by t u h i
+
+    pub probe_soonest_by : (idle : Option Instant) (at : Instant) (delay : Duration) → is_moment_by now most idle ≡ true → is_timer_by now most (timer.ZeroWindowProbe at delay) ≡ true → is_timer_by now most (timer.ZeroWindowProbe (soonest idle at) delay) ≡ true
+    probe_soonest_by idle at delay i h = let p = and_parts (is_by now most at) (nat_le delay.micros 60000000) h in and_true (is_by now most (soonest idle at)) (nat_le delay.micros 60000000) (soonest_by idle at i p.0) p.1
 
     pub probe_by : (e : Estimator) → e.rto ≤ 60000 → is_timer_by now most (probe_from now e) ≡ true
     probe_by e h = and_true (is_by now most (after now (rto_of e))) (nat_le (e.rto * 1000) 60000000) (rto_by e h) (le-leb (e.rto * 1000) 60000000 (omega (arith, h)))

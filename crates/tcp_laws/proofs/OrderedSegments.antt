@@ -39,7 +39,7 @@ use Rattle.tcp_laws.proofs.Ordered.{HasMoment, IsOpen, IsOrdered, IsPeeredIn, Ro
 use Rattle.sock_core.specs.Congestion.{bytes_acked, dup_acked, lost, opened, partially_acked}
 use Rattle.sock_tcp.specs.Due.{flight as flight_of}
 use Rattle.sock_tcp.specs.Content.{carries_data}
-use Rattle.sock_tcp.specs.Rfc.Recovery.{before_it, before_of, controller_after, echo_known, flight_before, has_timer, is_news, is_partial, is_repaired, is_timed_out, is_uncounted, is_void, lets_out, opens_well, recovered, told_of_bytes, told_repaired, waited_for}
+use Rattle.sock_tcp.specs.Rfc.Recovery.{before_it, before_of, controller_after, echo_known, flight_before, has_timer, is_news, is_partial, is_repaired, is_timed_out, is_uncounted, is_void, lets_out, opens_well, recovered, told_of_bytes, told_of_count, told_repaired, waited_for}
 use Rattle.sock_tcp.specs.Rfc.Refused.{is_plain_control, refused}
 use Rattle.sock_tcp.specs.declared.recovery.Before.{Before}
 use Rattle.sock_tcp.specs.declared.rules.Rules.{Rules}
@@ -458,7 +458,7 @@ module _ (now : Instant) (word : ℕ) (ip : IpRepr) (s : Segment) (small : word 
       repaired true = lost_open _ now _ before
       repaired false = before
 
-      told : (o n : Bool) → IsOpen (if o then opened w.congestion_controller w.remote_mss else (if n then bytes_acked (told_repaired b w now) now (seq_sub w.local_seq_no b.una) (is_timed_out b.recovery) else w.congestion_controller))
+      told : (o n : Bool) → IsOpen (if o then opened w.congestion_controller w.remote_mss else (if n then told_of_count b w now (told_repaired b w now) else w.congestion_controller))
       told true n = opened_open w.congestion_controller w.remote_mss i
       told false true = bytes_acked_open _ now _ (is_timed_out b.recovery) (repaired (is_repaired b w))
       told false false = i
@@ -510,7 +510,7 @@ module _ (now : Instant) (word : ℕ) (ip : IpRepr) (s : Segment) (small : word 
     room = i.room;
     congestion = controller_open (before_of v s) (known v w) h.congestion i.congestion;
     peered = i.peered;
-    row = row_recovers w.state (waited_for (before_of v s) (known v w) now) (known v w).timer w.keep_alive (seq_sub w.remote_last_seq w.local_seq_no) (length w.tx_buffer.bytes) (λ m. waited_as (λ t. HasMoment t w.keep_alive) (before_of v s) (known v w) now m tt (λ at e. tt) tt tt (λ at delay e. idle_has_moment now w.keep_alive)) (row_known v w w.state (seq_sub w.remote_last_seq w.local_seq_no) (length w.tx_buffer.bytes) i.row);
+    row = row_recovers w.state (waited_for (before_of v s) (known v w) now) (known v w).timer w.keep_alive (seq_sub w.remote_last_seq w.local_seq_no) (length w.tx_buffer.bytes) (λ m. waited_as (λ t. HasMoment t w.keep_alive) (before_of v s) (known v w) now m tt (λ at e. tt) tt tt (λ at delay e. idle_has_moment now w.keep_alive) (λ at delay h. h)) (row_known v w w.state (seq_sub w.remote_last_seq w.local_seq_no) (length w.tx_buffer.bytes) i.row);
   }
 
   verdict_ordered : (r : Rules) (v : View) → IsOrdered v → (v.state ≡ state.Listen → s.ack_number ≡ None) → (x : Verdict) → verdict_of v s.control s.ack_number ≡ x → IsOrdered (by_verdict r x v (arrival now (tuple_of ip s) word s)).view

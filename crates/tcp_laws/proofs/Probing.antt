@@ -137,7 +137,7 @@ module _ (s : Segment) (now : Instant) where
     rows = rows_probing word;
     joins = λ w o bs h. h;
     hears = λ u a h. heard_probing u a h;
-    recovers = λ v w h i. record { window = timer_as (λ t. ProbesIn t w.remote_win_len) (before_of v s) (echo_known (before_of v s) w now) now (known_as (λ t. ProbesIn t w.remote_win_len) (before_of v s) w now (λ at z. tt) i.window) tt (λ at e. tt) tt tt (λ at delay e. idle_probes now w.keep_alive w.remote_win_len); mss = i.mss };
+    recovers = λ v w h i. record { window = timer_as (λ t. ProbesIn t w.remote_win_len) (before_of v s) (echo_known (before_of v s) w now) now (known_as (λ t. ProbesIn t w.remote_win_len) (before_of v s) w now (λ at z. tt) i.window) tt (λ at e. tt) tt tt (λ at delay e. idle_probes now w.keep_alive w.remote_win_len) (λ at delay h. h); mss = i.mss };
   }
 
 -- ---- a dispatch

@@ -1,6 +1,6 @@
 -- How a socket with work to do waits for a segment, and what keeps it from it.
 use Rattle.std.proofs.Common.{◌-◌, ◌≡◌, ℕ, zero, suc, ◌<◌, ◌^◌, ◌/◌, ◌⊎◌, inl, inr, Bool, true, false, true≢false, not, ◌&&◌, ◌||◌, refl, sym, ap, subst, ◌∙◌, length, Option, Some, None, is_none, is_some, arith}
-use Rattle.std.specs.Prelude.{if◌then◌else◌, ◌==◌, nat_lt}
+use Rattle.std.specs.Prelude.{if◌then◌else◌, ◌==◌, min, nat_lt}
 use Rattle.std.proofs.lemmas.Bool.{and_parts, and_right, eq-eqb, eqb-true, ltb-true, or_parts}
 use Rattle.std.proofs.lemmas.Option.{none-some}
 use Rattle.net_base.specs.declared.time.Duration.{Duration}
@@ -16,7 +16,7 @@ use Rattle.sock_tcp.specs.Due.{congestion_left, is_counted, recovery_left, limit
 use Rattle.sock_tcp.specs.Rfc.Pipe.{pipe}
 use Rattle.sock_tcp.specs.Poll.{is_due_now, poll_moment, poll_moment_to}
 use Rattle.sock_tcp.specs.Polls.{delay_poll, earlier, timer_poll, timeout_poll}
-use Rattle.sock_tcp.specs.Rfc.SmallSegments.{held_by, is_cut_by, moment_at, sends_again, small_poll, waits_alone}
+use Rattle.sock_tcp.specs.Rfc.SmallSegments.{held_by, is_cut_by, is_cut_by_window, moment_at, sends_again, small_poll, waits_alone}
 use Rattle.sock_tcp.specs.View.{View}
 use Rattle.sock_tcp.specs.Work.{has_work, works_in}
 use Rattle.tcp_laws.specs.Polling.{KeepAliveWakes, NoWorkNoBytes, Sleeps, SleepsIn, SleepsOnlySo, WaitsForPeer}
@@ -163,12 +163,22 @@ data_goes v t f e z = go (sendable v == 0) refl
     whole : (a b c : ℕ) → b ≡ 0 → a - b < c → a < c
     whole a b c z s = omega (arith, z, s)
 
+    no_network : (a b : Bool) → (a && (b && false)) ≡ false
+    no_network true true = refl
+    no_network true false = refl
+    no_network false b = refl
+
     -- the parts of what is cut short
     by_window : (r : Rules) → is_cut_by r (waits_alone r v.recovery v.idle_at v.remote_win_len v.largest_window) (flight v) v.remote_win_len n (congestion_left v) (effective_mss v t f) ≡ true → (waits_alone r v.recovery v.idle_at v.remote_win_len v.largest_window ≡ true) × WaitsSmall v t f
     by_window rules.Smoltcp c = absurd cc
     by_window rules.Rfc c =
         let w : Bool = waits_alone rules.Rfc v.recovery v.idle_at v.remote_win_len v.largest_window in
-        let a = and_parts (nat_lt v.remote_win_len n) _ c in
+        let out : ℕ = min (min v.remote_win_len n - flight v) (congestion_left v) in
+        let few : Bool = nat_lt out (effective_mss v t f / 2) in
+        let less : Bool = nat_lt out (min v.remote_win_len n - flight v) in
+        let by_peer : Bool = is_cut_by_window w (flight v) v.remote_win_len n (congestion_left v) (effective_mss v t f) in
+        let held : by_peer ≡ true = sym (ap (λ y. (few && (less && y)) || by_peer) flies ∙ ap (λ y. y || by_peer) (no_network few less)) ∙ c in
+        let a = and_parts (nat_lt v.remote_win_len n) _ held in
         let b = and_parts (not (flight v == 0) || w) _ a.1 in
         let x : w ≡ true = sym (ap (λ y. y || w) flies) ∙ b.0 in
         let k = and_parts (nat_lt v.remote_win_len (v.largest_window / 2)) _ x in

@@ -15,7 +15,7 @@ use Rattle.sock_tcp.specs.Due.{flight}
 use Rattle.sock_tcp.specs.Process.{Outcome, after_advance, by_verdict, close_restarted, cut_inside, has_window, processed_by, processed_inside, tested_by, timer_restarted, tuple_of}
 use Rattle.sock_tcp.specs.Replies.{ack_kept}
 use Rattle.sock_tcp.specs.Rfc.Checks.{verdict_by}
-use Rattle.sock_tcp.specs.Rfc.Recovery.{before_of, echo_known, gone_on_from, has_timer, is_called, is_later_partial, kept_if, left_running, recovered, recovered_by, running, tells_controller, waited_for, waits_tail}
+use Rattle.sock_tcp.specs.Rfc.Recovery.{before_of, echo_known, gone_on_from, has_timer, is_called, is_later_partial, kept_if, left_running, probe_from_last, probe_soonest, recovered, recovered_by, running, tells_controller, waited_for, waits_tail}
 use Rattle.sock_tcp.specs.Rfc.Refused.{refused}
 use Rattle.sock_tcp.specs.Rfc.TailLoss.{is_alone, tail_waits}
 use Rattle.sock_tcp.specs.Rfc.Windows.{windowed}
@@ -205,13 +205,27 @@ module _ (now : Instant) where
     keeps true (timer.Close at) t h = h
     keeps false u t h = h
 
+    comes : (t : Timer) → At t → At (probe_soonest w.idle_at t)
+    comes (timer.ZeroWindowProbe at delay) h = h
+    comes (timer.Idle at) h = h
+    comes (timer.Retransmit at) h = h
+    comes timer.FastRetransmit h = h
+    comes (timer.Close at) h = h
+
+    begins : (u t : Timer) → At t → At (probe_from_last u w.idle_at t)
+    begins (timer.ZeroWindowProbe at delay) t h = h
+    begins (timer.Idle at) t h = comes t h
+    begins (timer.Retransmit at) t h = comes t h
+    begins timer.FastRetransmit t h = comes t h
+    begins (timer.Close at) t h = comes t h
+
     waited_rests : At (waited_for b w now)
     waited_rests = by (tells_controller b w) (is_called b w)
       where
         by : (r c : Bool) → At (if r then timer.FastRetransmit else (if c then gone_on_from b.timer now w.rtte else tail_waits (waits_tail b w) (left_running b w now) now w.rtte (is_alone w)))
         by true c = tt
         by false true = goes b.timer
-        by false false = probes (waits_tail b w) (left_running b w now) (keeps (is_later_partial b w) b.timer _ (runs w.timer asks))
+        by false false = probes (waits_tail b w) (left_running b w now) (begins b.timer _ (keeps (is_later_partial b w) b.timer _ (runs w.timer asks)))
 
 -- ---- a segment
 

@@ -24,7 +24,7 @@ use Rattle.sock_tcp.specs.Rfc.Scoreboard.{all_told, any_news, highest_told, hole
 use Rattle.sock_tcp.specs.Rfc.Pipe.{has_room, told_before}
 use Rattle.sock_tcp.specs.Rfc.RoundTrips.{echo_of, echo_taken}
 use Rattle.sock_tcp.specs.Rfc.SmallSegments.{larger}
-use Rattle.sock_tcp.specs.Rfc.TailLoss.{is_alone, may_probe, tail_waits}
+use Rattle.sock_tcp.specs.Rfc.TailLoss.{is_alone, may_probe, sooner, tail_waits}
 use Rattle.sock_tcp.specs.Steps.{is_duplicate, is_window_changed}
 use Rattle.sock_tcp.specs.Timers.{idle_from, probe_from, retransmit_from}
 use Rattle.sock_tcp.specs.View.{View}
@@ -364,13 +364,27 @@ flight_before b w = min (seq_sub w.remote_last_seq b.una) (congestion_window (be
 abbrev pub told_repaired : Before → View → Instant → AnyController
 told_repaired b w now = if is_repaired b w then lost (before_it b w) now (flight_before b w) else before_it b w
 
+-- the application holds back what goes out, and not the congestion window: less than half of that was queued, what is
+-- acknowledged now among it, and no loss is recovered from (RFC 7661, section 4.2, which asks for half)
+abbrev pub is_limited_by_user : Before → View → ℕ → Bool
+is_limited_by_user b w window =
+    nat_lt (2 * (length w.tx_buffer.bytes + seq_sub w.local_seq_no b.una)) window
+    && (is_over b.recovery && not (is_repaired b w))
+
+-- the window does not grow then
+abbrev pub bytes_counted : Before → View → ℕ → ℕ
+bytes_counted b w window = if is_limited_by_user b w window then 0 else seq_sub w.local_seq_no b.una
+
+abbrev pub told_of_count : Before → View → Instant → AnyController → AnyController
+told_of_count b w now c = bytes_acked c now (bytes_counted b w (congestion_window c)) (is_timed_out b.recovery)
+
 -- of new bytes it hears how many they are (RFC 5681, section 3.1; RFC 3465), and at the opening, unless a SYN was lost,
 -- that it may send more (RFC 6928). A SYN moves SND.UNA too, and is no byte
 abbrev pub told_of_bytes : Before → View → Instant → AnyController
 told_of_bytes b w now =
     if opens_well b w then opened w.congestion_controller w.remote_mss
     else (if is_news b w && carries_data b.state
-    then bytes_acked (told_repaired b w now) now (seq_sub w.local_seq_no b.una) (is_timed_out b.recovery)
+    then told_of_count b w now (told_repaired b w now)
     else w.congestion_controller)
 
 -- of a partial acknowledgement it hears that, and not that all was acknowledged; of a duplicate that lets out a hole
@@ -421,11 +435,26 @@ abbrev pub kept_if : Bool → Timer → Timer → Timer
 kept_if true (timer.Retransmit at) (timer.Retransmit next) = timer.Retransmit at
 kept_if _ before t = t
 
+-- a probe that begins comes a retransmission timeout after the last segment that took numbers, where that is sooner: a
+-- window that opens and shuts before something went out does not put it off (RFC 9293, section 3.8.6.1)
+abbrev pub soonest : Option Instant → Instant → Instant
+soonest None at = at
+soonest (Some idle) at = sooner at idle
+
+abbrev pub probe_soonest : Option Instant → Timer → Timer
+probe_soonest idle (timer.ZeroWindowProbe at delay) = timer.ZeroWindowProbe (soonest idle at) delay
+probe_soonest idle t = t
+
+abbrev pub probe_from_last : Timer → Option Instant → Timer → Timer
+probe_from_last (timer.ZeroWindowProbe at delay) idle t = t
+probe_from_last _ idle t = probe_soonest idle t
+
 -- what runs while nothing is marked
 abbrev pub left_running : Before → View → Instant → Timer
 left_running b w now =
-    kept_if (is_later_partial b w) b.timer
-    (running w.timer (flight w) (length w.tx_buffer.bytes) w.keep_alive w.rtte now)
+    probe_from_last b.timer w.idle_at
+    (kept_if (is_later_partial b w) b.timer
+    (running w.timer (flight w) (length w.tx_buffer.bytes) w.keep_alive w.rtte now))
 
 abbrev pub waited_for : Before → View → Instant → Timer
 waited_for b w now =

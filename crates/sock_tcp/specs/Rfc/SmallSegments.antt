@@ -1,5 +1,5 @@
 -- Which small segments wait by the RFCs' rules, and how long (RFC 9293, section 3.8.6.2.1).
-use Rattle.std.specs.Prelude.{ℕ, ◌-◌, ◌/◌, max, nat_le, nat_lt, Option, Some, None, is_some, Bool, true, false, not}
+use Rattle.std.specs.Prelude.{ℕ, ◌-◌, ◌/◌, max, min, nat_le, nat_lt, Option, Some, None, is_some, Bool, true, false, not}
 use Rattle.std.specs.Prelude.{◌==◌, ◌&&◌, ◌||◌, if◌then◌else◌}
 use Rattle.net_base.specs.declared.time.Instant.{Instant}
 use Rattle.sock_core.specs.declared.context.PollAt.{PollAt}
@@ -26,11 +26,25 @@ waits_alone rules.Rfc r at window largest = nat_lt window (largest / 2) && (is_s
 
 -- while something is in flight, or it may wait alone: what the peer's window leaves is less than a segment, and less
 -- than what waits, and the congestion window does not leave less; flight bytes of the queued ones were sent
+abbrev pub is_cut_by_window : Bool → ℕ → ℕ → ℕ → ℕ → ℕ → Bool
+is_cut_by_window alone flight window queued congestion mss =
+    nat_lt window queued && ((not (flight == 0) || alone)
+    && (nat_lt (window - flight) mss && nat_le (window - flight) congestion))
+
+-- what both windows let out
+abbrev pub let_out : ℕ → ℕ → ℕ → ℕ → ℕ
+let_out flight window queued congestion = min (min window queued - flight) congestion
+
+-- while something is in flight: what the congestion window leaves is less than half of a segment, and less than what
+-- else could go out (RFC 6675, section 5, step C; RFC 9293, section 3.8.6.2.1)
+abbrev pub is_cut_by_network : ℕ → ℕ → ℕ → ℕ → Bool
+is_cut_by_network flight usable out mss = nat_lt out (mss / 2) && (nat_lt out (usable - flight) && not (flight == 0))
+
 abbrev pub is_cut_by : Rules → Bool → ℕ → ℕ → ℕ → ℕ → ℕ → Bool
 is_cut_by rules.Smoltcp alone flight window queued congestion mss = false
 is_cut_by rules.Rfc alone flight window queued congestion mss =
-    nat_lt window queued && ((not (flight == 0) || alone)
-    && (nat_lt (window - flight) mss && nat_le (window - flight) congestion))
+    is_cut_by_network flight (min window queued) (let_out flight window queued congestion) mss
+    || is_cut_by_window alone flight window queued congestion mss
 
 -- ---- how long
 

@@ -247,6 +247,19 @@ impl Before {
         controller
     }
 
+    // How many bytes a congestion window of this size grows by: none where the application holds back what goes out,
+    // and not the window, of which less than half was queued.
+    fn bytes_counted(&self, after: &ControlBlock<'_>, window: usize) -> usize {
+        let count = after.local_seq_no.since(self.una);
+        let queued = after.tx_buffer.len() + count;
+        if 2 * queued < window && (self.recovery.is_over() && !self.recovery.is_repaired(after.local_seq_no))
+        {
+            0
+        } else {
+            count
+        }
+    }
+
     // The controller is told of the bytes that are acknowledged, or that the connection is open.
     fn told_of_bytes(&self, after: &ControlBlock<'_>, now: Instant) -> AnyController {
         if self.is_opened(after) && !after.rtte.is_backed_off() {
@@ -256,7 +269,7 @@ impl Before {
         }
         if self.is_news(after) && self.state.carries_data() {
             let mut controller = self.told_repaired(after, now);
-            let count = after.local_seq_no.since(self.una);
+            let count = self.bytes_counted(after, controller.window());
             controller.on_bytes_acked(now, count, self.recovery.is_timed_out());
             return controller;
         }

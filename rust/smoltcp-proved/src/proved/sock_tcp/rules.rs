@@ -17,8 +17,10 @@ pub enum Rules {
     /// What takes no number has SND.MAX, also where SND.NXT went back (RFC 9293, section 3.4). A window counts where
     /// its segment is no older than the one that told the last, by SND.WL1 and SND.WL2, and LAST-ACK hears windows
     /// (section 3.10.7.4). What goes out again keeps to the peer's window, and a probe is the byte at SND.UNA (section
-    /// 3.8.6). A segment that the window makes small waits for what is in flight, or for half of the largest window or
-    /// the retransmission timeout (section 3.8.6.2.1).
+    /// 3.8.6). A window that opens and shuts before something went out does not put its probe off. A segment that the
+    /// window makes small waits for what is in flight, or for half of the largest window or the retransmission timeout
+    /// (section 3.8.6.2.1); one that the congestion window makes smaller than half of a segment waits for what is in
+    /// flight.
     ///
     /// Of loss: what the peer tells by SACK is kept, four blocks of it (RFC 2018). Of a peer that does, an
     /// acknowledgement with something new counts as a duplicate, and no other (RFC 6675, section 2); of another one,
@@ -35,7 +37,8 @@ pub enum Rules {
     /// probed for with the byte at SND.UNA, and no window is probed with nothing to send (RFC 9293, section 3.8.6.1).
     ///
     /// The congestion window begins with ten segments (RFC 6928), grows by what is acknowledged (RFC 3465, RFC 9406),
-    /// and is at most ten segments again after a retransmission timeout without sending (RFC 5681, section 4.1).
+    /// where at least half of it was queued (RFC 7661, section 4.2), and is at most ten segments again after a
+    /// retransmission timeout without sending (RFC 5681, section 4.1).
     ///
     /// Of attacks: an acknowledgement of what was never sent is answered by a challenge ACK, and releases nothing (RFC
     /// 9293, section 3.10.7.4; RFC 5961, section 5.2). An RST counts at RCV.NXT alone; elsewhere in the window it is

@@ -31,10 +31,24 @@ impl<'a> ControlBlock<'a> {
             && (self.idle_at.is_some() && !self.recovery.sends_again())
     }
 
-    // Whether the peer's window alone makes the next segment smaller than one of `mss` bytes: it waits for an
-    // acknowledgement, for a larger window, or for the moment at which it goes out.
+    // Whether the peer's window makes the next segment smaller than one of `mss` bytes, or the congestion window does
+    // of half as many: it waits for an acknowledgement, for a larger window, or for the moment at which it goes out.
+    // Both windows let out so much.
     #[inline(never)]
-    fn is_cut(&self, mss: usize) -> bool {
+    fn is_cut(&self, out: usize, mss: usize) -> bool {
+        self.is_cut_by_network(out, mss) || self.is_cut_by_window(mss)
+    }
+
+    fn is_cut_by_network(&self, out: usize, mss: usize) -> bool {
+        if out >= mss / 2 {
+            return false;
+        }
+        let flight = self.flight();
+        let usable = self.remote_win_len.min(self.tx_buffer.len());
+        out < usable.saturating_sub(flight) && flight != 0
+    }
+
+    fn is_cut_by_window(&self, mss: usize) -> bool {
         let flight = self.flight();
         let usable = self.remote_win_len.saturating_sub(flight);
         self.remote_win_len < self.tx_buffer.len()
@@ -42,10 +56,10 @@ impl<'a> ControlBlock<'a> {
     }
 
     #[inline(always)]
-    pub(crate) fn is_cut_short(&self, mss: usize) -> bool {
+    pub(crate) fn is_cut_short(&self, out: usize, mss: usize) -> bool {
         match self.rules {
             Rules::Smoltcp => false,
-            Rules::Rfc => self.is_cut(mss),
+            Rules::Rfc => self.is_cut(out, mss),
         }
     }
 

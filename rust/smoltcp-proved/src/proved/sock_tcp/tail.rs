@@ -31,7 +31,7 @@ fn tail_wait(rtte: &RttEstimator, alone: bool) -> Duration {
     Duration { micros: ((round_trips + margin) * 1_000).min(timeout.micros) }
 }
 
-fn sooner(at: Instant, other: Instant) -> Instant {
+pub(crate) fn sooner(at: Instant, other: Instant) -> Instant {
     if is_over(at, other) { at } else { other }
 }
 

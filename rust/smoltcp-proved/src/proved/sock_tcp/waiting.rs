@@ -8,6 +8,7 @@ use crate::proved::sock_tcp::control_block::ControlBlock;
 use crate::proved::sock_tcp::recovery::Before;
 use crate::proved::sock_tcp::rules::Rules;
 use crate::proved::sock_tcp::state::State;
+use crate::proved::sock_tcp::tail::sooner;
 use crate::proved::sock_tcp::timer::Timer;
 
 // Where no fast retransmission is to come, the retransmission timer goes on as it was.
@@ -18,21 +19,46 @@ fn gone_on_from(timer: Timer, now: Instant, rtte: &RttEstimator) -> Timer {
     }
 }
 
+// A probe that begins comes a retransmission timeout after the last segment that took numbers, where that is sooner.
+fn soonest(idle_at: Option<Instant>, at: Instant) -> Instant {
+    match idle_at {
+        None => at,
+        Some(idle) => sooner(at, idle),
+    }
+}
+
+fn probe_soonest(idle_at: Option<Instant>, timer: Timer) -> Timer {
+    match timer {
+        Timer::ZeroWindowProbe { expires_at, delay } => {
+            Timer::ZeroWindowProbe { expires_at: soonest(idle_at, expires_at), delay }
+        }
+        _ => timer,
+    }
+}
+
 impl Before {
     // Of the partial acknowledgements the first alone begins the retransmission timer anew.
     fn is_later_partial(&self, after: &ControlBlock<'_>) -> bool {
         self.recovery.is_acked() && self.is_partial(after)
     }
 
+    // Of a later partial acknowledgement the retransmission timer is as it was.
+    fn kept(&self, after: &ControlBlock<'_>, timer: Timer) -> Timer {
+        if !self.is_later_partial(after) {
+            return timer;
+        }
+        match (self.timer, timer) {
+            (Timer::Retransmit { .. }, Timer::Retransmit { .. }) => self.timer,
+            _ => timer,
+        }
+    }
+
     // What runs while nothing is marked.
     fn left_running(&self, after: &ControlBlock<'_>, now: Instant) -> Timer {
-        let running = after.running(now);
-        if !self.is_later_partial(after) {
-            return running;
-        }
-        match (self.timer, running) {
-            (Timer::Retransmit { .. }, Timer::Retransmit { .. }) => self.timer,
-            _ => running,
+        let timer = self.kept(after, after.running(now));
+        match self.timer {
+            Timer::ZeroWindowProbe { .. } => timer,
+            _ => probe_soonest(after.idle_at, timer),
         }
     }
 
