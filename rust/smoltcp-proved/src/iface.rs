@@ -6,19 +6,28 @@
 use crate::kit::alloc::Global;
 use crate::own;
 use crate::phy::{Device, RxToken, TxToken};
-use crate::proved::host_groups::MulticastError;
 use crate::proved::ip_wire::{IpAddress, Ipv4Address, Ipv6Address};
 use crate::proved::net_base::{Duration, Instant};
 use crate::proved::net_host::{self, IpCidr, Secret};
-use crate::proved::smoltcp_socket::{AnySocket, Context as _, PollAt, Socket};
-use crate::proved::sock_tcp::Generator;
+use crate::proved::smoltcp_socket::{Context as _, PollAt};
 use alloc::vec::Vec;
 use core::fmt;
-use core::marker::PhantomData;
-use core::ops::{Deref, DerefMut};
+
+mod fixed;
+mod foreign;
+mod routes;
+mod set;
+
+pub use crate::proved::host_groups::MulticastError;
+pub use fixed::FixedVec;
+pub use routes::{Route, RouteTableFull, Routes};
+pub use set::{Places, SocketHandle, SocketSet, SocketStorage};
 
 /// How many addresses an interface has at most.
 pub const IFACE_MAX_ADDR_COUNT: usize = 8;
+
+/// How many routes an interface has at most.
+pub const IFACE_MAX_ROUTE_COUNT: usize = 4;
 
 // Room for the longest reply of a TCP socket, whatever the MTU.
 const LEAST_ROOM: usize = 100;
@@ -87,6 +96,11 @@ pub struct Interface {
     reply: Vec<u8>,
     // of the device
     loops_back: bool,
+    routes: Routes,
+    any_ip: bool,
+    // how many addresses stand behind the own ones
+    foreign: usize,
+    reassembly_timeout: Duration,
 }
 
 impl fmt::Debug for Interface {
@@ -100,8 +114,17 @@ impl Interface {
     pub fn new(config: Config, device: &mut (impl Device + ?Sized), now: Instant) -> Interface {
         let host = net_host::Interface::new(crate::kit::Vec::new(Global), Secret::new(config.key()));
         let hardware_addr = config.hardware_addr;
-        let mut interface =
-            Interface { host, hardware_addr, packet: Vec::new(), reply: Vec::new(), loops_back: false };
+        let mut interface = Interface {
+            host,
+            hardware_addr,
+            packet: Vec::new(),
+            reply: Vec::new(),
+            loops_back: false,
+            routes: Routes::default(),
+            any_ip: false,
+            foreign: 0,
+            reassembly_timeout: Duration::from_secs(60),
+        };
         interface.fit(device);
         interface.set_now(now);
         interface
@@ -132,6 +155,11 @@ impl Interface {
         self.hardware_addr
     }
 
+    /// Sets the address on the medium.
+    pub fn set_hardware_addr(&mut self, addr: HardwareAddress) {
+        self.hardware_addr = addr;
+    }
+
     /// The host below, with what it has beyond smoltcp: guards, SYN cookies, counters.
     pub fn host_mut(&mut self) -> &mut net_host::Interface<Secret> {
         &mut self.host
@@ -139,7 +167,8 @@ impl Interface {
 
     /// The addresses.
     pub fn ip_addrs(&self) -> &[IpCidr] {
-        self.host.inner.environment.addresses.as_slice()
+        let addresses = self.host.inner.environment.addresses.as_slice();
+        &addresses[..addresses.len() - self.foreign]
     }
 
     /// The first IPv4 address.
@@ -175,10 +204,44 @@ impl Interface {
 
     /// Lets `f` change the addresses.
     pub fn update_ip_addrs<F: FnOnce(&mut FixedVec<IpCidr, IFACE_MAX_ADDR_COUNT>)>(&mut self, f: F) {
-        let mut list = FixedVec(self.ip_addrs().to_vec());
+        let mut list = FixedVec::from_slice(self.ip_addrs()).expect("no more than there may be");
         f(&mut list);
-        let addresses = crate::kit::Vec::from_slice(Global, &list).expect("memory for the addresses");
-        self.host.inner.environment.addresses = addresses;
+        let unicast = |cidr: &IpCidr| !cidr.address.is_multicast() && !cidr.address.is_unspecified();
+        assert!(list.iter().all(unicast), "If a new address is added, it must be unicast");
+        self.put_addresses(list.to_vec(), list.len());
+    }
+
+    /// The routes.
+    pub fn routes(&self) -> &Routes {
+        &self.routes
+    }
+
+    /// The routes, for writing.
+    pub fn routes_mut(&mut self) -> &mut Routes {
+        &mut self.routes
+    }
+
+    /// Takes packets to each address whose route leads through an own address, from now on, or no longer.
+    pub fn set_any_ip(&mut self, any_ip: bool) {
+        self.any_ip = any_ip;
+        if !any_ip {
+            self.put_addresses(self.ip_addrs().to_vec(), self.ip_addrs().len());
+        }
+    }
+
+    /// Whether such packets are taken.
+    pub fn any_ip(&self) -> bool {
+        self.any_ip
+    }
+
+    /// How long fragments would be kept. They are dropped, whatever is set.
+    pub fn reassembly_timeout(&self) -> Duration {
+        self.reassembly_timeout
+    }
+
+    /// Sets how long fragments would be kept.
+    pub fn set_reassembly_timeout(&mut self, timeout: Duration) {
+        self.reassembly_timeout = timeout;
     }
 
     /// Whether the interface has this address.
@@ -228,15 +291,22 @@ impl Interface {
     ) -> PollIngressSingleResult {
         self.fit(device);
         let Some((arrived, room)) = device.receive(timestamp) else { return PollIngressSingleResult::None };
-        let (host, reply, loops_back) = (&mut self.host, &mut self.reply, self.loops_back);
+        let before = self.host.counters();
         let len = arrived.consume(|packet| {
-            let own =
-                own::hear(host, loops_back, (&mut sockets.set, &sockets.handles), timestamp, packet, reply);
+            if self.any_ip {
+                self.take_on(timestamp, packet, sockets);
+            }
+            let (host, reply, set) = (&mut self.host, &mut self.reply, sockets.parts());
+            let own = own::hear(host, self.loops_back, set, timestamp, packet, reply);
             // `fit` has made room
-            own.unwrap_or_else(|| host.receive(&mut sockets.set, timestamp, packet, reply).unwrap_or(0))
+            own.unwrap_or_else(|| host.receive(sockets.parts().0, timestamp, packet, reply).unwrap_or(0))
         });
         if len > 0 {
-            room.consume(len, |packet| packet.copy_from_slice(&reply[..len]));
+            room.consume(len, |packet| packet.copy_from_slice(&self.reply[..len]));
+        }
+        let after = self.host.counters();
+        if (before.malformed, before.source) != (after.malformed, after.source) {
+            return PollIngressSingleResult::PacketProcessed;
         }
         PollIngressSingleResult::SocketStateChanged
     }
@@ -250,10 +320,11 @@ impl Interface {
     ) -> PollResult {
         self.fit(device);
         let (mut result, mut refused) = (PollResult::None, 0);
+        let (set, _) = sockets.parts();
         // a datagram that is longer than the MTU stays with its socket, and each such socket has one turn
-        while refused <= sockets.set.capacity() {
+        while refused <= set.capacity() {
             let Some(room) = device.transmit(timestamp) else { break };
-            match self.host.emit(&mut sockets.set, timestamp, &mut self.packet) {
+            match self.host.emit(set, timestamp, &mut self.packet) {
                 Ok(0) => break,
                 Ok(len) => {
                     room.consume(len, |packet| packet.copy_from_slice(&self.packet[..len]));
@@ -265,10 +336,15 @@ impl Interface {
         result
     }
 
+    /// What a poll does beside packets: it looks at the clock.
+    pub fn poll_maintenance(&mut self, timestamp: Instant) {
+        self.set_now(timestamp);
+    }
+
     /// When a socket has something to do: a moment in the past or `timestamp` for at once, none before a packet comes.
     pub fn poll_at(&mut self, timestamp: Instant, sockets: &SocketSet<'_>) -> Option<Instant> {
         self.set_now(timestamp);
-        match self.host.poll_at(&sockets.set) {
+        match self.host.poll_at(sockets.set()) {
             PollAt::Now => Some(timestamp),
             PollAt::Time(moment) => Some(moment),
             PollAt::Ingress => None,
@@ -279,183 +355,5 @@ impl Interface {
     pub fn poll_delay(&mut self, timestamp: Instant, sockets: &SocketSet<'_>) -> Option<Duration> {
         let moment = self.poll_at(timestamp, sockets)?;
         Some(if timestamp < moment { moment - timestamp } else { Duration::ZERO })
-    }
-}
-
-/// A vector of at most `N` items, as that of `heapless`.
-#[derive(Debug, Clone, PartialEq, Eq)]
-pub struct FixedVec<T, const N: usize>(Vec<T>);
-
-impl<T, const N: usize> FixedVec<T, N> {
-    /// Puts an item behind the others, or gives it back where `N` are there.
-    pub fn push(&mut self, item: T) -> Result<(), T> {
-        if self.0.len() >= N {
-            return Err(item);
-        }
-        self.0.push(item);
-        Ok(())
-    }
-
-    /// Takes the last item out.
-    pub fn pop(&mut self) -> Option<T> {
-        self.0.pop()
-    }
-
-    /// Takes all items out.
-    pub fn clear(&mut self) {
-        self.0.clear();
-    }
-
-    /// Takes the item at this place out.
-    pub fn remove(&mut self, place: usize) -> T {
-        self.0.remove(place)
-    }
-
-    /// Leaves the items of which `f` says so.
-    pub fn retain<F: FnMut(&T) -> bool>(&mut self, f: F) {
-        self.0.retain(f);
-    }
-}
-
-impl<T, const N: usize> Deref for FixedVec<T, N> {
-    type Target = [T];
-
-    fn deref(&self) -> &[T] {
-        &self.0
-    }
-}
-
-impl<T, const N: usize> DerefMut for FixedVec<T, N> {
-    fn deref_mut(&mut self) -> &mut [T] {
-        &mut self.0
-    }
-}
-
-/// A place for a socket. It holds nothing itself: how many there are tells a set how many sockets it may have.
-#[derive(Debug, Clone, Copy, Default)]
-pub struct SocketStorage<'a>(PhantomData<&'a ()>);
-
-impl SocketStorage<'_> {
-    /// A place.
-    pub const EMPTY: Self = SocketStorage(PhantomData);
-}
-
-/// How many sockets a set may have: as many as the places that are lent, or, of a vector, any number.
-#[derive(Debug, Clone, Copy)]
-pub struct Places(Option<usize>);
-
-impl<'a> From<Vec<SocketStorage<'a>>> for Places {
-    fn from(_: Vec<SocketStorage<'a>>) -> Places {
-        Places(None)
-    }
-}
-
-impl<'s, 'a> From<&'s mut [SocketStorage<'a>]> for Places {
-    fn from(places: &'s mut [SocketStorage<'a>]) -> Places {
-        Places(Some(places.len()))
-    }
-}
-
-impl<'a, const N: usize> From<[SocketStorage<'a>; N]> for Places {
-    fn from(_: [SocketStorage<'a>; N]) -> Places {
-        Places(Some(N))
-    }
-}
-
-/// The name of a socket in a set.
-#[derive(Debug, Clone, Copy, PartialEq, Eq, PartialOrd, Ord, Hash, Default)]
-pub struct SocketHandle(usize);
-
-impl fmt::Display for SocketHandle {
-    fn fmt(&self, f: &mut fmt::Formatter<'_>) -> fmt::Result {
-        write!(f, "#{}", self.0)
-    }
-}
-
-/// Sockets of all kinds, each under a handle.
-pub struct SocketSet<'a> {
-    set: net_host::SocketSet<'a>,
-    // for each handle the one below
-    handles: Vec<Option<net_host::SocketHandle>>,
-    most: Option<usize>,
-}
-
-impl fmt::Debug for SocketSet<'_> {
-    fn fmt(&self, f: &mut fmt::Formatter<'_>) -> fmt::Result {
-        f.debug_map().entries(self.iter()).finish()
-    }
-}
-
-// The set below, of this capacity.
-fn room_for<'a>(capacity: usize) -> net_host::SocketSet<'a> {
-    net_host::SocketSet::new(Global, capacity).expect("memory for a set of sockets")
-}
-
-impl<'a> SocketSet<'a> {
-    /// A set without sockets. Its memory is of the heap, whatever is lent.
-    pub fn new<P: Into<Places>>(sockets: P) -> SocketSet<'a> {
-        let Places(most) = sockets.into();
-        SocketSet { set: room_for(most.unwrap_or(0)), handles: Vec::new(), most }
-    }
-
-    /// Adds a socket. Panics where the set has as many as it may.
-    pub fn add<T: AnySocket<'a, Generator>>(&mut self, socket: T) -> SocketHandle {
-        let mut socket = socket.upcast();
-        let below = loop {
-            match self.set.add(socket) {
-                Ok(handle) => break handle,
-                Err(back) => socket = back,
-            }
-            self.grow();
-        };
-        let place = self.handles.iter().position(Option::is_none).unwrap_or(self.handles.len());
-        if place == self.handles.len() {
-            self.handles.push(None);
-        }
-        self.handles[place] = Some(below);
-        SocketHandle(place)
-    }
-
-    // Twice as many places, or a few, with the sockets in the same order.
-    fn grow(&mut self) {
-        assert!(self.most.is_none(), "adding a socket to a full SocketSet");
-        let capacity = (2 * self.set.capacity()).max(4);
-        let mut old = core::mem::replace(&mut self.set, room_for(capacity));
-        for handle in self.handles.iter_mut().flatten() {
-            let socket = old.remove(*handle).expect("each handle has its socket");
-            *handle = self.set.add(socket).expect("the new set is larger");
-        }
-    }
-
-    fn below(&self, handle: SocketHandle) -> net_host::SocketHandle {
-        self.handles.get(handle.0).copied().flatten().expect("handle does not refer to a valid socket")
-    }
-
-    /// The socket of this handle. Panics where the handle names none, or one of another kind.
-    pub fn get<T: AnySocket<'a, Generator>>(&self, handle: SocketHandle) -> &T {
-        let socket = self.set.get(self.below(handle)).expect("each handle has its socket");
-        T::downcast(socket).expect("handle refers to a socket of a wrong type")
-    }
-
-    /// The socket of this handle, for writing. Panics where the handle names none, or one of another kind.
-    pub fn get_mut<T: AnySocket<'a, Generator>>(&mut self, handle: SocketHandle) -> &mut T {
-        let below = self.below(handle);
-        let socket = self.set.get_mut(below).expect("each handle has its socket");
-        T::downcast_mut(socket).expect("handle refers to a socket of a wrong type")
-    }
-
-    /// Takes a socket out. Panics where the handle names none.
-    pub fn remove(&mut self, handle: SocketHandle) -> Socket<'a> {
-        let below = self.below(handle);
-        self.handles[handle.0] = None;
-        self.set.remove(below).expect("each handle has its socket")
-    }
-
-    /// The sockets with their handles.
-    pub fn iter(&self) -> impl Iterator<Item = (SocketHandle, &Socket<'a>)> {
-        self.handles.iter().enumerate().filter_map(|(place, handle)| {
-            let socket = self.set.get((*handle)?)?;
-            Some((SocketHandle(place), socket))
-        })
     }
 }

@@ -22,7 +22,7 @@
 #![no_std]
 #![deny(missing_docs, missing_debug_implementations, unsafe_code)]
 #![deny(unsafe_op_in_unsafe_fn, clippy::undocumented_unsafe_blocks)]
-#![cfg_attr(not(feature = "c-library"), forbid(unsafe_code))]
+#![cfg_attr(not(any(feature = "c-library", feature = "tuntap")), forbid(unsafe_code))]
 
 #[cfg(not(any(target_pointer_width = "32", target_pointer_width = "64")))]
 compile_error!("a `usize` has at least 32 bits here: lengths and offsets of a TCP window do not fit fewer");
@@ -32,6 +32,7 @@ extern crate alloc;
 #[cfg(feature = "std")]
 extern crate std;
 
+mod icmp_wire;
 #[cfg(feature = "alloc")]
 pub mod iface;
 pub mod kit;
@@ -51,6 +52,11 @@ pub mod socket {
 
 /// What goes over the wire, as values: addresses, endpoints, headers, segments and messages.
 pub mod wire {
+    pub use crate::icmp_wire::{
+        Icmpv4DstUnreachable, Icmpv4Message, Icmpv4Packet, Icmpv4Repr, Icmpv4TimeExceeded,
+        Icmpv6DstUnreachable, Icmpv6Message, Icmpv6Packet, Icmpv6ParamProblem, Icmpv6Repr,
+        Icmpv6TimeExceeded,
+    };
     #[cfg(feature = "alloc")]
     pub use crate::iface::HardwareAddress;
     #[cfg(feature = "alloc")]

@@ -117,6 +117,60 @@ impl SubAssign for Duration {
     }
 }
 
+macro_rules! scaled {
+    ($($op:ident $call:ident $assign:ident $assign_call:ident |$a:ident, $b:ident| $expr:expr;)*) => { $(
+        impl core::ops::$op<u32> for Duration {
+            type Output = Duration;
+
+            fn $call(self, by: u32) -> Duration {
+                let ($a, $b) = (self.micros, by);
+                Duration::from_micros($expr)
+            }
+        }
+
+        impl core::ops::$assign<u32> for Duration {
+            fn $assign_call(&mut self, by: u32) {
+                *self = core::ops::$op::$call(*self, by);
+            }
+        }
+    )* };
+}
+
+scaled! {
+    Div div DivAssign div_assign |a, b| a / u64::from(b);
+    Shl shl ShlAssign shl_assign |a, b| a << b;
+    Shr shr ShrAssign shr_assign |a, b| a >> b;
+}
+
+impl core::ops::MulAssign<u32> for Duration {
+    fn mul_assign(&mut self, by: u32) {
+        *self = *self * by;
+    }
+}
+
+#[cfg(feature = "std")]
+impl From<std::time::SystemTime> for Instant {
+    fn from(moment: std::time::SystemTime) -> Instant {
+        let since = moment.duration_since(std::time::UNIX_EPOCH).expect("a moment after 1970");
+        Instant::from_micros(since.as_micros() as i64)
+    }
+}
+
+#[cfg(feature = "std")]
+impl From<Instant> for std::time::SystemTime {
+    fn from(moment: Instant) -> std::time::SystemTime {
+        std::time::UNIX_EPOCH + core::time::Duration::from_micros(moment.micros as u64)
+    }
+}
+
+/// Counted from 1970: what has gone by since is taken from the system's clock.
+#[cfg(feature = "std")]
+impl From<std::time::Instant> for Instant {
+    fn from(moment: std::time::Instant) -> Instant {
+        Instant::now() - Duration::from_micros(moment.elapsed().as_micros() as u64)
+    }
+}
+
 /// In seconds, with three digits behind the point.
 impl fmt::Display for Instant {
     fn fmt(&self, f: &mut fmt::Formatter<'_>) -> fmt::Result {

@@ -3,7 +3,23 @@ use crate::proved::net_base::Instant;
 use alloc::collections::VecDeque;
 use alloc::vec::Vec;
 
+mod fault;
+mod pcap;
+mod tracer;
+#[cfg(feature = "tuntap")]
+mod tuntap;
+
 pub use crate::proved::ip_wire::{Checksum, ChecksumCapabilities};
+pub use fault::{FaultInjector, FaultyRx, FaultyTx};
+pub use pcap::{PcapLinkType, PcapMode, PcapRx, PcapSink, PcapTx, PcapWriter};
+pub use tracer::{Tracer, TracerDirection, TracerPacket, TracerToken};
+#[cfg(feature = "tuntap")]
+pub use tuntap::{TunRx, TunTapInterface, TunTx, wait};
+
+/// Marks of a packet: there are none.
+#[derive(Debug, Clone, Copy, PartialEq, Eq, PartialOrd, Ord, Hash, Default)]
+#[non_exhaustive]
+pub struct PacketMeta {}
 
 /// What a device carries: IP packets. Ethernet and IEEE 802.15.4 are not here.
 #[derive(Debug, Clone, Copy, PartialEq, Eq, Default)]
@@ -76,12 +92,20 @@ pub trait Device {
 pub trait RxToken {
     /// Lends the packet.
     fn consume<R, F: FnOnce(&[u8]) -> R>(self, f: F) -> R;
+
+    /// The marks of the packet.
+    fn meta(&self) -> PacketMeta {
+        PacketMeta::default()
+    }
 }
 
 /// Room for a packet.
 pub trait TxToken {
     /// Lends so many bytes to be written, and sends them.
     fn consume<R, F: FnOnce(&mut [u8]) -> R>(self, len: usize, f: F) -> R;
+
+    /// Sets the marks of the packet.
+    fn set_meta(&mut self, _meta: PacketMeta) {}
 }
 
 impl<D: Device + ?Sized> Device for &mut D {
