@@ -36,6 +36,8 @@ MACROS = {"format", "vec"}
 # reads of several bytes that are spelled as single bytes, each once in its crate: what kit/bytes.rs has in their place
 READS = {
     "ip_wire": {
+        """let first = total + le64_at(bytes, at) + le64_at(bytes, at + 8);
+    first + le64_at(bytes, at + 16) + le64_at(bytes, at + 24)""": "total + crate::kit::four_le64(bytes, at)",
         "256 * bytes[at] as usize + bytes[at + 1] as usize": "crate::kit::be16(bytes, at) as usize",
         "65536 * be16_at(bytes, at) as u32 + be16_at(bytes, at + 2) as u32": "crate::kit::be32(bytes, at)",
         "bytes[at] as u64 + 256 * bytes[at + 1] as u64": "crate::kit::le16(bytes, at) as u64",

@@ -21,6 +21,14 @@ reads! {
     be32 u32, from_be_bytes, "The number of the four bytes at a place, the highest first.";
 }
 
+/// The sum of the four numbers of eight bytes from a place on, the lowest byte of each first.
+#[inline(always)]
+pub(crate) fn four_le64(bytes: &[u8], at: usize) -> u128 {
+    let four = &bytes[at..at + 32];
+    let number = |at| u128::from(le64(four, at));
+    number(0) + number(8) + number(16) + number(24)
+}
+
 #[cfg(test)]
 mod tests {
     use super::*;
@@ -31,6 +39,9 @@ mod tests {
         assert_eq!((le16(&bytes, 1), be16(&bytes, 1)), (0x0201, 0x0102));
         assert_eq!((le32(&bytes, 1), be32(&bytes, 1)), (0x0403_0201, 0x0102_0304));
         assert_eq!(le64(&bytes, 1), 0x0807_0605_0403_0201);
+        let mut many = [0xff; 40];
+        many[39] = 0;
+        assert_eq!(four_le64(&many, 7), 3 * u128::from(u64::MAX) + 0x00ff_ffff_ffff_ffff);
     }
 
     #[test]

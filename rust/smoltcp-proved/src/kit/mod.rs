@@ -22,7 +22,7 @@ mod string;
 #[cfg(feature = "alloc")]
 mod vec;
 
-pub(crate) use bytes::{be16, be32, le16, le32, le64};
+pub(crate) use bytes::{be16, be32, four_le64, le16, le32, le64};
 pub use chacha::{rand_chacha, rand_core};
 #[cfg(feature = "std")]
 pub use runtime::HostRuntime;

@@ -56,8 +56,7 @@ fn add_sixty_four(total: u128, bytes: &[u8], at: usize) -> u128 {
 // without a swap: the sum's two bytes are then swapped too (RFC 1071, section 2 (B)). An addition of eight bytes and
 // one of its carry take the place of two additions of four.
 fn add_thirty_two(total: u128, bytes: &[u8], at: usize) -> u128 {
-    let first = total + le64_at(bytes, at) + le64_at(bytes, at + 8);
-    first + le64_at(bytes, at + 16) + le64_at(bytes, at + 24)
+    total + crate::kit::four_le64(bytes, at)
 }
 
 fn add_eight(total: u128, bytes: &[u8], at: usize) -> u128 {
