@@ -33,6 +33,23 @@ NEARER, NEARER_CRATES = {"IpEndpoint", "IpListenEndpoint", "UdpMetadata"}, {"soc
 # the fields on which the buffers of this crate stand
 STORAGE, STORAGE_CRATE = {"storage", "payload"}, "net_base"
 MACROS = {"format", "vec"}
+# reads of several bytes that are spelled as single bytes, each once in its crate: what kit/bytes.rs has in their place
+READS = {
+    "ip_wire": {
+        """let first = total + le64_at(bytes, at) + le64_at(bytes, at + 8);
+    first + le64_at(bytes, at + 16) + le64_at(bytes, at + 24)""": "total + crate::kit::four_le64(bytes, at)",
+        "256 * bytes[at] as usize + bytes[at + 1] as usize": "crate::kit::be16(bytes, at) as usize",
+        "65536 * be16_at(bytes, at) as u32 + be16_at(bytes, at + 2) as u32": "crate::kit::be32(bytes, at)",
+        "bytes[at] as u64 + 256 * bytes[at + 1] as u64": "crate::kit::le16(bytes, at) as u64",
+        "le16_at(bytes, at) + 65536 * le16_at(bytes, at + 2)": "crate::kit::le32(bytes, at) as u64",
+        "(le32_at(bytes, at) + 0x1_0000_0000 * le32_at(bytes, at + 4)) as u128": "crate::kit::le64(bytes, at) as u128",
+    },
+    "bench_parts": {
+        """let low = half(bytes, at) as u64;
+    let high = half(bytes, at + 4) as u64;
+    low | (high << 32)""": "crate::kit::le64(bytes, at)",
+    },
+}
 # What a cut or a word is called; `rust/translate --list` prints it.
 LIST = {
     "ghost use": "an import for clauses: cut",
@@ -53,6 +70,7 @@ LIST = {
     "into": "of public methods of the sockets, x: T -> x: impl Into<T>, and let x = x.into(), for "
             f"{', '.join(sorted(NEARER))}",
     "owned": f"of the buffers of {STORAGE_CRATE}, &'a mut [T] -> crate::kit::Storage<'a, T>, a lent slice or a vector",
+    "reads": "of ip_wire and bench_parts, single bytes that make up a number -> crate::kit::le64(bytes, at) and the like",
     "main": "fn main(rt: HostRuntime) { -> fn main() { let rt = HostRuntime;",
 }
 
@@ -359,6 +377,12 @@ def imports(text, kept, code, root):
     return lines
 
 
+def reads(text, crate):
+    """The edits of reads of several bytes."""
+    found = [(text.find(old), old, new) for old, new in READS.get(crate, {}).items()]
+    return [Edit(at, at + len(old), new, "reads") for at, old, new in found if at >= 0]
+
+
 def words(text, kept, crate, crates, root):
     """The words that stand in place of others, and the cuts that need more than one token to be seen."""
     code, edits = [one for one in kept if one.kind != "comment"], links(kept, crate, root)
@@ -378,7 +402,7 @@ def words(text, kept, crate, crates, root):
             edits += nearer(code, place, crate)
         elif one.kind == "word":
             edits += paths(text, code, place, crate, crates, root)
-    return edits + imports(text, kept, code, root)
+    return edits + reads(text, crate) + imports(text, kept, code, root)
 
 
 def whole_lines(text, edit):

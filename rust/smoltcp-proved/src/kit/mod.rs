@@ -3,6 +3,7 @@
 //!
 //! It is written by hand, and not proved.
 pub mod alloc;
+mod bytes;
 mod chacha;
 #[cfg(feature = "alloc")]
 pub mod collections;
@@ -21,6 +22,7 @@ mod string;
 #[cfg(feature = "alloc")]
 mod vec;
 
+pub(crate) use bytes::{be16, be32, four_le64, le16, le32, le64};
 pub use chacha::{rand_chacha, rand_core};
 #[cfg(feature = "std")]
 pub use runtime::HostRuntime;

@@ -47,9 +47,7 @@ impl Digest {
 
 // The eight bytes at `at`, the lowest first.
 fn word(bytes: &[u8], at: usize) -> u64 {
-    let low = half(bytes, at) as u64;
-    let high = half(bytes, at + 4) as u64;
-    low | (high << 32)
+    crate::kit::le64(bytes, at)
 }
 
 fn half(bytes: &[u8], at: usize) -> u32 {

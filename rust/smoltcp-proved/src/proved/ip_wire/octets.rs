@@ -13,12 +13,12 @@ pub fn be16(number: usize) -> [u8; 2] {
 
 /// The number of the two bytes at `at`.
 pub fn be16_at(bytes: &[u8], at: usize) -> usize {
-    256 * bytes[at] as usize + bytes[at + 1] as usize
+    crate::kit::be16(bytes, at) as usize
 }
 
 /// The number of the four bytes at `at`.
 pub fn be32_at(bytes: &[u8], at: usize) -> u32 {
-    65536 * be16_at(bytes, at) as u32 + be16_at(bytes, at + 2) as u32
+    crate::kit::be32(bytes, at)
 }
 
 /// The bytes from `at` on.

@@ -56,8 +56,7 @@ fn add_sixty_four(total: u128, bytes: &[u8], at: usize) -> u128 {
 // without a swap: the sum's two bytes are then swapped too (RFC 1071, section 2 (B)). An addition of eight bytes and
 // one of its carry take the place of two additions of four.
 fn add_thirty_two(total: u128, bytes: &[u8], at: usize) -> u128 {
-    let first = total + le64_at(bytes, at) + le64_at(bytes, at + 8);
-    first + le64_at(bytes, at + 16) + le64_at(bytes, at + 24)
+    total + crate::kit::four_le64(bytes, at)
 }
 
 fn add_eight(total: u128, bytes: &[u8], at: usize) -> u128 {
@@ -66,7 +65,7 @@ fn add_eight(total: u128, bytes: &[u8], at: usize) -> u128 {
 
 // The number of the eight bytes at `at`, the lowest first.
 fn le64_at(bytes: &[u8], at: usize) -> u128 {
-    (le32_at(bytes, at) + 0x1_0000_0000 * le32_at(bytes, at + 4)) as u128
+    crate::kit::le64(bytes, at) as u128
 }
 
 // A wide sum with its upper half added to the lower one, and again: it comes to the same.
@@ -111,11 +110,11 @@ fn add_last(total: u64, bytes: &[u8]) -> u64 {
 
 // The number of the four bytes at `at`, the lowest first.
 fn le32_at(bytes: &[u8], at: usize) -> u64 {
-    le16_at(bytes, at) + 65536 * le16_at(bytes, at + 2)
+    crate::kit::le32(bytes, at) as u64
 }
 
 fn le16_at(bytes: &[u8], at: usize) -> u64 {
-    bytes[at] as u64 + 256 * bytes[at + 1] as u64
+    crate::kit::le16(bytes, at) as u64
 }
 
 // A wide sum with its upper half added to the lower one: it comes to the same.
