@@ -1,6 +1,6 @@
 //! An interface: what arrives goes to the sockets that it is for, and what they have to say goes out.
 ghost use Rattle.std.specs.Prelude.{ℕ, ◌≡◌, ◌+◌, ◌↔◌, ◌<◌, ◌≤◌, IsTrue, IfOk, Ok, None, is_err, length, max, min, pos};
-ghost use Rattle.std.specs.Prelude.{false};
+ghost use Rattle.std.specs.Prelude.{false, true};
 ghost use Rattle.sock_tcp.specs.Polls.{is_reached};
 ghost use Rattle.sock_tcp.specs.View.{moment_of};
 ghost use Rattle.host_groups.specs.Joining.{has_group, join_answer, joined, leave_answer, left, no_groups};
@@ -136,7 +136,11 @@ impl<W: Words> Interface<W> {
     /// each has looked at it as it is, so that what only the peer can end comes to its end in time. A socket that was
     /// not lent, took no segment and asks for a later moment is not asked, so a call costs no more for it; after
     /// another MTU or other guards each is asked once. A socket that is due and has nothing to say after all has had
-    /// its turn. Where `out` is too short for the packet, `TooShort`: its socket offers it again.
+    /// its turn.
+    ///
+    /// No packet is longer than the MTU, where less than 576 counts as that over IPv6: a longer one is dropped, as by
+    /// smoltcp's interface, and counted as `too_long`. Where `out` is too short for the packet, `TooShort`: its socket
+    /// offers it again. An `out` of the MTU's length, and of 576 bytes or more, never is.
     pub fn emit<G: TsvalSource>(
         &mut self,
         sockets: &mut SocketSet<'_, G>,
@@ -147,6 +151,8 @@ impl<W: Words> Interface<W> {
             result
             self.new sockets.new.slots.items out.new }
         ensures within { IfOk result (λ n. n ≤ length out.old) }
+        ensures fits { IfOk result (λ n. n ≤ max self.old.inner.environment.mtu 576) }
+        ensures short { is_err result ≡ true → length out.old < max self.old.inner.environment.mtu 576 }
         ensures quiet { result ≡ Ok 0 → Nowhere (Due (facts_by ⟦<IpAddress as PartialEq>⟧.eq
             self.new.inner.environment)) sockets.new.slots.items }
         ensures seen { result ≡ Ok 0 → Nowhere (Unseen self.old.guards) sockets.new.slots.items }
@@ -167,13 +173,21 @@ impl<W: Words> Interface<W> {
             result
             self.new sockets.new.slots.items out.new }
         ensures within { IfOk result (λ n. n ≤ length out.old) }
+        ensures fits { IfOk result (λ n. n ≤ max self.old.inner.environment.mtu 576) }
+        ensures short { is_err result ≡ true → length out.old < max self.old.inner.environment.mtu 576 }
         ensures quiet { result ≡ Ok 0 → Nowhere (Due (facts_by ⟦<IpAddress as PartialEq>⟧.eq
             self.new.inner.environment)) sockets.new.slots.items }
         ensures seen { result ≡ Ok 0 → Nowhere (Unseen self.old.guards) sockets.new.slots.items }
     {
         self.set_now(now);
         sockets.heed(self.inner.environment.mtu, &self.guards);
-        speak(sockets, &mut self.turn, &self.inner, out)
+        speak(
+            sockets,
+            &mut self.turn,
+            &mut self.counters,
+            &self.inner,
+            out,
+        )
     }
 }
 
