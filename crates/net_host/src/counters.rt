@@ -41,7 +41,7 @@ pub struct Counters {
     pub cookies_sent: u64,
     /// Acknowledgements of such answers that took a socket.
     pub cookies_taken: u64,
-    /// Acknowledgements that no socket takes, of no such answer, where they are sent.
+    /// Acknowledgements that no socket takes, of no such answer, while one may be acknowledged.
     pub cookies_wrong: u64,
     /// Packets of sockets that were dropped, as they were longer than the MTU.
     pub too_long: u64,

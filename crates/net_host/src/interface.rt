@@ -70,7 +70,8 @@ impl<W: Words> Interface<W> {
     /// it. With SYN cookies (RFC 4987, section 3.6) a SYN for which only a socket that is kept listens is answered, and
     /// no socket takes it; the acknowledgement of that answer, within 64 seconds, takes a socket, which hears the SYN
     /// as it was told again, dispatches its SYN|ACK into nothing, as that has gone out, and then hears the
-    /// acknowledgement. One for no socket is answered by an RST (RFC 9293, section 3.10.7.1), unless it is one, at most
+    /// acknowledgement, without the octet of a keep-alive (RFC 9293, section 3.8.4). None is believed once no SYN was
+    /// answered so for 128 seconds. One for no socket is answered by an RST (RFC 9293, section 3.10.7.1), unless it is one, at most
     /// `ANSWERS_A_SECOND` times a second. A datagram goes to the first UDP socket that accepts it; of one that none
     /// does the sender is told by an ICMP error (RFC 1122, section 4.1.3.1; RFC 4443, section 3.1). Errors go out for
     /// packets to an own address that no raw socket takes, at most `ANSWERS_A_SECOND` times a second, and fit the MTU.
@@ -298,6 +299,7 @@ impl<W> Interface<W> {
     }
 
     /// Sets whether SYNs may be answered without a socket, and how: from the next packet on. A new interface does not.
+    /// Of answers that went out before none is believed.
     pub fn set_syn_cookies(&mut self, cookies: Option<SynCookies>)
         ensures cookies { self.new.cookies ≡ cookies }
         ensures same { (self.new.inner ≡ self.old.inner) × (self.new.turn ≡ self.old.turn)
