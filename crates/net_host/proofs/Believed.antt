@@ -57,7 +57,7 @@ believed law c sent last heard ip ip' s a small noted before ans step =
 
 -- ---- and none but while one is awaited
 
-is_it : Course → Bool
+abbrev is_it : Course → Bool
 is_it (course.Believed class number) = true
 is_it _ = false
 

@@ -173,7 +173,8 @@ impl<'w> Wire<'w> {
     fn is_too_long(&self, ip: &IpRepr) -> bool
         ensures { result ≡ nat_lt (largest ip.now self.now.environment.now.mtu) (packet_len ip.now) }
     {
-        largest(ip, self.environment.mtu) < ip.header_len() + ip.payload_len()
+        let room = largest(ip, self.environment.mtu);
+        room < ip.header_len() || room - ip.header_len() < ip.payload_len()
     }
 }
 
