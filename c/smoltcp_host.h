@@ -35,7 +35,7 @@ extern "C" {
 
 /* Memory for a host, for these calls alone; from smoltcp_host_init on it stays where it is. It lies at a multiple of
  * 16, as the compiler and malloc put it, since the library has numbers of 128 bits in it. */
-enum { SMOLTCP_HOST_SIZE = 1216 };
+enum { SMOLTCP_HOST_SIZE = 1200 };
 struct smoltcp_host { union { uint64_t opaque[SMOLTCP_HOST_SIZE / 8]; long double aligned; } memory; };
 #if defined(__STDC_VERSION__) && __STDC_VERSION__ >= 201112L
 _Static_assert(_Alignof(struct smoltcp_host) == 16, "a host lies at a multiple of 16");

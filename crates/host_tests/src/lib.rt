@@ -13,3 +13,5 @@ mod hosts;
 mod limits;
 #[cfg(test)]
 mod sizes;
+#[cfg(test)]
+mod sources;

@@ -10,6 +10,7 @@ pub const ANSWERS_A_SECOND: u32 = 100;
 
 // How long an answer takes, in microseconds, and how far ahead its time may begin.
 const EACH: i64 = 20_000;
+
 const AHEAD: i64 = 980_000;
 
 /// Each answer takes 20 milliseconds, of time that lies at most a second ahead.
