@@ -82,8 +82,9 @@ fn speak_on<W: Words, G: TsvalSource>(
         if answer.is_err() {
             return Err(TooShort);
         }
-        if sent.len > 0 {
-            return Ok(sent.len);
+        let len = sent.len;
+        if len > 0 {
+            return Ok(len);
         }
         counters.count_lost(sent.lost);
     }
