@@ -35,7 +35,7 @@ extern "C" {
 
 /* Memory for a host, for these calls alone; from smoltcp_host_init on it stays where it is. It lies at a multiple of
  * 16, as the compiler and malloc put it, since the library has numbers of 128 bits in it. */
-enum { SMOLTCP_HOST_SIZE = 1184 };
+enum { SMOLTCP_HOST_SIZE = 1200 };
 struct smoltcp_host { union { uint64_t opaque[SMOLTCP_HOST_SIZE / 8]; long double aligned; } memory; };
 #if defined(__STDC_VERSION__) && __STDC_VERSION__ >= 201112L
 _Static_assert(_Alignof(struct smoltcp_host) == 16, "a host lies at a multiple of 16");
@@ -70,10 +70,11 @@ struct smoltcp_guards { int64_t handshake, closing, window, timeout; };
  * has. destination: to no address of the host, no broadcast and no group that it joined. protocol: of none that it
  * speaks. segment, datagram, message: of TCP, UDP, ICMP, with a wrong header, length or checksum. busy: a SYN for a
  * port that is served, while no socket is free. nobody: for no socket. Then SYNs that were answered without a socket,
- * and acknowledgements of such answers that took a socket, or that answered none. */
+ * and acknowledgements of such answers that took a socket, or that answered none. too_long: packets of sockets that were
+ * dropped, as they were longer than the MTU. */
 struct smoltcp_counters {
     uint64_t malformed, source, destination, protocol, segment, datagram, message, busy, nobody;
-    uint64_t cookies_sent, cookies_taken, cookies_wrong;
+    uint64_t cookies_sent, cookies_taken, cookies_wrong, too_long;
 };
 
 /* The size of a host that the library has, in bytes. */
@@ -153,7 +154,9 @@ int64_t smoltcp_host_receive(struct smoltcp_host *host, int64_t now, const uint8
 
 /* The length of the next packet of a socket that is due at this moment, in out, or 0 where none is due. Call it until
  * it answers 0, with one moment: that comes, as no socket has more than 64 packets at a moment. The sockets have their
- * turns. SMOLTCP_ERROR_ROOM where out is too short for the packet: its socket offers it again.
+ * turns. A packet that is longer than the MTU, where less than 576 counts as that over IPv6, is dropped and counted as
+ * too_long. SMOLTCP_ERROR_ROOM where out is too short for another: its socket offers it again. Of the MTU's length, and
+ * of 576 bytes or more, it never is.
  *
  * Errors: SMOLTCP_ERROR_ROOM, SMOLTCP_ERROR_NULL. */
 int64_t smoltcp_host_emit(struct smoltcp_host *host, int64_t now, uint8_t *out, size_t cap);

@@ -1,7 +1,6 @@
 -- The number of an answer to a SYN.
 use Rattle.std.specs.Prelude.{ℕ, ℤ, pos, ◌+◌, ◌-◌, ◌*◌, ◌/◌, ◌%◌, ◌^◌, ◌==◌, ◌||◌, ◌+ℤ◌, unsigned_abs, List, Option}
-use Rattle.std.specs.Prelude.{Some, None}
-use Rattle.std.specs.Prelude.{if◌then◌else◌}
+use Rattle.std.specs.Prelude.{Some, None, Bool, false, nat_le, if◌then◌else◌}
 use Rattle.std.specs.Int.{from_be_bytes, w32, w128}
 use Rattle.ip_wire.specs.declared.address.IpAddress.{IpAddress}
 use Rattle.ip_wire.specs.declared.address.IpAddress.TheVariants as address
@@ -32,6 +31,11 @@ tag_of key c =
 -- the steps of 64 seconds before a moment
 abbrev pub step_of : ℤ → ℕ
 step_of micros = unsigned_abs (micros +ℤ pos 9223372036854775808) / 64000000
+
+-- whether an answer is awaited, where the last one went out then: in its step of time, and in the next
+abbrev pub awaited : Option ℤ → ℤ → Bool
+awaited None micros = false
+awaited (Some at) micros = nat_le (step_of micros) (step_of at + 1)
 
 -- a class in the three highest bits, and what the key makes of the call, the step and the class
 abbrev pub numbered : List ℕ → (tag step class : ℕ) → ℕ

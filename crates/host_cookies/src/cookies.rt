@@ -1,7 +1,7 @@
 //! Who is answered without a socket, and whose answer is believed.
-ghost use Rattle.std.specs.Prelude.{◌≡◌, ◌<◌, ◌/◌, IfSome};
+ghost use Rattle.std.specs.Prelude.{◌≡◌, ◌<◌, ◌/◌, IfSome, None, Some};
 ghost use Rattle.rand_chacha.specs.ChaCha.{key_of};
-ghost use Rattle.host_cookies.specs.Numbers.{number_at, numbered, recognised, recognised_by, step_of};
+ghost use Rattle.host_cookies.specs.Numbers.{awaited, number_at, numbered, recognised, recognised_by, step_of};
 ghost use Rattle.host_cookies.specs.Laws.{AnswersAreRecognised};
 
 use crate::call::Call;
@@ -17,6 +17,8 @@ const STEP: u128 = 64_000_000;
 pub struct SynCookies {
     pub(crate) key: [u8; 32],
     pub(crate) kept_from: usize,
+    // the moment of the last answer, in microseconds
+    pub(crate) answered: Option<i64>,
 }
 
 impl SynCookies {
@@ -26,8 +28,13 @@ impl SynCookies {
     pub fn new(key: [u8; 32], kept_from: usize) -> SynCookies
         ensures key { result.key ≡ key }
         ensures kept_from { result.kept_from ≡ kept_from }
+        ensures answered { result.answered ≡ None }
     {
-        SynCookies { key, kept_from }
+        SynCookies {
+            key,
+            kept_from,
+            answered: None,
+        }
     }
 
     /// From which place on sockets are kept for peers that answer.
@@ -35,6 +42,24 @@ impl SynCookies {
         ensures { result ≡ self.now.kept_from }
     {
         self.kept_from
+    }
+
+    /// A SYN is answered at this moment, in microseconds.
+    pub fn note(&mut self, micros: i64)
+        ensures { self.new ≡ record self.old { answered = Some micros } }
+    {
+        self.answered = Some(micros);
+    }
+
+    /// Whether an acknowledgement of an answer may come at this moment, in microseconds: the last one that was noted went
+    /// out up to 64 seconds before the step of time that this moment lies in, or later.
+    pub fn awaits(&self, micros: i64) -> bool
+        ensures { result ≡ awaited self.now.answered micros }
+    {
+        match self.answered {
+            None => false,
+            Some(at) => step_of(micros) <= step_of(at) + 1,
+        }
     }
 
     /// The number of the answer to a SYN that told a largest segment of this class, at this moment in microseconds.

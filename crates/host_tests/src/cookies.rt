@@ -6,6 +6,7 @@ use crate::hosts::{
 use net_host::SynCookies;
 use smoltcp_socket::storage::RingBuffer;
 use smoltcp_socket::tcp::{self, State};
+use smoltcp_socket::time::Duration;
 use std::alloc::AllocError;
 
 // What came of cookies, the state of the socket, and how many bytes wait there to be read.
@@ -74,12 +75,79 @@ fn a_cookie_opens_a_connection_that_takes_bytes_at_once(rt: HostRuntime) -> Resu
 
 #[test]
 fn an_old_cookie_opens_none(rt: HostRuntime) -> Result<(), AllocError> {
-    assert!(rt; came(&rt, 0, 200)? == (true, [1, 0, 1], Some(State::Listen), 0));
+    assert!(rt; came(&rt, 0, 200)? == (true, [1, 0, 0], Some(State::Listen), 0));
     Ok(())
 }
 
 #[test]
 fn an_open_place_takes_the_syn(rt: HostRuntime) -> Result<(), AllocError> {
     assert!(rt; came(&rt, 1, 2)? == (false, [0, 0, 0], Some(State::SynReceived), 0));
+    Ok(())
+}
+
+fn with_cookies<'a>(
+    rt: &HostRuntime,
+    socket: tcp::Socket<'a>,
+) -> Result<OneSocket<'a>, AllocError> {
+    let mut host = Host::new(rt, SERVER, socket)?;
+    host.interface
+        .set_syn_cookies(Some(SynCookies::new([9; 32], 0)));
+    listen(&mut host);
+    Ok(host)
+}
+
+// The client opens a connection to the server by a cookie, and says a byte, of which it hears that it came. What it says
+// of itself 20 seconds later, which is a keep-alive, goes to a host that is the server begun anew, under its key; `heard`
+// says whether that has answered the SYN, too.
+fn keeps_alive(
+    client: &mut OneSocket<'_>,
+    server: &mut OneSocket<'_>,
+    anew: &mut OneSocket<'_>,
+    heard: bool,
+) {
+    let (mut packet, mut reply) = ([0u8; 1500], [0u8; 1500]);
+    let count = emit(client, 0, &mut packet);
+    if heard {
+        receive(anew, 1, &packet[..count], &mut reply);
+    }
+    let count = receive(server, 1, &packet[..count], &mut reply);
+    receive(client, 1, &reply[..count], &mut packet);
+    say(client, b"G");
+    let count = emit(client, 1, &mut packet);
+    receive(server, 1, &packet[..count], &mut reply);
+    let count = emit(server, 2, &mut reply);
+    receive(client, 2, &reply[..count], &mut packet);
+    let count = emit(client, 20, &mut packet);
+    receive(anew, 20, &packet[..count], &mut reply);
+}
+
+fn came_anew(
+    rt: &HostRuntime,
+    heard: bool,
+) -> Result<([u64; 3], Option<State>, usize), AllocError> {
+    let (mut rx_a, mut tx_a) = ([0u8; 64], [0u8; 64]);
+    let (mut rx_b, mut tx_b) = ([0u8; 64], [0u8; 64]);
+    let (mut rx_c, mut tx_c) = ([0u8; 64], [0u8; 64]);
+    let mut client = tcp::Socket::new(RingBuffer::new(&mut rx_a), RingBuffer::new(&mut tx_a));
+    let server = tcp::Socket::new(RingBuffer::new(&mut rx_b), RingBuffer::new(&mut tx_b));
+    let anew = tcp::Socket::new(RingBuffer::new(&mut rx_c), RingBuffer::new(&mut tx_c));
+    client.set_keep_alive(Some(Duration::from_micros(10_000_000)));
+    let mut client = Host::new(rt, CLIENT, client)?;
+    let mut server = with_cookies(rt, server)?;
+    let mut anew = with_cookies(rt, anew)?;
+    connect(&mut client);
+    keeps_alive(&mut client, &mut server, &mut anew, heard);
+    Ok(told(&anew))
+}
+
+#[test]
+fn the_octet_of_a_keep_alive_is_not_taken(rt: HostRuntime) -> Result<(), AllocError> {
+    assert!(rt; came_anew(&rt, true)? == ([1, 1, 0], Some(State::Established), 0));
+    Ok(())
+}
+
+#[test]
+fn nobody_is_believed_where_no_answer_went_out(rt: HostRuntime) -> Result<(), AllocError> {
+    assert!(rt; came_anew(&rt, false)? == ([0, 0, 0], Some(State::Listen), 0));
     Ok(())
 }

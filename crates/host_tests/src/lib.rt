@@ -4,6 +4,8 @@
 #[cfg(test)]
 mod cookies;
 #[cfg(test)]
+mod datagrams;
+#[cfg(test)]
 mod devices;
 #[cfg(test)]
 mod hosts;
@@ -11,3 +13,5 @@ mod hosts;
 mod limits;
 #[cfg(test)]
 mod sizes;
+#[cfg(test)]
+mod sources;

@@ -1,16 +1,22 @@
 -- The acknowledgement of an answer is believed.
-use Rattle.std.proofs.Common.{◌≡◌, ◌∙◌, ℕ, ◌+◌, ◌*◌, ◌%◌, ◌<◌, ◌≤◌, Bool, true, false, Option, Some, None, ap, arith}
-use Rattle.std.specs.Prelude.{if◌then◌else◌, nat_le}
+use Rattle.std.proofs.Common.{◌≡◌, ◌∙◌, ℕ, ℤ, refl, ⊎_elim, ◌+◌, ◌*◌, ◌%◌, ◌<◌, ◌≤◌, Bool, true, false, Option, Some, None, ap, arith}
+use Rattle.std.specs.Prelude.{if◌then◌else◌, nat_le, ◌⊎◌}
 use Rattle.ip_wire.specs.declared.address.IpAddress.{IpAddress}
+use Rattle.ip_wire.specs.declared.repr.IpRepr.{IpRepr}
+use Rattle.control_wire.specs.Segment.{Segment}
 use Rattle.control_wire.specs.Seq.{seq_add, seq_minus, seq_of}
 use Rattle.control_wire.specs.declared.seq_number.TcpSeqNumber.{TcpSeqNumber}
 use Rattle.rand_chacha.specs.ChaCha.{key_of}
 use Rattle.host_cookies.specs.Classes.{class_of}
 use Rattle.host_cookies.specs.Laws.{AnswersAreRecognised}
-use Rattle.host_cookies.specs.Numbers.{mixed, recognised, step_of, tag_of}
+use Rattle.host_cookies.specs.Numbers.{awaited, mixed, recognised, step_of, tag_of}
 use Rattle.host_cookies.specs.declared.call.Call.{Call}
+use Rattle.host_cookies.specs.declared.cookies.SynCookies.{SynCookies}
 use Rattle.net_host.specs.Cookies.{AnswersAreBelieved, answer_number, believed_if, call_of, class_told, doubted_by}
+use Rattle.net_host.specs.Cookies.{BelievesAwaited, kept_or, tested_if}
+use Rattle.net_host.specs.declared.cookies.Course.{Course}
 use Rattle.net_host.specs.declared.cookies.Course.TheVariants as course
+use Rattle.net_host.specs.declared.segments.Taker.TheVariants as taker
 
 either : (b : Bool) (x y n : ℕ) → x ≤ n → y ≤ n → (if b then x else y) ≤ n
 either true x y n h k = h
@@ -33,13 +39,40 @@ same_call : (r r' l l' : IpAddress) (p p' q q' n n' : ℕ) → r' ≡ r → l' �
 same_call r r' l l' p p' q q' n n' a b c d e =
     ap (λ x. made x l' p' q' n') a ∙ ap (λ x. made r x p' q' n') b ∙ ap (λ x. made r l x q' n') c ∙ ap (λ x. made r l p x n') d ∙ ap (λ x. made r l p q x) e
 
+not_late : (heard sent last : ℕ) → (heard ≡ sent) ⊎ (heard ≡ sent + 1) → sent ≤ last → nat_le heard (last + 1) ≡ true
+not_late heard sent last step before = ⊎_elim (λ h. grind (arith, h, before)) (λ h. grind (arith, h, before)) step
+
 pub believed : AnswersAreRecognised → AnswersAreBelieved
-believed law c sent heard ip ip' s a small ans step =
+believed law c sent last heard ip ip' s a small noted before ans step =
+    let awaits : awaited c.answered heard ≡ true = ap (λ o. awaited o heard) noted ∙ not_late (step_of heard) (step_of sent) (step_of last) step before in
     let within : answer_number c sent ip s < 4294967296 = number_small (class_of s.max_seg_size) (mixed (key_of c.key) (tag_of (key_of c.key) (call_of ip s s.seq_number)) (step_of sent * 8 + class_of s.max_seg_size)) (class_small s.max_seg_size) in
     let first : seq_minus a.seq_number 1 ≡ s.seq_number = ap (λ x. seq_minus x 1) ans.number ∙ back s.seq_number.0 small in
     let call : call_of ip' a (seq_minus a.seq_number 1) ≡ call_of ip s s.seq_number = same_call _ _ _ _ _ _ _ _ _ _ ans.remote ans.local ans.src_port ans.dst_port (ap (λ (x : TcpSeqNumber). x.0) first) in
     let told : class_told c heard ip' a (seq_of (answer_number c sent ip s)) ≡ Some (class_of s.max_seg_size) = ap (λ k. recognised (key_of c.key) k (step_of heard) (answer_number c sent ip s)) call ∙ law (key_of c.key) (call_of ip s s.seq_number) s.max_seg_size (step_of sent) (step_of heard) step in
     let known : believed_if (class_told c heard ip' a (seq_of (answer_number c sent ip s))) (answer_number c sent ip s) ≡ course.Believed (class_of s.max_seg_size) (answer_number c sent ip s) = ap (λ o. believed_if o (answer_number c sent ip s)) told in
-    ap (doubted_by c heard ip' a) ans.acked
+    ap (λ b. tested_if b c heard ip' a) awaits
+    ∙ ap (doubted_by c heard ip' a) ans.acked
     ∙ ap (λ x. believed_if (class_told c heard ip' a x) x.0) (back (answer_number c sent ip s) within)
     ∙ known
+
+-- ---- and none but while one is awaited
+
+abbrev is_it : Course → Bool
+is_it (course.Believed class number) = true
+is_it _ = false
+
+only_tested : (b : Bool) (c : SynCookies) (now : ℤ) (ip : IpRepr) (s : Segment) (class number : ℕ) → tested_if b c now ip s ≡ course.Believed class number → b ≡ true
+only_tested true c now ip s class number e = refl
+only_tested false c now ip s class number e = let no : false ≡ true = ap is_it e in cc
+
+kept_not : (b : Bool) (k n class number : ℕ) → kept_or b k n ≡ course.Believed class number → ⊥
+kept_not true k n class number e = let no : false ≡ true = ap is_it e in cc
+kept_not false k n class number e = let no : false ≡ true = ap is_it e in cc
+
+pub only_awaited : BelievesAwaited
+only_awaited c (taker.Listener k) now ip s class number e = absurd (kept_not _ k _ class number e)
+only_awaited c taker.Nobody now ip s class number e = only_tested (awaited c.answered now) c now ip s class number e
+only_awaited c (taker.Connection k) now ip s class number e = let no : false ≡ true = ap is_it e in cc
+only_awaited c (taker.Reopened k) now ip s class number e = let no : false ≡ true = ap is_it e in cc
+only_awaited c (taker.Reused k) now ip s class number e = let no : false ≡ true = ap is_it e in cc
+only_awaited c taker.Busy now ip s class number e = let no : false ≡ true = ap is_it e in cc

@@ -1,7 +1,7 @@
 -- From the one call of `emit` to what stands in the buffer: a dispatch with one emit is one with another, where each
 -- call of the first is one of the second.
 use Rattle.std.proofs.Common.{ℕ, Bool, List, Option, Some, None, ap, subst, sym}
-use Rattle.std.specs.Prelude.{Result}
+use Rattle.std.specs.Prelude.{Result, Ok}
 use Rattle.std.specs.Borrow.{Bor, MutBor}
 use Rattle.ip_wire.specs.declared.repr.IpRepr.{IpRepr}
 use Rattle.control_wire.specs.declared.tcp.TcpRepr.{TcpRepr}
@@ -55,17 +55,17 @@ module _ {F F2 C C2 E G : Type 0} (m : C → C2) (g : EmitTcp F C E) (f : F) (g2
   dispatches facts tells clock v w c c' r h = to facts tells clock _ _ w c c' r h
 
 -- what each call keeps, a dispatch keeps
-module _ {F C S E : Type 0} (Q : C → C → Type 0) (same : (c : C) → Q c c) (g : Emit F C S E) (f : F) (says : (shown left : MutBor C) (s : S) (r : Result (Unit {0}) E) → g.post f (shown, (s, tt)) (r, (left, tt)) → Q shown.now left.now) where
-  pub keeps : {V : Type 0} (meaning : S → V) (o : Option V) (c c' : C) (r : Result (Unit {0}) E) → Emits g meaning f o c r c' → Q c c'
-  keeps meaning None c c' r h = subst (Q c) (sym h.1) (same c)
-  keeps meaning (Some v) c c' r h = subst (λ x. Q x c') h.shows (subst (λ x. Q h.shown.now x) h.leaves (says h.shown h.left h.sent r h.met))
+module _ {F C S E : Type 0} (Q : C → Result (Unit {0}) E → C → Type 0) (same : (c : C) → Q c (Ok tt) c) (g : Emit F C S E) (f : F) (says : (shown left : MutBor C) (s : S) (r : Result (Unit {0}) E) → g.post f (shown, (s, tt)) (r, (left, tt)) → Q shown.now r left.now) where
+  pub keeps : {V : Type 0} (meaning : S → V) (o : Option V) (c c' : C) (r : Result (Unit {0}) E) → Emits g meaning f o c r c' → Q c r c'
+  keeps meaning None c c' r h = subst (λ q. Q c q c') (sym h.0) (subst (Q c (Ok tt)) (sym h.1) (same c))
+  keeps meaning (Some v) c c' r h = subst (λ x. Q x r c') h.shows (subst (λ x. Q h.shown.now r x) h.leaves (says h.shown h.left h.sent r h.met))
 
-module _ {F C E G : Type 0} (Q : C → C → Type 0) (same : (c : C) → Q c c) (g : EmitTcp F C E) (f : F) (says : (shown left : MutBor C) (s : IpRepr × TcpRepr) (r : Result (Unit {0}) E) → g.post f (shown, (s, tt)) (r, (left, tt)) → Q shown.now left.now) where
-  to_keeps : (facts : Facts) (tells : G → ℕ → Type 0) (clock : Option G) (o : Option Tuple) (v w : View) (c c' : C) (r : Result (Unit {0}) E) → EmitsTo g f facts tells clock o v c r w c' → Q c c'
-  to_keeps facts tells clock None v w c c' r h = subst (Q c) (sym h.context) (same c)
+module _ {F C E G : Type 0} (Q : C → Result (Unit {0}) E → C → Type 0) (same : (c : C) → Q c (Ok tt) c) (g : EmitTcp F C E) (f : F) (says : (shown left : MutBor C) (s : IpRepr × TcpRepr) (r : Result (Unit {0}) E) → g.post f (shown, (s, tt)) (r, (left, tt)) → Q shown.now r left.now) where
+  to_keeps : (facts : Facts) (tells : G → ℕ → Type 0) (clock : Option G) (o : Option Tuple) (v w : View) (c c' : C) (r : Result (Unit {0}) E) → EmitsTo g f facts tells clock o v c r w c' → Q c r c'
+  to_keeps facts tells clock None v w c c' r h = subst (λ q. Q c q c') (sym h.answer) (subst (Q c (Ok tt)) (sym h.context) (same c))
   to_keeps facts tells clock (Some t) v w c c' r h = keeps Q same g f says _ _ c c' r h.emits.emits
 
-  pub dispatch_keeps : (facts : Facts) (tells : G → ℕ → Type 0) (clock : Option G) (v w : View) (c c' : C) (r : Result (Unit {0}) E) → Dispatches g f facts tells clock v c r w c' → Q c c'
+  pub dispatch_keeps : (facts : Facts) (tells : G → ℕ → Type 0) (clock : Option G) (v w : View) (c c' : C) (r : Result (Unit {0}) E) → Dispatches g f facts tells clock v c r w c' → Q c r c'
   unfolding Dispatches
   dispatch_keeps facts tells clock v w c c' r h = to_keeps facts tells clock _ _ w c c' r h
 

@@ -14,7 +14,7 @@ use Rattle.sock_tcp.specs.declared.process.Answer.{Answer}
 use Rattle.sock_tcp.specs.declared.socket.Socket as tcp
 use Rattle.smoltcp_socket.specs.declared.socket.Socket.TheVariants as socket
 use Rattle.net_host.specs.Answered.{HearsOut, PutsAnswer}
-use Rattle.net_host.specs.Cookies.{AnswersSegment, IsAgain, course_of}
+use Rattle.net_host.specs.Cookies.{AnswersSegment, IsAgain, course_of, noted_on}
 use Rattle.net_host.specs.Receiving.{TakesSegment, counted_on, facts_of, words_of}
 use Rattle.net_host.specs.Segments.{IsTaker, SocketHears, as_is}
 use Rattle.net_host.specs.Walks.{ChangesAt}
@@ -75,6 +75,6 @@ known_taken is word_at tells i inner ss us ts k ip s out out' n takes same h =
       turn = refl;
       errors = refl;
       guards = refl;
-      cookies = refl;
+      cookies = ap (λ c. noted_on c (facts_of is word_at tells i.inner).now i.cookies) plain;
       groups = refl;
     }

@@ -33,6 +33,7 @@ pub mod KeptSleep
 pub mod CookieAnswers
 pub mod Believed
 pub mod Lawful
+pub mod Limited
 pub mod Polled
 pub mod Touching
 pub mod KnownAnswers

@@ -18,6 +18,7 @@ use Rattle.net_host.specs.Speaking.{Due, TurnAt}
 use Rattle.net_host.specs.Turns.{TakesTurn, asked_of, delayed, is_due, may_speak}
 use Rattle.net_host.specs.Walks.{IsNext}
 use Rattle.net_host.specs.declared.slot.Slot.{Slot}
+use Rattle.net_host.specs.declared.wire.Sent.{Sent}
 use Rattle.net_host.specs.declared.wire.TooShort.{TooShort}
 
 not_over : (now : Instant) → is_over (after now (record { micros = 1 })) now ≡ false
@@ -52,7 +53,7 @@ no_gap z = grind (arith, ints)
 spent_at : (now : Instant) (n : ℕ) → taken_at (Some now) n now ≡ n
 spent_at now n = ap (λ k. if k == 0 then n else 0) (no_gap now.micros)
 
-turn_spends : {G : Type 0} (f : Facts) (tells : G → ℕ → Type 0) (before after : Slot G) (out out' : List ℕ) (r : Result (Unit {0}) TooShort) (n : ℕ) → is_due f before ≡ true → TakesTurn f tells before out r n after out' → left_in (moment_of f) after < left_in (moment_of f) before
+turn_spends : {G : Type 0} (f : Facts) (tells : G → ℕ → Type 0) (before after : Slot G) (out out' : List ℕ) (r : Result (Unit {0}) TooShort) (n : Sent) → is_due f before ≡ true → TakesTurn f tells before out r n after out' → left_in (moment_of f) after < left_in (moment_of f) before
 turn_spends f tells before after out out' r n due h =
     let may : may_speak before (moment_of f) ≡ true = due_may f before due in
     let k : ℕ = taken_at before.guard.moment before.guard.taken (moment_of f) in
@@ -60,7 +61,7 @@ turn_spends f tells before after out out' r n due h =
     let is : taken_at after.guard.moment after.guard.taken (moment_of f) ≡ k + 1 = ap (λ m. taken_at m after.guard.taken (moment_of f)) h.asked.moment ∙ spent_at (moment_of f) after.guard.taken ∙ h.asked.taken ∙ ap (λ b. taken_after b k) may in
     omega (arith, is, below)
 
-pub turn_decreases : {G : Type 0} (f : Facts) (tells : G → ℕ → Type 0) (ss ts : List (Slot G)) (turn i : ℕ) (out out' : List ℕ) (r : Result (Unit {0}) TooShort) (n : ℕ) → IsNext (Due f) ss turn i → TurnAt f tells ss i out r n ts out' → left_turns (moment_of f) ts < left_turns (moment_of f) ss
+pub turn_decreases : {G : Type 0} (f : Facts) (tells : G → ℕ → Type 0) (ss ts : List (Slot G)) (turn i : ℕ) (out out' : List ℕ) (r : Result (Unit {0}) TooShort) (n : Sent) → IsNext (Due f) ss turn i → TurnAt f tells ss i out r n ts out' → left_turns (moment_of f) ts < left_turns (moment_of f) ss
 turn_decreases f tells ss ts turn i out out' r n next h =
     let due : is_due f h.before ≡ true = subst (λ o. IfSome o (Due f)) h.was next.holds in
     let fewer : left_in (moment_of f) h.after < left_in (moment_of f) h.before = turn_spends f tells h.before h.after out out' r n due h.changed in

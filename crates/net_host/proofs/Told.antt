@@ -1,13 +1,13 @@
 -- What is told of a packet that nobody takes, from the answers of its steps.
-use Rattle.std.proofs.Common.{◌≡◌, ◌∙◌, ℕ, ◌-◌, ◌&&◌, not, ap, subst, sym, refl, List, length, min, Option, Some, None, is_some, Bool, true, false, arith}
-use Rattle.std.specs.Prelude.{◌==◌, nat_le, if◌then◌else◌}
+use Rattle.std.proofs.Common.{◌≡◌, ◌∙◌, ℕ, ◌&&◌, ap, subst, sym, refl, List, length, min, Option, Some, None, is_some, Bool, true, false}
+use Rattle.std.specs.Prelude.{pos, ◌+ℤ◌, if◌then◌else◌}
 use Rattle.ip_wire.specs.IpHeader.{dst_addr_of}
 use Rattle.ip_wire.specs.declared.checksum.ChecksumCapabilities.{ChecksumCapabilities}
 use Rattle.ip_wire.specs.declared.repr.IpRepr.{IpRepr}
 use Rattle.net_base.specs.declared.time.Instant.{Instant}
 use Rattle.sock_core.specs.Facts.{Facts}
 use Rattle.sock_tcp.specs.View.{moment_of}
-use Rattle.net_host.specs.Limits.{allows, apart, renewed, spent}
+use Rattle.net_host.specs.Limits.{allows, later, spent}
 use Rattle.net_host.specs.Messages.{AnyMail, answer_len, if_short, with_answer}
 use Rattle.net_host.specs.Unreachable.{TakesRaw, TellsOf, error_of, spent_for, told_within, wanted}
 use Rattle.net_host.specs.Walks.{Finds}
@@ -31,19 +31,11 @@ module _ {G : Type 0} (f : Facts) (what : Unmet) (ip : IpRepr) (octets : List �
 
 -- ---- where nobody is told, whether a raw socket takes the packet or not
 
-not_yes : true ≡ false → ⊥
-not_yes e = cc
+abbrev spent_by : Limit → Instant → Bool → Limit
+spent_by l now may = record { until = if may then later l.until now.micros +ℤ pos 20000 else l.until }
 
 spent_none : (l : Limit) (now : Instant) → allows l now ≡ false → spent l now ≡ l
-spent_none l now h = go (nat_le 1000000 (apart now l.since)) refl
-  where
-    go : (b : Bool) → nat_le 1000000 (apart now l.since) ≡ b → spent l now ≡ l
-    go true e = absurd (not_yes (sym (ap (λ b. not ((if b then record { since = now; left = 100 } else l).left == 0)) e) ∙ h))
-    go false e =
-        let same : renewed l now ≡ l = ap (λ b. if b then record { since = now; left = 100 } else l) e in
-        let left : not (l.left == 0) ≡ false = sym (ap (λ (m : Limit). not (m.left == 0)) same) ∙ h in
-        let zero : l.left - 1 ≡ l.left = grind (arith, left) in
-        ap (λ (m : Limit). record { since = m.since; left = m.left - 1 }) same ∙ ap (λ k. record { since = l.since; left = k }) zero
+spent_none l now h = ap (spent_by l now) h
 
 module _ (l : Limit) (now : Instant) where
   none_told : (own raw : Bool) (error : Option AnyMail) → (own && (is_some error && allows l now)) ≡ false → told_within l now (wanted own raw error) ≡ None

@@ -30,16 +30,19 @@ covers_by n _ _ = false
 abbrev pub covers : IpCidr → IpAddress → Bool
 covers c a = covers_by c.prefix_len c.address a
 
--- only ones behind a prefix of at most 30 bits (RFC 919; RFC 3021)
-abbrev pub all_ones_behind : ℕ → IpAddress → IpAddress → Bool
-all_ones_behind n (address.Ipv4 a) (address.Ipv4 b) =
-    nat_le n 30 && (agree (32 - n) (number_v4 a) (number_v4 b)
-    && (number_v4 b % 2 ^ (32 - n) == 2 ^ (32 - n) - 1))
-all_ones_behind n _ _ = false
+-- only ones or only zeros, of so many numbers
+abbrev pub is_edge : (size n : ℕ) → Bool
+is_edge size n = (n % size == 0) || (n % size == size - 1)
 
--- the broadcast address of a prefix
+-- behind a prefix of at most 30 bits (RFC 919; RFC 1122, section 3.3.6; RFC 3021)
+abbrev pub edge_behind : ℕ → IpAddress → IpAddress → Bool
+edge_behind n (address.Ipv4 a) (address.Ipv4 b) =
+    nat_le n 30 && (agree (32 - n) (number_v4 a) (number_v4 b) && is_edge (2 ^ (32 - n)) (number_v4 b))
+edge_behind n _ _ = false
+
+-- the broadcast address of a prefix, or the network itself, which is an old form of it
 abbrev pub is_directed : IpCidr → IpAddress → Bool
-is_directed c a = all_ones_behind c.prefix_len c.address a
+is_directed c a = edge_behind c.prefix_len c.address a
 
 -- 255.255.255.255 (RFC 919)
 abbrev pub is_limited : IpAddress → Bool

@@ -17,11 +17,11 @@ use Rattle.net_host.specs.declared.counters.Reason.TheVariants as reason
 abbrev pub is_reserved_v4 : List ℕ → Bool
 is_reserved_v4 o = (slice_index o 0 == 0) || ((slice_index o 0 == 127) || nat_le 240 (slice_index o 0))
 
--- ::, ::1 and ::ffff:0:0/96 (RFC 4291, sections 2.5.2, 2.5.3 and 2.5.5.2)
+-- ::/96, with :: and ::1, and ::ffff:0:0/96 (RFC 4291, sections 2.5.2, 2.5.3 and 2.5.5)
 abbrev pub is_reserved_v6 : List ℕ → Bool
 is_reserved_v6 o =
     all_zero (slice_range o 0 10)
-    && ((all_zero (slice_range o 10 15) && nat_le (slice_index o 15) 1)
+    && (((slice_index o 10 == 0) && (slice_index o 11 == 0))
     || ((slice_index o 10 == 255) && (slice_index o 11 == 255)))
 
 abbrev pub is_reserved : IpAddress → Bool

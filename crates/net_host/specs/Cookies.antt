@@ -1,6 +1,6 @@
 -- SYN cookies: who is answered without a socket, and whose answer is believed (RFC 4987, section 3.6).
-use Rattle.std.specs.Prelude.{ℕ, ℤ, ◌≡◌, ◌+◌, ◌<◌, ◌-◌, ◌⊎◌, min, nat_le, List, Option, Some, None}
-use Rattle.std.specs.Prelude.{Bool, true, false, ◌&&◌, Result, IfSome, option_map, slice_get}
+use Rattle.std.specs.Prelude.{ℕ, ℤ, ◌≡◌, ◌+◌, ◌<◌, ◌≤◌, ◌-◌, ◌⊎◌, ◌==◌, min, nat_le, List, [], length, Option, Some}
+use Rattle.std.specs.Prelude.{None, Bool, true, false, ◌&&◌, Result, IfSome, option_map, slice_get, if◌then◌else◌}
 use Rattle.ip_wire.specs.IpHeader.{dst_addr_of, src_addr_of}
 use Rattle.ip_wire.specs.declared.repr.IpRepr.{IpRepr}
 use Rattle.control_wire.specs.Segment.{Segment, bare_segment}
@@ -11,7 +11,7 @@ use Rattle.control_wire.specs.declared.tcp.TcpControl.TheVariants as control
 use Rattle.control_wire.specs.declared.tcp.TcpRepr.{TcpRepr}
 use Rattle.rand_chacha.specs.ChaCha.{key_of}
 use Rattle.host_cookies.specs.Classes.{class_of, mss_of}
-use Rattle.host_cookies.specs.Numbers.{number_at, recognised, step_of}
+use Rattle.host_cookies.specs.Numbers.{awaited, number_at, recognised, step_of}
 use Rattle.host_cookies.specs.declared.call.Call.{Call}
 use Rattle.host_cookies.specs.declared.cookies.SynCookies.{SynCookies}
 use Rattle.sock_core.specs.Facts.{Facts}
@@ -66,6 +66,18 @@ syn_before s class =
       max_seg_size = mss_of class;
     }
 
+-- An acknowledgement that is believed, as its socket hears it. A single octet without PSH is not taken with it: a
+-- keep-alive of a connection that is there no more has such (RFC 9293, section 3.8.4), and else the peer sends it again.
+abbrev pub is_none : TcpControl → Bool
+is_none control.None = true
+is_none _ = false
+
+abbrev pub is_garbage : Segment → Bool
+is_garbage s = is_none s.control && (length s.payload == 1)
+
+abbrev pub opening_of : Segment → Segment
+opening_of s = record s { payload = if is_garbage s then [] else s.payload }
+
 -- ---- what becomes of it
 
 abbrev pub kept_or : Bool → (k number : ℕ) → Course
@@ -89,17 +101,33 @@ abbrev pub doubted_by : SynCookies → ℤ → IpRepr → Segment → Option Tcp
 doubted_by c now ip s None = course.Plain
 doubted_by c now ip s (Some ack) = believed_if (class_told c now ip s (seq_minus ack 1)) (seq_minus ack 1).0
 
+-- as long as an answer is awaited
+abbrev pub tested_if : Bool → SynCookies → ℤ → IpRepr → Segment → Course
+tested_if true c now ip s = doubted_by c now ip s (acked_by s)
+tested_if false c now ip s = course.Plain
+
 -- A SYN that only a socket which is kept listens for is answered. An acknowledgement that no socket takes is believed
--- where it answers such an answer.
+-- where it answers such an answer, as long as one that went out may be acknowledged.
 abbrev pub course_under : SynCookies → Taker → ℤ → IpRepr → Segment → Course
 course_under c (taker.Listener k) now ip s =
     kept_or (nat_le c.kept_from k && is_opening s) k (answer_number c now ip s)
-course_under c taker.Nobody now ip s = doubted_by c now ip s (acked_by s)
+course_under c taker.Nobody now ip s = tested_if (awaited c.answered now) c now ip s
 course_under c _ now ip s = course.Plain
 
 abbrev pub course_of : Option SynCookies → Taker → ℤ → IpRepr → Segment → Course
 course_of None t now ip s = course.Plain
 course_of (Some c) t now ip s = course_under c t now ip s
+
+-- an answer that goes out is noted
+abbrev pub noted : ℤ → Option SynCookies → Option SynCookies
+noted now None = None
+noted now (Some c) = Some (record c { answered = Some now })
+
+abbrev pub noted_on : Course → ℤ → Option SynCookies → Option SynCookies
+noted_on course.Plain now o = o
+noted_on course.Doubted now o = o
+noted_on (course.Answered k number) now o = noted now o
+noted_on (course.Believed class number) now o = o
 
 -- who takes the SYN before an acknowledgement that is believed
 abbrev pub IsAgain : {G : Type 0} → Course → List (Slot G) → IpRepr → Segment → Taker → Type 0
@@ -185,7 +213,7 @@ module _ {C G : Type 0} (facts : C → Facts) (word_at : C → ℕ → ℕ) (tel
       (ts ≡ ss) × (cx' ≡ cx) × (l' ≡ l)
       × (option_map reply_of r ≡ Some (answer_of (facts cx) (room_at (slice_get ss k)) number ip s))
   TakenOn (course.Believed class number) t again ss cx l ip s r ts cx' l' =
-      BelievedBy again class number ss cx ip s r ts cx' × (l' ≡ l)
+      BelievedBy again class number ss cx ip (opening_of s) r ts cx' × (l' ≡ l)
 
   -- and what it answers stands as a packet at the beginning of the buffer
   pub record AnswersSegment (c : Course) (t again : Taker) (ss : List (Slot G)) (cx : C) (l : Limit) (ip : IpRepr)
@@ -207,9 +235,17 @@ pub record AnswersCookie (c : SynCookies) (sent : ℤ) (ip : IpRepr) (s : Segmen
     pub number : a.seq_number ≡ seq_add s.seq_number 1
     pub acked : acked_by a ≡ Some (seq_add (seq_of (answer_number c sent ip s)) 1)
 
--- where no socket takes it, it is believed in the answer's count of 64 seconds, and in the next
+-- where no socket takes it, it is believed in the answer's count of 64 seconds, and in the next, where an answer of
+-- that count or of a later one was noted last
 abbrev pub AnswersAreBelieved : Type 0
 AnswersAreBelieved =
-    (c : SynCookies) (sent heard : ℤ) (ip ip' : IpRepr) (s a : Segment) → s.seq_number.0 < 4294967296
+    (c : SynCookies) (sent last heard : ℤ) (ip ip' : IpRepr) (s a : Segment) → s.seq_number.0 < 4294967296
+    → c.answered ≡ Some last → step_of sent ≤ step_of last
     → AnswersCookie c sent ip s ip' a → (step_of heard ≡ step_of sent) ⊎ (step_of heard ≡ step_of sent + 1)
     → course_under c taker.Nobody heard ip' a ≡ course.Believed (class_of s.max_seg_size) (answer_number c sent ip s)
+
+-- nothing is believed once no answer is awaited
+abbrev pub BelievesAwaited : Type 0
+BelievesAwaited =
+    (c : SynCookies) (t : Taker) (now : ℤ) (ip : IpRepr) (s : Segment) (class number : ℕ)
+    → course_under c t now ip s ≡ course.Believed class number → awaited c.answered now ≡ true

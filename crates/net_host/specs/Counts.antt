@@ -1,5 +1,5 @@
 -- How many packets were dropped, by their reasons.
-use Rattle.std.specs.Prelude.{ℕ, ◌+◌, ◌%◌, ◌^◌}
+use Rattle.std.specs.Prelude.{ℕ, ◌+◌, ◌%◌, ◌^◌, Bool, if◌then◌else◌}
 use Rattle.net_host.specs.declared.counters.Counters.{Counters}
 use Rattle.net_host.specs.declared.counters.Reason.{Reason}
 use Rattle.net_host.specs.declared.counters.Reason.TheVariants as reason
@@ -18,6 +18,7 @@ no_counts = record {
   cookies_sent = 0;
   cookies_taken = 0;
   cookies_wrong = 0;
+  too_long = 0;
 }
 
 abbrev pub next : ℕ → ℕ
@@ -44,3 +45,9 @@ taken k = record k { cookies_taken = next k.cookies_taken }
 
 abbrev pub wrong : Counters → Counters
 wrong k = record k { cookies_wrong = next k.cookies_wrong }
+
+-- ---- packets of sockets
+
+-- one that was longer than the MTU, if it was
+abbrev pub lost_if : Bool → Counters → Counters
+lost_if lost k = if lost then record k { too_long = next k.too_long } else k

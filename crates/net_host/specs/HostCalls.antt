@@ -39,11 +39,11 @@ module _ {W G : Type 0} (is : IpAddress → IpAddress → Bool) where
       (r : Result ℕ TooShort) (j : Interface W) (ts : List (Slot G)) (out' : List ℕ) : Type 0 where
     pub moved : Interface W
     pub moves : MovesTo now i moved
-    pub spoken : Speaks (facts_by is moved.inner.environment) tells i.guards ss moved.turn out r ts j.turn out'
+    pub spoken : Speaks (facts_by is moved.inner.environment) tells i.guards ss moved.turn i.counters out r ts j.turn
+        j.counters out'
     pub inner : j.inner ≡ moved.inner
     pub resets : j.resets ≡ i.resets
     pub errors : j.errors ≡ i.errors
-    pub counters : j.counters ≡ i.counters
     pub guards : j.guards ≡ i.guards
     pub cookies : j.cookies ≡ i.cookies
     pub groups : j.groups ≡ i.groups

@@ -1,23 +1,35 @@
 -- How many answers of one kind go out in a second.
-use Rattle.std.specs.Prelude.{ℕ, pos, ◌-◌, ◌==◌, nat_le, not, Bool, unsigned_abs, ◌-ℤ◌, if◌then◌else◌}
+use Rattle.std.specs.Prelude.{ℕ, ℤ, pos, ◌+◌, ◌+ℤ◌, ◌≤◌, ◌&&◌, int_le, int_lt, List, [], ◌∷◌, Bool, if◌then◌else◌}
 use Rattle.net_base.specs.declared.time.Instant.{Instant}
+use Rattle.host_bounds.specs.Bounding.{at_once}
 use Rattle.net_host.specs.declared.limit.Limit.{Limit}
 
--- all of a second's answers are left
+-- nothing is taken in advance
 abbrev pub full_limit : Limit
-full_limit = record { since = record { micros = pos 0 }; left = 100 }
+full_limit = record { until = at_once }
 
--- how far two moments are apart, in microseconds
-abbrev pub apart : Instant → Instant → ℕ
-apart t u = unsigned_abs (t.micros -ℤ u.micros)
-
--- a second after the last one began, another begins, with a hundred answers
-abbrev pub renewed : Limit → Instant → Limit
-renewed l now = if nat_le 1000000 (apart now l.since) then record { since = now; left = 100 } else l
-
+-- an answer takes 20 milliseconds, of time that lies at most a second ahead
 abbrev pub allows : Limit → Instant → Bool
-allows l now = not ((renewed l now).left == 0)
+allows l now = int_le l.until (now.micros +ℤ pos 980000)
 
--- one answer fewer is left, where any was
+abbrev pub later : ℤ → ℤ → ℤ
+later t u = if int_le t u then u else t
+
+-- where one may go out, its time is taken
 abbrev pub spent : Limit → Instant → Limit
-spent l now = record { since = (renewed l now).since; left = (renewed l now).left - 1 }
+spent l now = record { until = if allows l now then later l.until now.micros +ℤ pos 20000 else l.until }
+
+-- ---- the law
+
+-- the moment lies in the second that begins here
+abbrev pub in_second : ℤ → Instant → Bool
+in_second start now = int_le start now.micros && int_lt now.micros (start +ℤ pos 1000000)
+
+-- how many of the answers that are asked for at these moments go out in that second
+unfoldable pub gone : ℤ → Limit → List Instant → ℕ
+gone start l [] = 0
+gone start l (now ∷ rest) = (if in_second start now && allows l now then 1 else 0) + gone start (spent l now) rest
+
+-- at most a hundred, also where moments go back
+abbrev pub AnswersAreLimited : Type 0
+AnswersAreLimited = (start : ℤ) (l : Limit) (nows : List Instant) → gone start l nows ≤ 100

@@ -13,7 +13,7 @@ use Rattle.segment_wire.specs.Tcp.{tcp_parsed}
 use Rattle.sock_core.specs.Facts.{Facts}
 use Rattle.segment_wire.specs.Udp.{Datagram, udp_parsed}
 use Rattle.net_host.specs.Arrivals.{kind_of, refusal}
-use Rattle.net_host.specs.Cookies.{AnswersSegment, IsAgain, course_of}
+use Rattle.net_host.specs.Cookies.{AnswersSegment, IsAgain, course_of, noted_on}
 use Rattle.net_host.specs.Counts.{counted, sent, taken, wrong}
 use Rattle.net_host.specs.Datagrams.{HeardBy, TakesDatagram}
 use Rattle.net_host.specs.Facts.{facts_by}
@@ -94,7 +94,7 @@ module _ {W G : Type 0} (is : IpAddress → IpAddress → Bool) (word_at : W →
     pub turn : j.turn ≡ i.turn
     pub errors : j.errors ≡ i.errors
     pub guards : j.guards ≡ i.guards
-    pub cookies : j.cookies ≡ i.cookies
+    pub cookies : j.cookies ≡ noted_on (course_in i taker ip s) (facts_of i.inner).now i.cookies
     pub groups : j.groups ≡ i.groups
 
   -- no segment has a payload of more than 65535 octets

@@ -6,11 +6,14 @@ use Rattle.sock_core.specs.declared.context.PollAt.TheVariants as poll
 use Rattle.sock_tcp.specs.Polls.{earlier}
 use Rattle.sock_tcp.specs.View.{moment_of}
 use Rattle.std.specs.List.{fold}
+use Rattle.net_host.specs.Counts.{lost_if}
 use Rattle.net_host.specs.Looking.{MayLook, Unseen}
 use Rattle.net_host.specs.Turns.{TakesTurn, Watches, is_due, slot_poll}
 use Rattle.net_host.specs.Walks.{Both, ChangesAt, ChangesEach, IsNext, Nowhere}
+use Rattle.net_host.specs.declared.counters.Counters.{Counters}
 use Rattle.net_host.specs.declared.guard.GuardSettings.{GuardSettings}
 use Rattle.net_host.specs.declared.slot.Slot.{Slot}
+use Rattle.net_host.specs.declared.wire.Sent.{Sent}
 use Rattle.net_host.specs.declared.wire.TooShort.{TooShort}
 
 abbrev pub Due : {G : Type 0} → Facts → Slot G → Type 0
@@ -22,7 +25,7 @@ earliest facts ss = fold (λ p s. earlier p (slot_poll s facts)) poll.Ingress ss
 
 module _ {G : Type 0} (facts : Facts) (tells : G → ℕ → Type 0) where
   -- the slot at i has its turn, and no other changes
-  abbrev pub TurnAt : List (Slot G) → ℕ → List ℕ → Result (Unit {0}) TooShort → ℕ → List (Slot G) → List ℕ → Type 0
+  abbrev pub TurnAt : List (Slot G) → ℕ → List ℕ → Result (Unit {0}) TooShort → Sent → List (Slot G) → List ℕ → Type 0
   TurnAt ss i out r n ts out' = ChangesAt (λ before after. TakesTurn facts tells before out r n after out') ss i ts
 
 module _ {G : Type 0} (facts : Facts) (st : GuardSettings) where
@@ -41,16 +44,18 @@ module _ {G : Type 0} (facts : Facts) (st : GuardSettings) where
 
 module _ {G : Type 0} (facts : Facts) (tells : G → ℕ → Type 0) (st : GuardSettings) where
   -- From the place whose turn it is, the sockets that are due have their turns one after the other, until one of them
-  -- has written a packet or its packet does not fit, or none is due; the next turn is that of the place behind.
-  pub data Speaks : List (Slot G) → ℕ → List ℕ → Result ℕ TooShort → List (Slot G) → ℕ → List ℕ → Type 0 where
-    Quiet : (ss seen : List (Slot G)) (turn : ℕ) (out : List ℕ)
-        → Quiets facts st ss seen → Speaks ss turn out (Ok 0) seen turn out
-    Packet : (ss seen ts : List (Slot G)) (turn i n : ℕ) (out out' : List ℕ)
-        → Readies facts st ss turn i seen → TurnAt facts tells seen i out (Ok tt) n ts out' → 0 < n
-        → Speaks ss turn out (Ok n) ts (i + 1) out'
-    Short : (ss seen ts : List (Slot G)) (turn i n : ℕ) (out out' : List ℕ) (e : TooShort)
+  -- has written a packet or its packet does not fit, or none is due; the next turn is that of the place behind. What
+  -- the MTU has no room for is counted.
+  pub data Speaks : List (Slot G) → ℕ → Counters → List ℕ → Result ℕ TooShort → List (Slot G) → ℕ → Counters → List ℕ
+      → Type 0 where
+    Quiet : (ss seen : List (Slot G)) (turn : ℕ) (k : Counters) (out : List ℕ)
+        → Quiets facts st ss seen → Speaks ss turn k out (Ok 0) seen turn k out
+    Packet : (ss seen ts : List (Slot G)) (turn i : ℕ) (n : Sent) (k : Counters) (out out' : List ℕ)
+        → Readies facts st ss turn i seen → TurnAt facts tells seen i out (Ok tt) n ts out' → 0 < n.len
+        → Speaks ss turn k out (Ok n.len) ts (i + 1) k out'
+    Short : (ss seen ts : List (Slot G)) (turn i : ℕ) (n : Sent) (k : Counters) (out out' : List ℕ) (e : TooShort)
         → Readies facts st ss turn i seen → TurnAt facts tells seen i out (Err e) n ts out'
-        → Speaks ss turn out (Err e) ts (i + 1) out'
-    Silent : (ss seen us ts : List (Slot G)) (turn i turn' : ℕ) (out mid out' : List ℕ) (r : Result ℕ TooShort)
-        → Readies facts st ss turn i seen → TurnAt facts tells seen i out (Ok tt) 0 us mid
-        → Speaks us (i + 1) mid r ts turn' out' → Speaks ss turn out r ts turn' out'
+        → Speaks ss turn k out (Err e) ts (i + 1) k out'
+    Silent : (ss seen us ts : List (Slot G)) (turn i turn' : ℕ) (n : Sent) (k k' : Counters) (out mid out' : List ℕ)
+        (r : Result ℕ TooShort) → Readies facts st ss turn i seen → TurnAt facts tells seen i out (Ok tt) n us mid
+        → n.len ≡ 0 → Speaks us (i + 1) (lost_if n.lost k) mid r ts turn' k' out' → Speaks ss turn k out r ts turn' k' out'

@@ -18,6 +18,7 @@ use Rattle.net_host.specs.Remembered.{Remembered as Guard}
 use Rattle.net_host.specs.declared.guard.GuardSettings.{GuardSettings}
 use Rattle.net_host.specs.declared.guard.Phase.{Phase}
 use Rattle.net_host.specs.declared.slot.Slot.{Slot}
+use Rattle.net_host.specs.declared.wire.Sent.{Sent}
 use Rattle.net_host.specs.declared.wire.TooShort.{TooShort}
 
 -- ---- the guard looks at the socket
@@ -67,8 +68,12 @@ is_due f s = is_reached (slot_poll s f) (moment_of f)
 
 -- ---- it speaks
 
+-- no packet
+abbrev pub nothing_sent : Sent
+nothing_sent = record { len = 0; lost = false }
+
 module _ {G : Type 0} (facts : Facts) (tells : G → ℕ → Type 0) where
-  abbrev pub SocketEmits : Option (Socket G) → List ℕ → Result (Unit {0}) TooShort → ℕ → Option (Socket G) → List ℕ
+  abbrev pub SocketEmits : Option (Socket G) → List ℕ → Result (Unit {0}) TooShort → Sent → Option (Socket G) → List ℕ
       → Type 0
   SocketEmits (Some (socket.Tcp x)) out r n (Some (socket.Tcp y)) out' =
       DispatchesSegment facts tells x.tsval_generator x.control_block out r n y.control_block out'
@@ -76,22 +81,22 @@ module _ {G : Type 0} (facts : Facts) (tells : G → ℕ → Type 0) where
   SocketEmits (Some (socket.Udp x)) out r n (Some (socket.Udp y)) out' = DispatchesDatagram facts x out r n y out'
   SocketEmits (Some (socket.Icmp x)) out r n (Some (socket.Icmp y)) out' = DispatchesMessage facts x out r n y out'
   SocketEmits (Some (socket.Raw x)) out r n (Some (socket.Raw y)) out' = DispatchesRaw facts x out r n y out'
-  SocketEmits None out r n None out' = (r ≡ Ok tt) × (n ≡ 0) × (out' ≡ out)
+  SocketEmits None out r n None out' = (r ≡ Ok tt) × (n ≡ nothing_sent) × (out' ≡ out)
   SocketEmits _ out r n _ out' = ⊥
 
-  pub record SlotEmits (before : Slot G) (out : List ℕ) (r : Result (Unit {0}) TooShort) (n : ℕ) (after : Slot G)
+  pub record SlotEmits (before : Slot G) (out : List ℕ) (r : Result (Unit {0}) TooShort) (n : Sent) (after : Slot G)
       (out' : List ℕ) : Type 0 where
     pub generation : after.generation ≡ before.generation
     pub guard : after.guard ≡ before.guard
     pub emits : SocketEmits before.socket out r n after.socket out'
 
   -- with leave of the guard or without
-  abbrev pub EmitsIf : Bool → Option (Socket G) → List ℕ → Result (Unit {0}) TooShort → ℕ → Option (Socket G) → List ℕ
+  abbrev pub EmitsIf : Bool → Option (Socket G) → List ℕ → Result (Unit {0}) TooShort → Sent → Option (Socket G) → List ℕ
       → Type 0
   EmitsIf true s out r n t out' = SocketEmits s out r n t out'
-  EmitsIf false s out r n t out' = (t ≡ s) × (r ≡ Ok tt) × (n ≡ 0) × (out' ≡ out)
+  EmitsIf false s out r n t out' = (t ≡ s) × (r ≡ Ok tt) × (n ≡ nothing_sent) × (out' ≡ out)
 
-  pub record TakesTurn (before : Slot G) (out : List ℕ) (r : Result (Unit {0}) TooShort) (n : ℕ) (after : Slot G)
+  pub record TakesTurn (before : Slot G) (out : List ℕ) (r : Result (Unit {0}) TooShort) (n : Sent) (after : Slot G)
       (out' : List ℕ) : Type 0 where
     pub generation : after.generation ≡ before.generation
     pub asked : Asks (moment_of facts) before.guard after.guard

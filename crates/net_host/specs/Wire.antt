@@ -1,11 +1,12 @@
 -- Packets in a buffer.
-use Rattle.std.specs.Prelude.{ℕ, ◌+◌, ◌≡◌, ◌≤◌, List, ◌++◌, drop, length, Option, Some, None}
+use Rattle.std.specs.Prelude.{ℕ, ◌+◌, ◌≡◌, ◌≤◌, List, ◌++◌, drop, length, max, Option, Some, None}
 use Rattle.ip_wire.specs.Checksum.{is_sent}
 use Rattle.ip_wire.specs.Packet.{header_octets}
 use Rattle.ip_wire.specs.IpHeader.{header_len_of, next_header_of, payload_len_of}
 use Rattle.ip_wire.specs.declared.checksum.ChecksumCapabilities.{ChecksumCapabilities}
 use Rattle.ip_wire.specs.declared.protocol.IpProtocol.TheVariants as protocol
 use Rattle.ip_wire.specs.declared.repr.IpRepr.{IpRepr}
+use Rattle.ip_wire.specs.declared.repr.IpRepr.TheVariants as header
 use Rattle.control_wire.specs.Segment.{Segment, segment_header_len}
 use Rattle.control_wire.specs.declared.udp.UdpRepr.{UdpRepr}
 use Rattle.segment_wire.specs.Packet.{tcp_packet, udp_packet}
@@ -18,6 +19,11 @@ pub record IsCounted (ip : IpRepr) (s : Segment) : Type 0 where
 
 abbrev pub packet_len : IpRepr → ℕ
 packet_len ip = header_len_of ip + payload_len_of ip
+
+-- the largest packet with this header, of an MTU: over IPv6 less than 576 counts as that
+abbrev pub largest : IpRepr → ℕ → ℕ
+largest (header.Ipv4 h) mtu = mtu
+largest (header.Ipv6 h) mtu = max mtu 576
 
 -- a buffer with the packet of a segment at its beginning
 abbrev pub with_segment : ChecksumCapabilities → IpRepr → Segment → List ℕ → List ℕ

@@ -74,7 +74,7 @@ fn is_reserved_v6(addr: &Ipv6Address) -> bool
     ensures { result ≡ is_reserved_v6 addr.now.0 }
 {
     all_zero(&addr.0[..10])
-        && (all_zero(&addr.0[10..15]) && addr.0[15] <= 1 || addr.0[10] == 255 && addr.0[11] == 255)
+        && (addr.0[10] == 0 && addr.0[11] == 0 || addr.0[10] == 255 && addr.0[11] == 255)
 }
 
 fn all_zero(octets: &[u8]) -> bool

@@ -1,6 +1,6 @@
 //! An address of an interface, with the length of its prefix.
-ghost use Rattle.std.specs.Prelude.{◌≡◌, ◌≤◌, ◌-◌, ◌%◌, ◌^◌, ◌==◌};
-ghost use Rattle.net_host.specs.Addresses.{agree, covers, covers_by, all_ones_behind, is_directed, is_limited};
+ghost use Rattle.std.specs.Prelude.{◌≡◌, ◌≤◌, ◌-◌, ◌^◌};
+ghost use Rattle.net_host.specs.Addresses.{agree, covers, covers_by, edge_behind, is_directed, is_edge, is_limited};
 ghost use Rattle.net_host.specs.Addresses.{number_v4};
 ghost use Rattle.net_host.specs.Addresses.{number_v6};
 
@@ -28,8 +28,8 @@ impl IpCidr {
         }
     }
 
-    /// Whether the address is the broadcast of the network (RFC 919): only ones behind the prefix. A prefix of 31 or 32
-    /// bits has none (RFC 3021), and IPv6 has none.
+    /// Whether the address is the broadcast of the network (RFC 919): only ones behind the prefix, or only zeros, which
+    /// no host has either (RFC 1122, section 3.3.6). A prefix of 31 or 32 bits has none (RFC 3021), and IPv6 has none.
     pub fn is_broadcast(&self, address: &IpAddress) -> bool
         ensures { result ≡ is_directed self.now address.now }
     {
@@ -37,7 +37,7 @@ impl IpCidr {
             (IpAddress::Ipv4(own), IpAddress::Ipv4(other)) => {
                 self.prefix_len <= 30
                     && agree_v4(self.prefix_len, own, other)
-                    && has_ones(self.prefix_len, other)
+                    && is_edge(self.prefix_len, other)
             }
             _ => false,
         }
@@ -61,11 +61,12 @@ fn agree_v4(prefix_len: u8, a: &Ipv4Address, b: &Ipv4Address) -> bool
     u64::from(u32::from_be_bytes(a.0)) / size == u64::from(u32::from_be_bytes(b.0)) / size
 }
 
-fn has_ones(prefix_len: u8, a: &Ipv4Address) -> bool
-    ensures { result ≡ (number_v4 a.now % 2 ^ (32 - prefix_len) == 2 ^ (32 - prefix_len) - 1) }
+fn is_edge(prefix_len: u8, a: &Ipv4Address) -> bool
+    ensures { result ≡ is_edge (2 ^ (32 - prefix_len)) (number_v4 a.now) }
 {
     let size = 1u64 << 32u8.saturating_sub(prefix_len);
-    u64::from(u32::from_be_bytes(a.0)) % size == size - 1
+    let rest = u64::from(u32::from_be_bytes(a.0)) % size;
+    rest == 0 || rest == size - 1
 }
 
 // Not inlined, so that what a packet of IPv4 runs through stays short.

@@ -6,8 +6,10 @@ ghost use Rattle.control_wire.specs.Segment.{segment_of};
 ghost use Rattle.sock_core.specs.Bounds.{IsMtu};
 ghost use Rattle.sock_tcp.specs.Due.{ip_header_len, mtu_for};
 ghost use Rattle.sock_tcp.specs.Process.{reply_of};
-ghost use Rattle.net_host.specs.Cookies.{AnswersAreBelieved, acked_by, answer_of, answer_segment, call_of, class_told};
-ghost use Rattle.net_host.specs.Cookies.{course_of, course_under, doubted_by, room_at, room_in, syn_before};
+ghost use Rattle.host_cookies.specs.Numbers.{awaited};
+ghost use Rattle.net_host.specs.Cookies.{AnswersAreBelieved, BelievesAwaited, acked_by, answer_of, answer_segment};
+ghost use Rattle.net_host.specs.Cookies.{call_of, class_told, course_of, course_under, doubted_by, is_garbage, noted};
+ghost use Rattle.net_host.specs.Cookies.{noted_on, opening_of, room_at, room_in, syn_before, tested_if};
 ghost use Rattle.net_host.specs.Resting.{is_opening};
 
 use crate::rest::opens;
@@ -151,6 +153,56 @@ fn doubted_by(cookies: &SynCookies, now: Instant, ip: &IpRepr, repr: &TcpRepr<'_
     }
 }
 
+// As long as an answer is awaited.
+fn tested(cookies: &SynCookies, now: Instant, ip: &IpRepr, repr: &TcpRepr<'_>) -> Course
+    ensures { result ≡ tested_if (awaited cookies.now.answered now.micros) cookies.now now.micros ip.now
+        (segment_of repr.now) }
+{
+    if cookies.awaits(now.micros) {
+        doubted_by(cookies, now, ip, repr)
+    } else {
+        Course::Plain
+    }
+}
+
+/// An answer that goes out is noted.
+pub(crate) fn note_on(cookies: &mut Option<SynCookies>, course: Course, now: Instant)
+    ensures { cookies.new ≡ noted_on course now.micros cookies.old }
+{
+    if let Course::Answered(..) = course {
+        note(cookies, now);
+    }
+}
+
+fn note(cookies: &mut Option<SynCookies>, now: Instant)
+    ensures { cookies.new ≡ noted now.micros cookies.old }
+{
+    if let Some(cookies) = cookies {
+        cookies.note(now.micros);
+    }
+}
+
+fn is_garbage(repr: &TcpRepr<'_>) -> bool
+    ensures { result ≡ is_garbage (segment_of repr.now) }
+{
+    match repr.control {
+        TcpControl::None => repr.payload.len() == 1,
+        _ => false,
+    }
+}
+
+/// An acknowledgement that is believed, as its socket hears it: without the octet that a keep-alive has.
+pub(crate) fn opening_of<'p>(repr: &TcpRepr<'p>) -> TcpRepr<'p>
+    ensures segment { segment_of result ≡ opening_of (segment_of repr.now) }
+    ensures small { length result.payload.now ≤ length repr.now.payload.now }
+{
+    let mut opening = *repr;
+    if is_garbage(repr) {
+        opening.payload = &[];
+    }
+    opening
+}
+
 fn kept_or(
     cookies: &SynCookies,
     place: usize,
@@ -180,7 +232,7 @@ fn course_under(
 {
     match taker {
         Taker::Listener(place) => kept_or(cookies, place, now, ip, repr),
-        Taker::Nobody => doubted_by(cookies, now, ip, repr),
+        Taker::Nobody => tested(cookies, now, ip, repr),
         _ => Course::Plain,
     }
 }
@@ -281,10 +333,11 @@ pub(crate) fn answer_of<C: Context>(
 }
 
 /// Where no socket takes it, the acknowledgement of an answer is believed within 64 seconds: as of the class that the
-/// SYN told, and of the number of the answer.
-#[tactic(auto, using(crate::proofs::Believed::believed))]
+/// SYN told, and of the number of the answer. None is believed once no answer is awaited, 128 seconds after the last.
+#[tactic(auto, using(crate::proofs::Believed::believed, crate::proofs::Believed::only_awaited))]
 pub fn answers_are_believed()
-    ensures { AnswersAreBelieved }
+    ensures believed { AnswersAreBelieved }
+    ensures awaited { BelievesAwaited }
 {
     answers_are_recognised();
 }

@@ -1,6 +1,6 @@
-//! What came of the packets that arrived.
+//! What came of the packets that arrived, and of those of the sockets.
 ghost use Rattle.std.specs.Prelude.{◌≡◌};
-ghost use Rattle.net_host.specs.Counts.{counted, next, sent, taken, wrong};
+ghost use Rattle.net_host.specs.Counts.{counted, lost_if, next, sent, taken, wrong};
 
 /// Why a packet is dropped.
 #[derive(Debug, Clone, Copy, PartialEq, Eq)]
@@ -41,8 +41,10 @@ pub struct Counters {
     pub cookies_sent: u64,
     /// Acknowledgements of such answers that took a socket.
     pub cookies_taken: u64,
-    /// Acknowledgements that no socket takes, of no such answer, where they are sent.
+    /// Acknowledgements that no socket takes, of no such answer, while one may be acknowledged.
     pub cookies_wrong: u64,
+    /// Packets of sockets that were dropped, as they were longer than the MTU.
+    pub too_long: u64,
 }
 
 impl Counters {
@@ -65,6 +67,15 @@ impl Counters {
         ensures { self.new ≡ wrong self.old }
     {
         self.cookies_wrong = next(self.cookies_wrong);
+    }
+
+    /// One packet more of a socket was longer than the MTU, where one was.
+    pub(crate) fn count_lost(&mut self, lost: bool)
+        ensures { self.new ≡ lost_if lost self.old }
+    {
+        if lost {
+            self.too_long = next(self.too_long);
+        }
     }
 
     /// One packet more was dropped for this reason.

@@ -13,7 +13,7 @@ ghost use Rattle.net_host.specs.Segments.{IsTaker, TakesSegment, as_is};
 ghost use Rattle.net_host.specs.Touching.{Touches};
 
 use crate::answered::hear_out_there;
-use crate::cookies::{Course, Told, answer_of, course_of, room_at, syn_before};
+use crate::cookies::{Course, Told, answer_of, course_of, opening_of, room_at, syn_before};
 use crate::filing::connection_key;
 use crate::limit::Limit;
 use crate::replies::put_reply;
@@ -277,7 +277,8 @@ fn take_heard<C: Context, G: TsvalSource>(
             *reply = Some(answer_of(cx, room, number, ip, repr));
         }
         Course::Believed(class, number) => {
-            *reply = believe(sockets, cx, heard.again, class, number, ip, repr);
+            let opening = opening_of(repr);
+            *reply = believe(sockets, cx, heard.again, class, number, ip, &opening);
         }
     }
 }

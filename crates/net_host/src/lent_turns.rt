@@ -1,5 +1,5 @@
 //! A guard looks at its socket, and a socket has its turn, in a set with an index.
-ghost use Rattle.std.specs.Prelude.{◌≡◌, ◌<◌, ◌≤◌, IfSome, length, slice_get, true, false};
+ghost use Rattle.std.specs.Prelude.{◌≡◌, ◌<◌, ◌≤◌, IfSome, is_err, length, max, slice_get, true, false};
 ghost use Rattle.sock_core.specs.Bounds.{IsMoment};
 ghost use Rattle.net_host.specs.Facts.{facts_by};
 ghost use Rattle.net_host.specs.Speaking.{TurnAt};
@@ -15,7 +15,7 @@ use crate::limits::Limits;
 use crate::set::SocketSet;
 use crate::sight::Sight;
 use crate::slot::Slot;
-use crate::wire::TooShort;
+use crate::wire::{Sent, TooShort};
 use smoltcp_socket::time::Instant;
 use smoltcp_socket::wire::IpAddress;
 use sock_tcp::TsvalSource;
@@ -113,9 +113,11 @@ pub(crate) fn turn_there<G: TsvalSource>(
     i: usize,
     environment: &Environment,
     out: &mut [u8],
-) -> (Result<(), TooShort>, usize)
+) -> (Result<(), TooShort>, Sent)
     requires { i < length slots.old.items }
-    ensures within { result.1 ≤ length out.old }
+    ensures within { result.1.len ≤ length out.old }
+    ensures fits { result.1.len ≤ max environment.entry.now.mtu 576 }
+    ensures short { is_err result.0 ≡ true → length out.old < max environment.entry.now.mtu 576 }
     ensures table { TurnAt (facts_by ⟦<IpAddress as PartialEq>⟧.eq environment.entry.now) G.tells slots.old.items i
         out.old
         result.0 result.1 slots.new.items out.new }

@@ -1,56 +1,63 @@
 //! A limit on how many answers go out in a second.
 ghost use Rattle.std.specs.Prelude.{◌≡◌};
-ghost use Rattle.net_host.specs.Limits.{allows, full_limit, renewed, spent};
+ghost use Rattle.sock_core.specs.Bounds.{IsMoment};
+ghost use Rattle.net_host.specs.Limits.{AnswersAreLimited, allows, full_limit, later, spent};
 
 use smoltcp_socket::time::Instant;
 
-/// How many answers of one kind there are in a second, at most.
+/// How many answers of one kind there are in a second, at most: 50 at once, and 50 a second.
 pub const ANSWERS_A_SECOND: u32 = 100;
 
-/// How many answers are left in a second, which begins with the first of them.
+// How long an answer takes, in microseconds, and how far ahead its time may begin.
+const EACH: i64 = 20_000;
+
+const AHEAD: i64 = 980_000;
+
+/// Each answer takes 20 milliseconds, of time that lies at most a second ahead.
 #[derive(Debug, Clone, Copy, Drop)]
 pub struct Limit {
-    pub(crate) since: Instant,
-    pub(crate) left: u32,
+    // up to which moment time is taken, in microseconds
+    pub(crate) until: i64,
 }
 
 impl Limit {
-    /// All of a second's answers are left.
+    /// Nothing is taken.
     pub fn new() -> Limit
         ensures { result ≡ full_limit }
     {
-        Limit {
-            since: Instant::ZERO,
-            left: ANSWERS_A_SECOND,
-        }
+        Limit { until: i64::MIN }
     }
 
     /// Whether one more answer may go out; it counts as gone out then.
     pub fn take(&mut self, now: Instant) -> bool
+        requires { IsMoment now.micros }
         ensures answer { result ≡ allows self.old now }
         ensures value { self.new ≡ spent self.old now }
     {
-        self.renew(now);
-        if self.left == 0 {
-            return false;
+        let may = self.allows(now);
+        if may {
+            self.until = later(self.until, now.micros) + EACH;
         }
-        self.left -= 1;
-        true
+        may
     }
 
     /// Whether one more answer may go out.
     pub fn allows(&self, now: Instant) -> bool
+        requires { IsMoment now.micros }
         ensures { result ≡ allows self.now now }
     {
-        1_000_000 <= (now - self.since).micros || self.left != 0
-    }
-
-    fn renew(&mut self, now: Instant)
-        ensures { self.new ≡ renewed self.old now }
-    {
-        if 1_000_000 <= (now - self.since).micros {
-            self.since = now;
-            self.left = ANSWERS_A_SECOND;
-        }
+        self.until <= now.micros + AHEAD
     }
 }
+
+fn later(t: i64, u: i64) -> i64
+    ensures { result ≡ later t u }
+{
+    if t <= u { u } else { t }
+}
+
+/// In any second at most `ANSWERS_A_SECOND` answers go out, also where the clock goes back.
+#[tactic(auto, using(crate::proofs::Limited::limited))]
+pub fn answers_are_limited()
+    ensures { AnswersAreLimited }
+{}

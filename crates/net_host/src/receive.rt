@@ -16,7 +16,7 @@ ghost use Rattle.net_host.specs.Facts.{facts_by};
 ghost use Rattle.net_host.specs.Touching.{Touches};
 
 use crate::arrival::{Kind, kind_in, refusal};
-use crate::cookies::Course;
+use crate::cookies::{Course, note_on};
 use crate::copies::{copy_mail, copy_packet, hear_datagram_of};
 use crate::counters::{Counters, Reason};
 use crate::hearing::{Heard, hear_known, hear_sought};
@@ -409,6 +409,7 @@ impl<W: Words> Interface<W> {
         ensures touched { Touches sockets.old.bounds sockets.old.slots.items sockets.new.bounds
             sockets.new.slots.items }
     {
+        let now = self.inner.environment.now;
         let (heard, len) = hear_sought(
             sockets,
             &mut self.inner,
@@ -419,6 +420,7 @@ impl<W: Words> Interface<W> {
             out,
         );
         count_heard(&mut self.counters, &heard);
+        note_on(&mut self.cookies, heard.course, now);
         len
     }
 }

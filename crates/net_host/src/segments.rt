@@ -3,6 +3,7 @@ ghost use Rattle.std.specs.Prelude.{◌≡◌, ◌↔◌, ◌<◌, ◌≤◌, Is
 ghost use Rattle.std.specs.Option.{ForSome};
 ghost use Rattle.control_wire.specs.Fits.{FitsPacket};
 ghost use Rattle.control_wire.specs.Segment.{segment_of};
+ghost use Rattle.sock_core.specs.Bounds.{IsMoment};
 ghost use Rattle.sock_tcp.specs.Process.{Opens, reply_of};
 ghost use Rattle.net_host.specs.Filing.{keys_of};
 ghost use Rattle.net_host.specs.Indexing.{IsSettled};
@@ -408,7 +409,8 @@ pub(crate) fn hear_anew_at<C: Context, G: TsvalSource>(
 // Not inlined, as few segments come here.
 #[inline(never)]
 fn refuse(limit: &mut Limit, now: Instant, ip: &IpRepr, repr: &TcpRepr<'_>) -> Option<Reply>
-    requires { length repr.now.payload.now ≤ 65535 }
+    requires small { length repr.now.payload.now ≤ 65535 }
+    requires moment { IsMoment now.micros }
     ensures answer { Refuses limit.old now ip.now (segment_of repr.now) result limit.new }
     ensures bare { ForSome result (λ r. r.1.payload.now ≡ []) }
     ensures fits { ForSome (option_map reply_of result) (λ r. FitsPacket r.0 r.1) }

@@ -1,5 +1,5 @@
 //! What a host does with one socket and its guard: looks at it, asks when it wants to speak, and lets it speak.
-ghost use Rattle.std.specs.Prelude.{◌≡◌, ◌≤◌, length, true, false};
+ghost use Rattle.std.specs.Prelude.{◌≡◌, ◌<◌, ◌≤◌, is_err, length, max, true, false};
 ghost use Rattle.sock_core.specs.Bounds.{IsMoment};
 ghost use Rattle.net_host.specs.Facts.{facts_by};
 ghost use Rattle.net_host.specs.Guards.{has_ended};
@@ -18,7 +18,7 @@ use crate::limits::Limits;
 use crate::sight::Sight;
 use crate::slot::Slot;
 use crate::watching::not_before;
-use crate::wire::TooShort;
+use crate::wire::{Sent, TooShort};
 use smoltcp_socket::time::{Duration, Instant};
 use smoltcp_socket::wire::IpAddress;
 use smoltcp_socket::{Context, PollAt, Socket};
@@ -26,6 +26,11 @@ use sock_tcp::TsvalSource;
 
 // The least time: a socket that may not speak at a moment waits so long.
 const NEXT: Duration = Duration { micros: 1 };
+
+const NOTHING_SENT: Sent = Sent {
+    len: 0,
+    lost: false,
+};
 
 impl<'a, G: TsvalSource> Slot<'a, G> {
     /// The guard of a TCP socket looks at it, as `Guard::watch`.
@@ -115,14 +120,16 @@ impl<'a, G: TsvalSource> Slot<'a, G> {
         &mut self,
         environment: &Environment,
         out: &mut [u8],
-    ) -> (Result<(), TooShort>, usize)
-        ensures within { result.1 ≤ length out.old }
+    ) -> (Result<(), TooShort>, Sent)
+        ensures within { result.1.len ≤ length out.old }
+        ensures fits { result.1.len ≤ max environment.entry.now.mtu 576 }
+        ensures short { is_err result.0 ≡ true → length out.old < max environment.entry.now.mtu 576 }
         ensures table { TakesTurn (facts_by ⟦<IpAddress as PartialEq>⟧.eq environment.entry.now) G.tells self.old
             out.old
             result.0 result.1 self.new out.new }
     {
         if !self.guard.take_turn(environment.moment()) {
-            return (Ok(()), 0);
+            return (Ok(()), NOTHING_SENT);
         }
         self.dispatch(environment, out)
     }
@@ -131,8 +138,10 @@ impl<'a, G: TsvalSource> Slot<'a, G> {
         &mut self,
         environment: &Environment,
         out: &mut [u8],
-    ) -> (Result<(), TooShort>, usize)
-        ensures within { result.1 ≤ length out.old }
+    ) -> (Result<(), TooShort>, Sent)
+        ensures within { result.1.len ≤ length out.old }
+        ensures fits { result.1.len ≤ max environment.entry.now.mtu 576 }
+        ensures short { is_err result.0 ≡ true → length out.old < max environment.entry.now.mtu 576 }
         ensures table { SlotEmits (facts_by ⟦<IpAddress as PartialEq>⟧.eq environment.entry.now) G.tells self.old
             out.old
             result.0 result.1 self.new out.new }
@@ -142,7 +151,7 @@ impl<'a, G: TsvalSource> Slot<'a, G> {
             Some(Socket::Udp(udp)) => emit_udp(udp, environment, out),
             Some(Socket::Icmp(icmp)) => emit_icmp(icmp, environment, out),
             Some(Socket::Raw(raw)) => emit_raw(raw, environment, out),
-            None => (Ok(()), 0),
+            None => (Ok(()), NOTHING_SENT),
         }
     }
 }

@@ -1,5 +1,6 @@
 //! What tells a sender that nobody takes its packet.
 ghost use Rattle.std.specs.Prelude.{◌≡◌, ◌≤◌, ◌↔◌, ◌&&◌, IsTrue, is_some, length, min, option_map, true};
+ghost use Rattle.sock_core.specs.Bounds.{IsMoment};
 ghost use Rattle.net_host.specs.Filing.{keys_of};
 ghost use Rattle.net_host.specs.Indexing.{AreFiled};
 ghost use Rattle.net_host.specs.Limits.{allows};
@@ -217,6 +218,7 @@ fn wanted<'p>(own: bool, raw: bool, error: Option<Mail<'p>>) -> Option<Mail<'p>>
 
 // The error, where the limit allows it.
 fn within_limit<'p>(limit: &mut Limit, now: Instant, error: Option<Mail<'p>>) -> Option<Mail<'p>>
+    requires { IsMoment now.micros }
     ensures told { option_map mail_of result ≡ told_within limit.old now (option_map mail_of error.entry) }
     ensures limit { limit.new ≡ spent_for (option_map mail_of error.entry) limit.old now }
 {
@@ -228,6 +230,7 @@ fn within_limit<'p>(limit: &mut Limit, now: Instant, error: Option<Mail<'p>>) ->
 
 // Whether the sender is told, where no raw socket takes the packet.
 fn may_tell(own: bool, error: &Option<Mail<'_>>, limit: &Limit, now: Instant) -> bool
+    requires { IsMoment now.micros }
     ensures { result ≡ own && (is_some (option_map mail_of error.now) && allows limit.now now) }
 {
     own && error.is_some() && limit.allows(now)

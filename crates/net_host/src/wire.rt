@@ -1,11 +1,11 @@
 //! The context of a dispatch, which writes what is emitted into a buffer.
-ghost use Rattle.std.specs.Prelude.{◌≡◌, ◌↔◌, ◌≤◌, IsTrue, length};
+ghost use Rattle.std.specs.Prelude.{◌≡◌, ◌↔◌, IsTrue, nat_lt};
 ghost use Rattle.control_wire.specs.Segment.{segment_header_len, segment_of};
 ghost use Rattle.net_host.specs.Addresses.{as_v4, as_v6, source_of};
 ghost use Rattle.net_host.specs.Facts.{facts_by};
 ghost use Rattle.net_host.specs.Sheets.{Writes, WritesDatagram, WritesMessage, WritesRaw};
 ghost use Rattle.sock_dgram.specs.IcmpDispatch.{Counts, any_message};
-ghost use Rattle.net_host.specs.Wire.{CountsDatagram, IsCounted, raw_len};
+ghost use Rattle.net_host.specs.Wire.{CountsDatagram, IsCounted, largest, packet_len};
 ghost use Rattle.net_host.specs.SheetOf.{KeepsWire, sheet_of};
 
 use crate::environment::Environment;
@@ -30,10 +30,33 @@ pub struct Wire<'w> {
     pub(crate) out: &'w mut [u8],
     // the length of the packet that was written, or 0
     pub(crate) len: usize,
+    // whether a packet was dropped, as it was longer than the MTU
+    pub(crate) lost: bool,
+}
+
+/// What a socket sent in its turn: the length of its packet, or 0 where none was written, and whether one was dropped,
+/// as it was longer than the MTU.
+#[derive(Debug, Clone, Copy, PartialEq, Eq)]
+pub(crate) struct Sent {
+    pub(crate) len: usize,
+    pub(crate) lost: bool,
 }
 
 // The longest TCP header, in bytes (RFC 9293, section 3.1).
 const LONGEST_HEADER: usize = 60;
+
+// Over IPv6 a smaller MTU counts as this: its links carry 1280 bytes (RFC 8200, section 5).
+const LEAST_IPV6_MTU: usize = 576;
+
+// The largest packet with this header.
+fn largest(ip: &IpRepr, mtu: usize) -> usize
+    ensures { result ≡ largest ip.now mtu }
+{
+    match ip {
+        IpRepr::Ipv4(_) => mtu,
+        IpRepr::Ipv6(_) => mtu.max(LEAST_IPV6_MTU),
+    }
+}
 
 // Whether the header counts the segment.
 fn is_counted(ip: &IpRepr, repr: &TcpRepr<'_>, header_len: usize) -> bool
@@ -66,12 +89,18 @@ fn counts_datagram(ip: &IpRepr, payload: &[u8]) -> bool
 }
 
 impl<'w> Wire<'w> {
-    /// Writes an IP packet with this payload at the beginning of the buffer, where it fits.
+    /// Writes an IP packet with this payload at the beginning of the buffer. One that is longer than the MTU is dropped;
+    /// `TooShort` where the buffer has no room for another.
     pub(crate) fn write_raw(&mut self, ip: &IpRepr, payload: &[u8]) -> Result<(), TooShort>
         ensures written { WritesRaw ip.now payload.now (sheet_of self.old) result (sheet_of self.new) }
-        ensures kept { KeepsWire self.old self.new }
+        ensures kept { KeepsWire self.old result self.new }
     {
-        if self.out.len() < ip.header_len() || self.out.len() - ip.header_len() < payload.len() {
+        let room = largest(ip, self.environment.mtu);
+        if room < ip.header_len() || room - ip.header_len() < payload.len() {
+            self.lost = true;
+            return Ok(());
+        }
+        if self.out.len() < ip.header_len() + payload.len() {
             return Err(TooShort);
         }
         let caps = self.environment.checksums;
@@ -79,15 +108,17 @@ impl<'w> Wire<'w> {
         Ok(())
     }
 
-    /// Writes the message as an IP packet at the beginning of the buffer, where it fits.
+    /// Writes the message as an IP packet at the beginning of the buffer. One that is longer than the MTU is dropped;
+    /// `TooShort` where the buffer has no room for another.
     pub(crate) fn write_message(&mut self, ip: &IpRepr, repr: &IcmpRepr<'_>) -> Result<(), TooShort>
         ensures written { WritesMessage ip.now (any_message repr.now) (sheet_of self.old) result (sheet_of self.new) }
-        ensures kept { KeepsWire self.old self.new }
+        ensures kept { KeepsWire self.old result self.new }
     {
-        if !counts_message(ip, repr)
-            || self.out.len() < ip.header_len()
-            || self.out.len() - ip.header_len() < ip.payload_len()
-        {
+        if !counts_message(ip, repr) || self.is_too_long(ip) {
+            self.lost = true;
+            return Ok(());
+        }
+        if self.out.len() < ip.header_len() + ip.payload_len() {
             return Err(TooShort);
         }
         let caps = self.environment.checksums;
@@ -95,7 +126,8 @@ impl<'w> Wire<'w> {
         Ok(())
     }
 
-    /// Writes the datagram as an IP packet at the beginning of the buffer, where it fits.
+    /// Writes the datagram as an IP packet at the beginning of the buffer. One that is longer than the MTU is dropped;
+    /// `TooShort` where the buffer has no room for another.
     pub(crate) fn write_datagram(
         &mut self,
         ip: &IpRepr,
@@ -103,9 +135,13 @@ impl<'w> Wire<'w> {
         payload: &[u8],
     ) -> Result<(), TooShort>
         ensures written { WritesDatagram ip.now repr.now payload.now (sheet_of self.old) result (sheet_of self.new) }
-        ensures kept { KeepsWire self.old self.new }
+        ensures kept { KeepsWire self.old result self.new }
     {
-        if !counts_datagram(ip, payload) || self.out.len() < ip.header_len() + ip.payload_len() {
+        if !counts_datagram(ip, payload) || self.is_too_long(ip) {
+            self.lost = true;
+            return Ok(());
+        }
+        if self.out.len() < ip.header_len() + ip.payload_len() {
             return Err(TooShort);
         }
         let caps = self.environment.checksums;
@@ -113,21 +149,32 @@ impl<'w> Wire<'w> {
         Ok(())
     }
 
-    /// Writes the segment as an IP packet at the beginning of the buffer, where it fits.
+    /// Writes the segment as an IP packet at the beginning of the buffer. One that is longer than the MTU is dropped;
+    /// `TooShort` where the buffer has no room for another.
     pub(crate) fn write_segment(&mut self, ip: &IpRepr, repr: &TcpRepr<'_>) -> Result<(), TooShort>
         ensures written { Writes ip.now (segment_of repr.now) (sheet_of self.old) result
             (sheet_of self.new) }
-        ensures kept { KeepsWire self.old self.new }
+        ensures kept { KeepsWire self.old result self.new }
     {
         let header_len = repr.header_len();
-        if !is_counted(ip, repr, header_len)
-            || self.out.len() < ip.header_len() + ip.payload_len()
-        {
+        if !is_counted(ip, repr, header_len) || self.is_too_long(ip) {
+            self.lost = true;
+            return Ok(());
+        }
+        if self.out.len() < ip.header_len() + ip.payload_len() {
             return Err(TooShort);
         }
         let caps = self.environment.checksums;
         self.len = put_segment_with(ip, repr, header_len, self.out, &caps);
         Ok(())
+    }
+
+    // Whether the MTU has no room for a packet with this header.
+    fn is_too_long(&self, ip: &IpRepr) -> bool
+        ensures { result ≡ nat_lt (largest ip.now self.now.environment.now.mtu) (packet_len ip.now) }
+    {
+        let room = largest(ip, self.environment.mtu);
+        room < ip.header_len() || room - ip.header_len() < ip.payload_len()
     }
 }
 

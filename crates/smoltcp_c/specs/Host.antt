@@ -86,6 +86,7 @@ counters_told c = record {
   cookies_sent = c.cookies_sent;
   cookies_taken = c.cookies_taken;
   cookies_wrong = c.cookies_wrong;
+  too_long = c.too_long;
 }
 
 -- 1 where the call wrote what it found, 0 where it found nothing

@@ -49,7 +49,8 @@ pub struct Guards {
     pub timeout: i64,
 }
 
-/// How many packets were dropped, by their reasons, and what became of SYN cookies.
+/// How many packets were dropped, by their reasons, what became of SYN cookies, and how many packets of sockets were
+/// dropped, as they were longer than the MTU.
 #[repr(C)]
 #[derive(Clone, Copy)]
 pub struct Counters {
@@ -65,6 +66,7 @@ pub struct Counters {
     pub cookies_sent: u64,
     pub cookies_taken: u64,
     pub cookies_wrong: u64,
+    pub too_long: u64,
 }
 
 /// Whether the numbers stand for an address of IPv4 or IPv6.
@@ -133,5 +135,6 @@ pub fn counters_of(c: Counted) -> Counters
         cookies_sent: c.cookies_sent,
         cookies_taken: c.cookies_taken,
         cookies_wrong: c.cookies_wrong,
+        too_long: c.too_long,
     }
 }

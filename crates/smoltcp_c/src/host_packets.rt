@@ -56,8 +56,8 @@ pub extern "C" fn smoltcp_host_receive_nonnull(
 }
 
 /// Writes the next packet of a socket that is due at this moment, in microseconds, into `out`, and answers its length;
-/// 0 where no socket is due. As `Interface::emit`. `ERROR_ROOM` where `out` is too short for the packet: its socket
-/// offers it again.
+/// 0 where no socket is due. As `Interface::emit`: a packet that is longer than the MTU is dropped and counted.
+/// `ERROR_ROOM` where `out` is too short for another: its socket offers it again.
 #[unsafe(no_mangle)]
 pub extern "C" fn smoltcp_host_emit_nonnull(h: &mut HostHandle, now: i64, out: &mut [u8]) -> i64
     ensures table { Answers length_answer (λ r. EmitsAt ⟦<IpAddress as PartialEq>⟧.eq ⟦<Clock as TsvalSource>⟧.tells

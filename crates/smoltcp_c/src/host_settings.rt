@@ -60,7 +60,11 @@ pub extern "C" fn smoltcp_host_set_syn_cookies_nonnull(
     kept_from: usize,
 ) -> i64
     ensures answer { result ≡ pos 0 }
-    ensures cookies { (interface h.new).cookies ≡ Some (record { key = key.now.bytes; kept_from = kept_from }) }
+    ensures cookies { (interface h.new).cookies ≡ Some (record {
+      key = key.now.bytes;
+      kept_from = kept_from;
+      answered = None;
+    }) }
     ensures interface { ((interface h.new).inner ≡ (interface h.old).inner)
         × ((interface h.new).turn ≡ (interface h.old).turn) × ((interface h.new).resets ≡ (interface h.old).resets)
         × ((interface h.new).errors ≡ (interface h.old).errors)

@@ -9,4 +9,4 @@ pub returns-clause-table : goal.returns-clause-table
 returns-clause-table c = dispatches_packet sheet_of _ _ writing_message tt (λ shown left s r h. h.1.0) _ _ _ _ _ _ _ c.dispatch.ensures.table
 
 pub returns-clause-kept : goal.returns-clause-kept
-returns-clause-kept c = keeps (λ (c d : Wire). KeepsWire c d) (λ c. record { within = λ h. h; same_buffer = refl; environment = refl }) _ _ (λ shown left s r h. h.1.1) _ _ _ _ _ c.dispatch.ensures.table.emits
+returns-clause-kept c = keeps (λ (c : Wire) r (d : Wire). KeepsWire c r d) (λ c. record { within = λ h. h; fits = λ h. h; short = λ e. cc; same_buffer = refl; environment = refl }) _ _ (λ shown left s r h. h.1.1) _ _ _ _ _ c.dispatch.ensures.table.emits

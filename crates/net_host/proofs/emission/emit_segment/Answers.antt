@@ -9,4 +9,4 @@ pub returns-clause-table : goal.returns-clause-table
 returns-clause-table g c = dispatches sheet_of _ _ writing tt (λ shown left s r h. h.1.0) _ g.G.TsvalSource.tells _ _ _ _ _ _ c.dispatch.ensures.table
 
 pub returns-clause-kept : goal.returns-clause-kept
-returns-clause-kept g c = dispatch_keeps (λ (c d : Wire). KeepsWire c d) (λ c. record { within = λ h. h; same_buffer = refl; environment = refl }) _ _ (λ shown left s r h. h.1.1) _ g.G.TsvalSource.tells _ _ _ _ _ _ c.dispatch.ensures.table
+returns-clause-kept g c = dispatch_keeps (λ (c : Wire) r (d : Wire). KeepsWire c r d) (λ c. record { within = λ h. h; fits = λ h. h; short = λ e. cc; same_buffer = refl; environment = refl }) _ _ (λ shown left s r h. h.1.1) _ g.G.TsvalSource.tells _ _ _ _ _ _ c.dispatch.ensures.table

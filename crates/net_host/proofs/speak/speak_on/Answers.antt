@@ -1,9 +1,9 @@
-use Rattle.std.proofs.Common.{◌∙◌, ◌<◌, Some, None, sym, subst, arith}
+use Rattle.std.proofs.Common.{◌∙◌, ◌<◌, ◌+◌, Some, None, sym, subst, arith}
 use Rattle.ip_wire.specs.contracts.address.IpAddressPartialEq.TheImpl.{eq-value}
 use Rattle.sock_tcp.specs.View.{moment_of}
 use Rattle.net_host.specs.Facts.{facts_by}
 use Rattle.net_host.specs.Looking.{LooksNext}
-use Rattle.net_host.specs.Speaking.{Quiet}
+use Rattle.net_host.specs.Speaking.{Quiet, Speaks}
 use Rattle.net_host.proofs.Measure.{left_turns, turn_decreases}
 use Rattle.net_host.proofs.Steps.{short, packet, quiets, readies, silent}
 use Rattle.net_host.proofs.Walking.{looks_keep, next_due}
@@ -14,14 +14,14 @@ returns-then-is_err-clause-table g c =
     let f = facts_by eq-value.it c.args.cx.now.environment in
     let st = c.args.sockets.now.terms.guards in
     let l : LooksNext f st c.loop-i.turn c.loop-i.sockets.slots.items (Some c.in-Some.i) c.next_due.new.sockets.slots.items = subst (λ t. LooksNext f t.guards c.loop-i.turn c.loop-i.sockets.slots.items (Some c.in-Some.i) c.next_due.new.sockets.slots.items) c.loop-i.invariant.terms c.in-Some.ensures.looked in
-    c.loop-i.invariant.rest _ _ _ _ (short f g.G.TsvalSource.tells st c.loop-i.sockets.slots.items c.next_due.new.sockets.slots.items c.turn_at-answer.new.sockets.slots.items c.loop-i.turn c.in-Some.i c.turn_at-answer.result.1 c.loop-i.out c.turn_at-answer.new.out c.turn_at-answer.result.0 (readies f st c.loop-i.sockets.slots.items c.next_due.new.sockets.slots.items c.loop-i.turn c.in-Some.i l) c.turn_at-answer.ensures.table (sym c.is_err.ensures.value ∙ c.if-is_err.true))
+    c.loop-i.invariant.rest _ _ _ _ _ (short f g.G.TsvalSource.tells st c.loop-i.sockets.slots.items c.next_due.new.sockets.slots.items c.turn_at-answer.new.sockets.slots.items c.loop-i.turn c.in-Some.i c.turn_at-answer.result.1 c.loop-i.counters c.loop-i.out c.turn_at-answer.new.out c.turn_at-answer.result.0 (readies f st c.loop-i.sockets.slots.items c.next_due.new.sockets.slots.items c.loop-i.turn c.in-Some.i l) c.turn_at-answer.ensures.table (sym c.is_err.ensures.value ∙ c.if-is_err.true))
 
 pub returns-then-len-gt0-clause-table : goal.returns-then-len-gt0-clause-table
 returns-then-len-gt0-clause-table g c =
     let f = facts_by eq-value.it c.args.cx.now.environment in
     let st = c.args.sockets.now.terms.guards in
     let l : LooksNext f st c.loop-i.turn c.loop-i.sockets.slots.items (Some c.in-Some.i) c.next_due.new.sockets.slots.items = subst (λ t. LooksNext f t.guards c.loop-i.turn c.loop-i.sockets.slots.items (Some c.in-Some.i) c.next_due.new.sockets.slots.items) c.loop-i.invariant.terms c.in-Some.ensures.looked in
-    c.loop-i.invariant.rest _ _ _ _ (packet f g.G.TsvalSource.tells st c.loop-i.sockets.slots.items c.next_due.new.sockets.slots.items c.turn_at-answer.new.sockets.slots.items c.loop-i.turn c.in-Some.i c.turn_at-answer.result.1 c.loop-i.out c.turn_at-answer.new.out c.turn_at-answer.result.0 (readies f st c.loop-i.sockets.slots.items c.next_due.new.sockets.slots.items c.loop-i.turn c.in-Some.i l) c.turn_at-answer.ensures.table (sym c.is_err.ensures.value ∙ c.if-is_err.false) c.if-len-gt0.true)
+    c.loop-i.invariant.rest _ _ _ _ _ (packet f g.G.TsvalSource.tells st c.loop-i.sockets.slots.items c.next_due.new.sockets.slots.items c.turn_at-answer.new.sockets.slots.items c.loop-i.turn c.in-Some.i c.turn_at-answer.result.1 c.loop-i.counters c.loop-i.out c.turn_at-answer.new.out c.turn_at-answer.result.0 (readies f st c.loop-i.sockets.slots.items c.next_due.new.sockets.slots.items c.loop-i.turn c.in-Some.i l) c.turn_at-answer.ensures.table (sym c.is_err.ensures.value ∙ c.if-is_err.false) c.if-len-gt0.true)
 
 pub loop-i-smaller : goal.loop-i-smaller
 loop-i-smaller g c =
@@ -38,7 +38,7 @@ loop-i-preserved g c =
     let l : LooksNext f st c.loop-i.turn c.loop-i.sockets.slots.items (Some c.in-Some.i) c.next_due.new.sockets.slots.items = subst (λ t. LooksNext f t.guards c.loop-i.turn c.loop-i.sockets.slots.items (Some c.in-Some.i) c.next_due.new.sockets.slots.items) c.loop-i.invariant.terms c.in-Some.ensures.looked in
     record {
       terms = c.turn_at-answer.ensures.terms ∙ c.in-Some.ensures.terms ∙ c.loop-i.invariant.terms;
-      rest = λ q ts turn out rest. c.loop-i.invariant.rest q ts turn out (silent f g.G.TsvalSource.tells st c.loop-i.sockets.slots.items c.next_due.new.sockets.slots.items c.turn_at-answer.new.sockets.slots.items c.loop-i.turn c.in-Some.i c.turn_at-answer.result.1 c.loop-i.out c.turn_at-answer.new.out c.turn_at-answer.result.0 (readies f st c.loop-i.sockets.slots.items c.next_due.new.sockets.slots.items c.loop-i.turn c.in-Some.i l) c.turn_at-answer.ensures.table (sym c.is_err.ensures.value ∙ c.if-is_err.false) (omega arith) q ts turn out rest);
+      rest = λ q ts turn k out rest. c.loop-i.invariant.rest q ts turn k out (silent f g.G.TsvalSource.tells st c.loop-i.sockets.slots.items c.next_due.new.sockets.slots.items c.turn_at-answer.new.sockets.slots.items c.loop-i.turn c.in-Some.i c.turn_at-answer.result.1 c.loop-i.counters c.loop-i.out c.turn_at-answer.new.out c.turn_at-answer.result.0 (readies f st c.loop-i.sockets.slots.items c.next_due.new.sockets.slots.items c.loop-i.turn c.in-Some.i l) c.turn_at-answer.ensures.table (sym c.is_err.ensures.value ∙ c.if-is_err.false) (omega arith) q ts turn k out (subst (λ d. Speaks f g.G.TsvalSource.tells st c.turn_at-answer.new.sockets.slots.items (c.in-Some.i + 1) d c.turn_at-answer.new.out q ts turn k out) c.count_lost.ensures rest));
     }
 
 pub returns-clause-table : goal.returns-clause-table
@@ -46,4 +46,4 @@ returns-clause-table g c =
     let f = facts_by eq-value.it c.args.cx.now.environment in
     let st = c.args.sockets.now.terms.guards in
     let l : LooksNext f st c.loop-i.turn c.loop-i.sockets.slots.items None c.next_due.new.sockets.slots.items = subst (λ t. LooksNext f t.guards c.loop-i.turn c.loop-i.sockets.slots.items None c.next_due.new.sockets.slots.items) c.loop-i.invariant.terms c.in_default.ensures.looked in
-    c.loop-i.invariant.rest _ _ _ _ (Quiet c.loop-i.sockets.slots.items c.next_due.new.sockets.slots.items c.loop-i.turn c.loop-i.out (quiets f st c.loop-i.sockets.slots.items c.next_due.new.sockets.slots.items c.loop-i.turn l))
+    c.loop-i.invariant.rest _ _ _ _ _ (Quiet c.loop-i.sockets.slots.items c.next_due.new.sockets.slots.items c.loop-i.turn c.loop-i.counters c.loop-i.out (quiets f st c.loop-i.sockets.slots.items c.next_due.new.sockets.slots.items c.loop-i.turn l))

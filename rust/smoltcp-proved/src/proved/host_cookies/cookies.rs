@@ -14,6 +14,8 @@ const STEP: u128 = 64_000_000;
 pub struct SynCookies {
     pub(crate) key: [u8; 32],
     pub(crate) kept_from: usize,
+    // the moment of the last answer, in microseconds
+    pub(crate) answered: Option<i64>,
 }
 
 impl SynCookies {
@@ -21,12 +23,26 @@ impl SynCookies {
     /// a set from the place `kept_from` on are kept for peers that answer: as long as one of those alone listens for
     /// a SYN, the SYN is answered, and no socket takes it.
     pub fn new(key: [u8; 32], kept_from: usize) -> SynCookies {
-        SynCookies { key, kept_from }
+        SynCookies { key, kept_from, answered: None }
     }
 
     /// From which place on sockets are kept for peers that answer.
     pub fn kept_from(&self) -> usize {
         self.kept_from
+    }
+
+    /// A SYN is answered at this moment, in microseconds.
+    pub fn note(&mut self, micros: i64) {
+        self.answered = Some(micros);
+    }
+
+    /// Whether an acknowledgement of an answer may come at this moment, in microseconds: the last one that was noted went
+    /// out up to 64 seconds before the step of time that this moment lies in, or later.
+    pub fn awaits(&self, micros: i64) -> bool {
+        match self.answered {
+            None => false,
+            Some(at) => step_of(micros) <= step_of(at) + 1,
+        }
     }
 
     /// The number of the answer to a SYN that told a largest segment of this class, at this moment in microseconds.

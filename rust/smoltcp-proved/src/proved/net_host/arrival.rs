@@ -48,8 +48,7 @@ fn is_reserved_v4(addr: &Ipv4Address) -> bool {
 }
 
 fn is_reserved_v6(addr: &Ipv6Address) -> bool {
-    all_zero(&addr.0[..10])
-        && (all_zero(&addr.0[10..15]) && addr.0[15] <= 1 || addr.0[10] == 255 && addr.0[11] == 255)
+    all_zero(&addr.0[..10]) && (addr.0[10] == 0 && addr.0[11] == 0 || addr.0[10] == 255 && addr.0[11] == 255)
 }
 
 fn all_zero(octets: &[u8]) -> bool {

@@ -23,14 +23,14 @@ impl IpCidr {
         }
     }
 
-    /// Whether the address is the broadcast of the network (RFC 919): only ones behind the prefix. A prefix of 31 or 32
-    /// bits has none (RFC 3021), and IPv6 has none.
+    /// Whether the address is the broadcast of the network (RFC 919): only ones behind the prefix, or only zeros, which
+    /// no host has either (RFC 1122, section 3.3.6). A prefix of 31 or 32 bits has none (RFC 3021), and IPv6 has none.
     pub fn is_broadcast(&self, address: &IpAddress) -> bool {
         match (&self.address, address) {
             (IpAddress::Ipv4(own), IpAddress::Ipv4(other)) => {
                 self.prefix_len <= 30
                     && agree_v4(self.prefix_len, own, other)
-                    && has_ones(self.prefix_len, other)
+                    && is_edge(self.prefix_len, other)
             }
             _ => false,
         }
@@ -50,9 +50,10 @@ fn agree_v4(prefix_len: u8, a: &Ipv4Address, b: &Ipv4Address) -> bool {
     u64::from(u32::from_be_bytes(a.0)) / size == u64::from(u32::from_be_bytes(b.0)) / size
 }
 
-fn has_ones(prefix_len: u8, a: &Ipv4Address) -> bool {
+fn is_edge(prefix_len: u8, a: &Ipv4Address) -> bool {
     let size = 1u64 << 32u8.saturating_sub(prefix_len);
-    u64::from(u32::from_be_bytes(a.0)) % size == size - 1
+    let rest = u64::from(u32::from_be_bytes(a.0)) % size;
+    rest == 0 || rest == size - 1
 }
 
 // Not inlined, so that what a packet of IPv4 runs through stays short.

@@ -124,6 +124,40 @@ fn doubted_by(cookies: &SynCookies, now: Instant, ip: &IpRepr, repr: &TcpRepr<'_
     }
 }
 
+// As long as an answer is awaited.
+fn tested(cookies: &SynCookies, now: Instant, ip: &IpRepr, repr: &TcpRepr<'_>) -> Course {
+    if cookies.awaits(now.micros) { doubted_by(cookies, now, ip, repr) } else { Course::Plain }
+}
+
+/// An answer that goes out is noted.
+pub(crate) fn note_on(cookies: &mut Option<SynCookies>, course: Course, now: Instant) {
+    if let Course::Answered(..) = course {
+        note(cookies, now);
+    }
+}
+
+fn note(cookies: &mut Option<SynCookies>, now: Instant) {
+    if let Some(cookies) = cookies {
+        cookies.note(now.micros);
+    }
+}
+
+fn is_garbage(repr: &TcpRepr<'_>) -> bool {
+    match repr.control {
+        TcpControl::None => repr.payload.len() == 1,
+        _ => false,
+    }
+}
+
+/// An acknowledgement that is believed, as its socket hears it: without the octet that a keep-alive has.
+pub(crate) fn opening_of<'p>(repr: &TcpRepr<'p>) -> TcpRepr<'p> {
+    let mut opening = *repr;
+    if is_garbage(repr) {
+        opening.payload = &[];
+    }
+    opening
+}
+
 fn kept_or(cookies: &SynCookies, place: usize, now: Instant, ip: &IpRepr, repr: &TcpRepr<'_>) -> Course {
     if cookies.kept_from() <= place && opens(repr) {
         let call = call_of(ip, repr, repr.seq_number);
@@ -137,7 +171,7 @@ fn kept_or(cookies: &SynCookies, place: usize, now: Instant, ip: &IpRepr, repr: 
 fn course_under(cookies: &SynCookies, taker: Taker, now: Instant, ip: &IpRepr, repr: &TcpRepr<'_>) -> Course {
     match taker {
         Taker::Listener(place) => kept_or(cookies, place, now, ip, repr),
-        Taker::Nobody => doubted_by(cookies, now, ip, repr),
+        Taker::Nobody => tested(cookies, now, ip, repr),
         _ => Course::Plain,
     }
 }
@@ -216,7 +250,7 @@ pub(crate) fn answer_of<C: Context>(
 }
 
 /// Where no socket takes it, the acknowledgement of an answer is believed within 64 seconds: as of the class that the
-/// SYN told, and of the number of the answer.
+/// SYN told, and of the number of the answer. None is believed once no answer is awaited, 128 seconds after the last.
 pub fn answers_are_believed() {
     answers_are_recognised();
 }

@@ -1,5 +1,5 @@
 // Made from crates/net_host/src/counters.rt by rust/translate: change it there.
-//! What came of the packets that arrived.
+//! What came of the packets that arrived, and of those of the sockets.
 
 /// Why a packet is dropped.
 #[derive(Debug, Clone, Copy, PartialEq, Eq)]
@@ -40,8 +40,10 @@ pub struct Counters {
     pub cookies_sent: u64,
     /// Acknowledgements of such answers that took a socket.
     pub cookies_taken: u64,
-    /// Acknowledgements that no socket takes, of no such answer, where they are sent.
+    /// Acknowledgements that no socket takes, of no such answer, while one may be acknowledged.
     pub cookies_wrong: u64,
+    /// Packets of sockets that were dropped, as they were longer than the MTU.
+    pub too_long: u64,
 }
 
 impl Counters {
@@ -58,6 +60,13 @@ impl Counters {
     /// One acknowledgement more was of no such answer.
     pub(crate) fn count_wrong(&mut self) {
         self.cookies_wrong = next(self.cookies_wrong);
+    }
+
+    /// One packet more of a socket was longer than the MTU, where one was.
+    pub(crate) fn count_lost(&mut self, lost: bool) {
+        if lost {
+            self.too_long = next(self.too_long);
+        }
     }
 
     /// One packet more was dropped for this reason.

@@ -2,7 +2,7 @@
 //! What a socket emits, into a buffer.
 
 use crate::proved::net_host::environment::Environment;
-use crate::proved::net_host::wire::{TooShort, Wire};
+use crate::proved::net_host::wire::{Sent, TooShort, Wire};
 use crate::proved::smoltcp_socket::wire::{IcmpRepr, IpAddress, IpRepr, TcpRepr, UdpRepr};
 use crate::proved::smoltcp_socket::{icmp, raw, tcp, udp};
 use crate::proved::sock_tcp::TsvalSource;
@@ -17,16 +17,17 @@ fn emit_segment<G: TsvalSource>(
     })
 }
 
-/// Lets the socket emit into the buffer. What its dispatch answered, and the length of the packet, or 0 where none
-/// went out; where the buffer is too short, the socket offers the packet again.
+/// Lets the socket emit into the buffer. What its dispatch answered, and what was sent; where the buffer is too short,
+/// the socket offers the packet again.
 pub(crate) fn emit_tcp<G: TsvalSource>(
     socket: &mut tcp::Socket<'_, G>,
     environment: &Environment,
     out: &mut [u8],
-) -> (Result<(), TooShort>, usize) {
-    let mut wire = Wire { environment, out, len: 0 };
+) -> (Result<(), TooShort>, Sent) {
+    let mut wire = Wire { environment, out, len: 0, lost: false };
     let answer = emit_segment(socket, &mut wire);
-    (answer, wire.len)
+    let sent = Sent { len: wire.len, lost: wire.lost };
+    (answer, sent)
 }
 
 // Lets the socket emit.
@@ -43,10 +44,11 @@ pub(crate) fn emit_udp(
     socket: &mut udp::Socket<'_>,
     environment: &Environment,
     out: &mut [u8],
-) -> (Result<(), TooShort>, usize) {
-    let mut wire = Wire { environment, out, len: 0 };
+) -> (Result<(), TooShort>, Sent) {
+    let mut wire = Wire { environment, out, len: 0, lost: false };
     let answer = emit_datagram(socket, &mut wire);
-    (answer, wire.len)
+    let sent = Sent { len: wire.len, lost: wire.lost };
+    (answer, sent)
 }
 
 // Lets the socket emit.
@@ -63,10 +65,11 @@ pub(crate) fn emit_icmp(
     socket: &mut icmp::Socket<'_>,
     environment: &Environment,
     out: &mut [u8],
-) -> (Result<(), TooShort>, usize) {
-    let mut wire = Wire { environment, out, len: 0 };
+) -> (Result<(), TooShort>, Sent) {
+    let mut wire = Wire { environment, out, len: 0, lost: false };
     let answer = emit_message(socket, &mut wire);
-    (answer, wire.len)
+    let sent = Sent { len: wire.len, lost: wire.lost };
+    (answer, sent)
 }
 
 // Lets the socket emit.
@@ -83,8 +86,9 @@ pub(crate) fn emit_raw(
     socket: &mut raw::Socket<'_>,
     environment: &Environment,
     out: &mut [u8],
-) -> (Result<(), TooShort>, usize) {
-    let mut wire = Wire { environment, out, len: 0 };
+) -> (Result<(), TooShort>, Sent) {
+    let mut wire = Wire { environment, out, len: 0, lost: false };
     let answer = emit_packet(socket, &mut wire);
-    (answer, wire.len)
+    let sent = Sent { len: wire.len, lost: wire.lost };
+    (answer, sent)
 }

@@ -3,7 +3,7 @@
 
 use crate::proved::host_cookies::SynCookies;
 use crate::proved::net_host::answered::hear_out_there;
-use crate::proved::net_host::cookies::{Course, Told, answer_of, course_of, room_at, syn_before};
+use crate::proved::net_host::cookies::{Course, Told, answer_of, course_of, opening_of, room_at, syn_before};
 use crate::proved::net_host::filing::connection_key;
 use crate::proved::net_host::limit::Limit;
 use crate::proved::net_host::replies::put_reply;
@@ -176,7 +176,8 @@ fn take_heard<C: Context, G: TsvalSource>(
             *reply = Some(answer_of(cx, room, number, ip, repr));
         }
         Course::Believed(class, number) => {
-            *reply = believe(sockets, cx, heard.again, class, number, ip, repr);
+            let opening = opening_of(repr);
+            *reply = believe(sockets, cx, heard.again, class, number, ip, &opening);
         }
     }
 }

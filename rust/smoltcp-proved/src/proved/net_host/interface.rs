@@ -54,12 +54,13 @@ impl<W: Words> Interface<W> {
     /// it. With SYN cookies (RFC 4987, section 3.6) a SYN for which only a socket that is kept listens is answered, and
     /// no socket takes it; the acknowledgement of that answer, within 64 seconds, takes a socket, which hears the SYN
     /// as it was told again, dispatches its SYN|ACK into nothing, as that has gone out, and then hears the
-    /// acknowledgement. One for no socket is answered by an RST (RFC 9293, section 3.10.7.1), unless it is one, at most
-    /// `ANSWERS_A_SECOND` times a second. A datagram goes to the first UDP socket that accepts it; of one that none
-    /// does the sender is told by an ICMP error (RFC 1122, section 4.1.3.1; RFC 4443, section 3.1). Errors go out for
-    /// packets to an own address that no raw socket takes, at most `ANSWERS_A_SECOND` times a second, and fit the MTU.
-    /// Of an ICMP message each ICMP socket that accepts it takes a copy, and an echo request is answered (RFC 792; RFC
-    /// 4443, section 4.2), by at most as many bytes as the MTU. No other socket changes.
+    /// acknowledgement, without the octet of a keep-alive (RFC 9293, section 3.8.4). None is believed once no SYN was
+    /// answered so for 128 seconds. One for no socket is answered by an RST (RFC 9293, section 3.10.7.1), unless it is
+    /// one, at most `ANSWERS_A_SECOND` times a second. A datagram goes to the first UDP socket that accepts it; of one
+    /// that none does the sender is told by an ICMP error (RFC 1122, section 4.1.3.1; RFC 4443, section 3.1). Errors go
+    /// out for packets to an own address that no raw socket takes, at most `ANSWERS_A_SECOND` times a second, and fit
+    /// the MTU. Of an ICMP message each ICMP socket that accepts it takes a copy, and an echo request is answered (RFC
+    /// 792; RFC 4443, section 4.2), by at most as many bytes as the MTU. No other socket changes.
     ///
     /// A TCP socket whose place is not `touched` afterwards is as it was, and was not touched before.
     ///
@@ -100,7 +101,11 @@ impl<W: Words> Interface<W> {
     /// each has looked at it as it is, so that what only the peer can end comes to its end in time. A socket that was
     /// not lent, took no segment and asks for a later moment is not asked, so a call costs no more for it; after
     /// another MTU or other guards each is asked once. A socket that is due and has nothing to say after all has had
-    /// its turn. Where `out` is too short for the packet, `TooShort`: its socket offers it again.
+    /// its turn.
+    ///
+    /// No packet is longer than the MTU, where less than 576 counts as that over IPv6: a longer one is dropped, as by
+    /// smoltcp's interface, and counted as `too_long`. Where `out` is too short for the packet, `TooShort`: its socket
+    /// offers it again. An `out` of the MTU's length, and of 576 bytes or more, never is.
     pub fn emit<G: TsvalSource>(
         &mut self,
         sockets: &mut SocketSet<'_, G>,
@@ -118,7 +123,7 @@ impl<W: Words> Interface<W> {
     ) -> Result<usize, TooShort> {
         self.set_now(now);
         sockets.heed(self.inner.environment.mtu, &self.guards);
-        speak(sockets, &mut self.turn, &self.inner, out)
+        speak(sockets, &mut self.turn, &mut self.counters, &self.inner, out)
     }
 }
 
@@ -186,6 +191,7 @@ impl<W> Interface<W> {
     }
 
     /// Sets whether SYNs may be answered without a socket, and how: from the next packet on. A new interface does not.
+    /// Of answers that went out before none is believed.
     pub fn set_syn_cookies(&mut self, cookies: Option<SynCookies>) {
         self.cookies = cookies;
     }

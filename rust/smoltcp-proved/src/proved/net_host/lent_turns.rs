@@ -8,7 +8,7 @@ use crate::proved::net_host::limits::Limits;
 use crate::proved::net_host::set::SocketSet;
 use crate::proved::net_host::sight::Sight;
 use crate::proved::net_host::slot::Slot;
-use crate::proved::net_host::wire::TooShort;
+use crate::proved::net_host::wire::{Sent, TooShort};
 use crate::proved::smoltcp_socket::time::Instant;
 use crate::proved::smoltcp_socket::wire::IpAddress;
 use crate::proved::sock_tcp::TsvalSource;
@@ -72,6 +72,6 @@ pub(crate) fn turn_there<G: TsvalSource>(
     i: usize,
     environment: &Environment,
     out: &mut [u8],
-) -> (Result<(), TooShort>, usize) {
+) -> (Result<(), TooShort>, Sent) {
     slots[i].take_turn(environment, out)
 }

@@ -48,7 +48,7 @@ impl<W: Words> Interface<W> {
     ///
     /// `packet` and `reply` are room for a packet each, whatever is in them. `TooShort` where one of them is shorter
     /// than the MTU, or `reply` than 100 bytes; nothing happens then. A packet of a socket that is longer than `packet`
-    /// stays with its socket, and counts as a turn: only a datagram can be, with an MTU below its own length.
+    /// stays with its socket, and counts as a turn: only one over IPv6 can be, with an MTU below 576.
     pub fn poll<D: Device, G: TsvalSource>(
         &mut self,
         sockets: &mut SocketSet<'_, G>,

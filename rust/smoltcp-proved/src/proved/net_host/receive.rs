@@ -3,7 +3,7 @@
 
 use crate::proved::host_context::Words;
 use crate::proved::net_host::arrival::{Kind, kind_in, refusal};
-use crate::proved::net_host::cookies::Course;
+use crate::proved::net_host::cookies::{Course, note_on};
 use crate::proved::net_host::copies::{copy_mail, copy_packet, hear_datagram_of};
 use crate::proved::net_host::counters::{Counters, Reason};
 use crate::proved::net_host::hearing::{Heard, hear_known, hear_sought};
@@ -250,9 +250,11 @@ impl<W: Words> Interface<W> {
         repr: &TcpRepr<'_>,
         out: &mut [u8],
     ) -> usize {
+        let now = self.inner.environment.now;
         let (heard, len) =
             hear_sought(sockets, &mut self.inner, &mut self.resets, &self.cookies, ip, repr, out);
         count_heard(&mut self.counters, &heard);
+        note_on(&mut self.cookies, heard.course, now);
         len
     }
 }

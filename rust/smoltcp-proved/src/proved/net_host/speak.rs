@@ -2,12 +2,13 @@
 //! Who speaks next.
 
 use crate::proved::host_context::Words;
+use crate::proved::net_host::counters::Counters;
 use crate::proved::net_host::environment::Environment;
 use crate::proved::net_host::inner::InterfaceInner;
 use crate::proved::net_host::lent_turns::turn_there;
 use crate::proved::net_host::looking::next_due;
 use crate::proved::net_host::set::SocketSet;
-use crate::proved::net_host::wire::TooShort;
+use crate::proved::net_host::wire::{Sent, TooShort};
 use crate::proved::smoltcp_socket::wire::IpAddress;
 use crate::proved::sock_tcp::TsvalSource;
 
@@ -18,38 +19,43 @@ fn turn_at<G: TsvalSource>(
     i: usize,
     environment: &Environment,
     out: &mut [u8],
-) -> (Result<(), TooShort>, usize) {
+) -> (Result<(), TooShort>, Sent) {
     sockets.lend(i);
     turn_there(&mut sockets.slots, i, environment, out)
 }
 
 /// The sockets that are due have their turns, from the place whose turn it is on, until one of them has written a
 /// packet: its length, or 0 where none is due. Before each turn guards look at the sockets that may want to be asked.
-/// `TooShort` where the packet does not fit; its socket offers it again.
+/// A packet that is longer than the MTU is dropped and counted. `TooShort` where the packet does not fit; its socket
+/// offers it again.
 pub(crate) fn speak<W: Words, G: TsvalSource>(
     sockets: &mut SocketSet<'_, G>,
     turn: &mut usize,
+    counters: &mut Counters,
     cx: &InterfaceInner<W>,
     out: &mut [u8],
 ) -> Result<usize, TooShort> {
-    speak_on(sockets, turn, cx, out)
+    speak_on(sockets, turn, counters, cx, out)
 }
 
 fn speak_on<W: Words, G: TsvalSource>(
     sockets: &mut SocketSet<'_, G>,
     turn: &mut usize,
+    counters: &mut Counters,
     cx: &InterfaceInner<W>,
     out: &mut [u8],
 ) -> Result<usize, TooShort> {
     while let Some(i) = next_due(sockets, cx, *turn) {
         *turn = i + 1;
-        let (answer, len) = turn_at(sockets, i, &cx.environment, out);
+        let (answer, sent) = turn_at(sockets, i, &cx.environment, out);
         if answer.is_err() {
             return Err(TooShort);
         }
+        let len = sent.len;
         if len > 0 {
             return Ok(len);
         }
+        counters.count_lost(sent.lost);
     }
     Ok(0)
 }

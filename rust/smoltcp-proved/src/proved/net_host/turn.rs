@@ -8,7 +8,7 @@ use crate::proved::net_host::limits::Limits;
 use crate::proved::net_host::sight::Sight;
 use crate::proved::net_host::slot::Slot;
 use crate::proved::net_host::watching::not_before;
-use crate::proved::net_host::wire::TooShort;
+use crate::proved::net_host::wire::{Sent, TooShort};
 use crate::proved::smoltcp_socket::time::{Duration, Instant};
 use crate::proved::smoltcp_socket::wire::IpAddress;
 use crate::proved::smoltcp_socket::{Context, PollAt, Socket};
@@ -16,6 +16,8 @@ use crate::proved::sock_tcp::TsvalSource;
 
 // The least time: a socket that may not speak at a moment waits so long.
 const NEXT: Duration = Duration { micros: 1 };
+
+const NOTHING_SENT: Sent = Sent { len: 0, lost: false };
 
 impl<'a, G: TsvalSource> Slot<'a, G> {
     /// The guard of a TCP socket looks at it, as `Guard::watch`.
@@ -81,20 +83,20 @@ impl<'a, G: TsvalSource> Slot<'a, G> {
         &mut self,
         environment: &Environment,
         out: &mut [u8],
-    ) -> (Result<(), TooShort>, usize) {
+    ) -> (Result<(), TooShort>, Sent) {
         if !self.guard.take_turn(environment.moment()) {
-            return (Ok(()), 0);
+            return (Ok(()), NOTHING_SENT);
         }
         self.dispatch(environment, out)
     }
 
-    fn dispatch(&mut self, environment: &Environment, out: &mut [u8]) -> (Result<(), TooShort>, usize) {
+    fn dispatch(&mut self, environment: &Environment, out: &mut [u8]) -> (Result<(), TooShort>, Sent) {
         match &mut self.socket {
             Some(Socket::Tcp(tcp)) => emit_tcp(tcp, environment, out),
             Some(Socket::Udp(udp)) => emit_udp(udp, environment, out),
             Some(Socket::Icmp(icmp)) => emit_icmp(icmp, environment, out),
             Some(Socket::Raw(raw)) => emit_raw(raw, environment, out),
-            None => (Ok(()), 0),
+            None => (Ok(()), NOTHING_SENT),
         }
     }
 }

@@ -21,10 +21,31 @@ pub struct Wire<'w> {
     pub(crate) out: &'w mut [u8],
     // the length of the packet that was written, or 0
     pub(crate) len: usize,
+    // whether a packet was dropped, as it was longer than the MTU
+    pub(crate) lost: bool,
+}
+
+/// What a socket sent in its turn: the length of its packet, or 0 where none was written, and whether one was dropped,
+/// as it was longer than the MTU.
+#[derive(Debug, Clone, Copy, PartialEq, Eq)]
+pub(crate) struct Sent {
+    pub(crate) len: usize,
+    pub(crate) lost: bool,
 }
 
 // The longest TCP header, in bytes (RFC 9293, section 3.1).
 const LONGEST_HEADER: usize = 60;
+
+// Over IPv6 a smaller MTU counts as this: its links carry 1280 bytes (RFC 8200, section 5).
+const LEAST_IPV6_MTU: usize = 576;
+
+// The largest packet with this header.
+fn largest(ip: &IpRepr, mtu: usize) -> usize {
+    match ip {
+        IpRepr::Ipv4(_) => mtu,
+        IpRepr::Ipv6(_) => mtu.max(LEAST_IPV6_MTU),
+    }
+}
 
 // Whether the header counts the segment.
 fn is_counted(ip: &IpRepr, repr: &TcpRepr<'_>, header_len: usize) -> bool {
@@ -48,9 +69,15 @@ fn counts_datagram(ip: &IpRepr, payload: &[u8]) -> bool {
 }
 
 impl<'w> Wire<'w> {
-    /// Writes an IP packet with this payload at the beginning of the buffer, where it fits.
+    /// Writes an IP packet with this payload at the beginning of the buffer. One that is longer than the MTU is dropped;
+    /// `TooShort` where the buffer has no room for another.
     pub(crate) fn write_raw(&mut self, ip: &IpRepr, payload: &[u8]) -> Result<(), TooShort> {
-        if self.out.len() < ip.header_len() || self.out.len() - ip.header_len() < payload.len() {
+        let room = largest(ip, self.environment.mtu);
+        if room < ip.header_len() || room - ip.header_len() < payload.len() {
+            self.lost = true;
+            return Ok(());
+        }
+        if self.out.len() < ip.header_len() + payload.len() {
             return Err(TooShort);
         }
         let caps = self.environment.checksums;
@@ -58,12 +85,14 @@ impl<'w> Wire<'w> {
         Ok(())
     }
 
-    /// Writes the message as an IP packet at the beginning of the buffer, where it fits.
+    /// Writes the message as an IP packet at the beginning of the buffer. One that is longer than the MTU is dropped;
+    /// `TooShort` where the buffer has no room for another.
     pub(crate) fn write_message(&mut self, ip: &IpRepr, repr: &IcmpRepr<'_>) -> Result<(), TooShort> {
-        if !counts_message(ip, repr)
-            || self.out.len() < ip.header_len()
-            || self.out.len() - ip.header_len() < ip.payload_len()
-        {
+        if !counts_message(ip, repr) || self.is_too_long(ip) {
+            self.lost = true;
+            return Ok(());
+        }
+        if self.out.len() < ip.header_len() + ip.payload_len() {
             return Err(TooShort);
         }
         let caps = self.environment.checksums;
@@ -71,14 +100,19 @@ impl<'w> Wire<'w> {
         Ok(())
     }
 
-    /// Writes the datagram as an IP packet at the beginning of the buffer, where it fits.
+    /// Writes the datagram as an IP packet at the beginning of the buffer. One that is longer than the MTU is dropped;
+    /// `TooShort` where the buffer has no room for another.
     pub(crate) fn write_datagram(
         &mut self,
         ip: &IpRepr,
         repr: &UdpRepr,
         payload: &[u8],
     ) -> Result<(), TooShort> {
-        if !counts_datagram(ip, payload) || self.out.len() < ip.header_len() + ip.payload_len() {
+        if !counts_datagram(ip, payload) || self.is_too_long(ip) {
+            self.lost = true;
+            return Ok(());
+        }
+        if self.out.len() < ip.header_len() + ip.payload_len() {
             return Err(TooShort);
         }
         let caps = self.environment.checksums;
@@ -86,15 +120,26 @@ impl<'w> Wire<'w> {
         Ok(())
     }
 
-    /// Writes the segment as an IP packet at the beginning of the buffer, where it fits.
+    /// Writes the segment as an IP packet at the beginning of the buffer. One that is longer than the MTU is dropped;
+    /// `TooShort` where the buffer has no room for another.
     pub(crate) fn write_segment(&mut self, ip: &IpRepr, repr: &TcpRepr<'_>) -> Result<(), TooShort> {
         let header_len = repr.header_len();
-        if !is_counted(ip, repr, header_len) || self.out.len() < ip.header_len() + ip.payload_len() {
+        if !is_counted(ip, repr, header_len) || self.is_too_long(ip) {
+            self.lost = true;
+            return Ok(());
+        }
+        if self.out.len() < ip.header_len() + ip.payload_len() {
             return Err(TooShort);
         }
         let caps = self.environment.checksums;
         self.len = put_segment_with(ip, repr, header_len, self.out, &caps);
         Ok(())
+    }
+
+    // Whether the MTU has no room for a packet with this header.
+    fn is_too_long(&self, ip: &IpRepr) -> bool {
+        let room = largest(ip, self.environment.mtu);
+        room < ip.header_len() || room - ip.header_len() < ip.payload_len()
     }
 }
 
