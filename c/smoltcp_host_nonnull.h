@@ -18,7 +18,7 @@ struct smoltcp_socket_at { uint8_t *at; };
 /* The sizes that the library's structs have, and those of a host. */
 #if defined(__STDC_VERSION__) && __STDC_VERSION__ >= 201112L
 _Static_assert(sizeof(struct smoltcp_cidr) == 22, "cidr");
-_Static_assert(sizeof(struct smoltcp_counters) == 96, "counters");
+_Static_assert(sizeof(struct smoltcp_counters) == 104, "counters");
 _Static_assert(sizeof(struct smoltcp_guards) == 32, "guards");
 _Static_assert(sizeof(struct smoltcp_host_handle) == 8, "host_handle");
 _Static_assert(sizeof(struct smoltcp_key) == 32, "key");
