@@ -133,10 +133,9 @@ fn twenty_sockets_come_and_go() {
             iface.poll_egress(now, &mut device, &mut sockets);
             iface.poll_maintenance(now);
             for (_, socket) in sockets.iter_mut() {
-                if let Socket::Tcp(tcp) = socket {
-                    if tcp.can_send() && tcp.send_queue() == 0 && tcp.recv_queue() == 0 {
-                        tcp.send_slice(b"hello").expect("sends");
-                    }
+                let Socket::Tcp(tcp) = socket else { continue };
+                if tcp.can_send() && tcp.send_queue() == 0 && tcp.recv_queue() == 0 {
+                    tcp.send_slice(b"hello").expect("sends");
                 }
             }
             now += iface.poll_delay(now, &sockets).unwrap_or(Duration::ZERO).min(Duration::from_millis(10));

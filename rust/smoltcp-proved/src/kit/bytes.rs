@@ -40,7 +40,7 @@ mod tests {
         assert_eq!((le32(&bytes, 1), be32(&bytes, 1)), (0x0403_0201, 0x0102_0304));
         assert_eq!(le64(&bytes, 1), 0x0807_0605_0403_0201);
         let mut many = [0xff; 40];
-        many[39] = 0;
+        many[38] = 0;
         assert_eq!(four_le64(&many, 7), 3 * u128::from(u64::MAX) + 0x00ff_ffff_ffff_ffff);
     }
 
