@@ -1,9 +1,10 @@
 // Made from crates/tcp_laws/src/windows.rt by rust/translate: change it there.
 //! Laws on the windows that a socket tells and hears, and on the numbers that it sends, by the RFCs' rules.
 
-/// The right edge of the receive window that a segment tells does not go back, but by less than one unit of the window
-/// field (RFC 9293, section 3.8.6; RFC 7323, section 2.4): after any list of calls on a new socket over any two buffers
-/// of at most 2^30 bytes, with any segments that `accepts` lets in.
+/// The right edge of the receive window that a segment tells does not go back behind the one that was told last, but by
+/// less than one unit of the window field (RFC 9293, section 3.8.6; RFC 7323, section 2.4): after any list of calls on
+/// a new socket over any two buffers of at most 2^30 bytes, with any segments that `accepts` lets in. What a keep-alive
+/// or a probe of the window tells does not count as told: a later segment may tell less than that.
 pub fn right_edge_stays() {}
 
 /// Whatever window was told once is honored (RFC 7323, section 2.4): after any such list, and any further calls on the
