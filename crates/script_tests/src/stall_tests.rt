@@ -168,7 +168,11 @@ fn each_stall_goes_on_by_the_rules_of_the_rfcs(rt: HostRuntime) -> Result<(), Fa
     let stalls = [
         (64, (OPENING, FIN, FIN_GOES), (0, State::CloseWait)),
         (4, (OPENING, WINDOW, WINDOW_GOES), (7, State::Established)),
-        (8, (OPENING, PROBE_BY_RFC, PROBE_GOES), (12, State::Established)),
+        (
+            8,
+            (OPENING, PROBE_BY_RFC, PROBE_GOES),
+            (12, State::Established),
+        ),
         (64, ("", SYN, SYN_GOES), (0, State::Established)),
         (4, (OPENING, LAST_ACK, LAST_ACK_GOES), (7, State::Closed)),
         (
