@@ -96,8 +96,8 @@ fn with_cookies<'a>(
     Ok(host)
 }
 
-// The client opens a connection to the server by a cookie, and says a byte, of which it hears that it came. What it says
-// of itself 20 seconds later, which is a keep-alive, goes to a host that is the server begun anew, under its key; `heard`
+// The client opens a connection to the server by a cookie, and sends a byte, which is acknowledged. What it sends of its
+// own 20 seconds later, which is a keep-alive, goes to a host that is the server begun anew, under its key; `heard`
 // says whether that has answered the SYN, too.
 fn keeps_alive(
     client: &mut OneSocket<'_>,

@@ -67,7 +67,7 @@ syn_before s class =
     }
 
 -- An acknowledgement that is believed, as its socket hears it. A single octet without PSH is not taken with it: a
--- keep-alive of a connection that is there no more has such (RFC 9293, section 3.8.4), and else the peer sends it again.
+-- keep-alive of a connection that is there no more has such (RFC 9293, section 3.8.4); else the peer sends it again.
 abbrev pub is_none : TcpControl → Bool
 is_none control.None = true
 is_none _ = false

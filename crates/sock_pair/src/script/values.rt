@@ -64,8 +64,8 @@ pub fn number(word: &[u8], most: usize) -> Option<usize>
     }
 }
 
-/// The index that 1 to 10 decimal digits write; none for any other word. Where a `usize` has 32 bits, its greatest stands
-/// for all that are greater.
+/// The index that 1 to 10 decimal digits write; none for any other word. Where a `usize` has 32 bits, its greatest
+/// stands for all that are greater.
 #[tactic(auto, unfolding(crate::specs::ScriptWords::number_of))]
 pub fn index(word: &[u8]) -> Option<usize>
     ensures { result ≡ number_of 9999999999 word.now }

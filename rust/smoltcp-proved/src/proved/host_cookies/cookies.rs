@@ -36,8 +36,8 @@ impl SynCookies {
         self.answered = Some(micros);
     }
 
-    /// Whether an acknowledgement of an answer may come at this moment, in microseconds: the last one that was noted went
-    /// out up to 64 seconds before the step of time that this moment lies in, or later.
+    /// Whether an acknowledgement of an answer may come at this time, in microseconds: the last one that was noted went
+    /// out up to 64 seconds before the step of time that this lies in, or later.
     pub fn awaits(&self, micros: i64) -> bool {
         match self.answered {
             None => false,

@@ -69,7 +69,7 @@ fn counts_datagram(ip: &IpRepr, payload: &[u8]) -> bool {
 }
 
 impl<'w> Wire<'w> {
-    /// Writes an IP packet with this payload at the beginning of the buffer. One that is longer than the MTU is dropped;
+    /// Writes an IP packet with this payload at the beginning of the buffer. One longer than the MTU is dropped;
     /// `TooShort` where the buffer has no room for another.
     pub(crate) fn write_raw(&mut self, ip: &IpRepr, payload: &[u8]) -> Result<(), TooShort> {
         let room = largest(ip, self.environment.mtu);

@@ -42,8 +42,8 @@ pub fn number(word: &[u8], most: usize) -> Option<usize> {
     if value <= most as u64 { Some(value as usize) } else { None }
 }
 
-/// The index that 1 to 10 decimal digits write; none for any other word. Where a `usize` has 32 bits, its greatest stands
-/// for all that are greater.
+/// The index that 1 to 10 decimal digits write; none for any other word. Where a `usize` has 32 bits, its greatest
+/// stands for all that are greater.
 pub fn index(word: &[u8]) -> Option<usize> {
     if !is_number(word) {
         return None;
