@@ -14,21 +14,15 @@ static struct tun tun;
 static struct smoltcp_socket_id id;
 static uint8_t rx[ROOM], tx[4096];
 
-/* Adds a socket, and opens a connection from a port of its own. */
+/* Adds a socket, and opens a connection from an address and a port that the host chooses. */
 static int64_t open_connection(const struct smoltcp_endpoint *server) {
-    struct smoltcp_endpoint local = smoltcp_any(tun_port());
-    struct smoltcp_context context;
-    struct smoltcp_tcp s, *at;
+    struct smoltcp_tcp s;
     int64_t answer = smoltcp_tcp_init(&s, rx, sizeof rx, tx, sizeof tx);
     if (answer != SMOLTCP_OK) return answer;
     smoltcp_tcp_set_rules(&s, SMOLTCP_RULES_RFC); /* for peers that are not smoltcp, and paths that lose */
     smoltcp_tcp_set_keep_alive(&s, 15 * (int64_t)SECOND);
     answer = smoltcp_host_add_tcp(&tun.host, &s, &id);
-    if (answer != SMOLTCP_OK) return answer;
-    /* the context first: a pointer to a socket lives until the next call on the host */
-    smoltcp_host_context(&tun.host, &server->addr, &context);
-    answer = smoltcp_host_tcp(&tun.host, &id, &at);
-    return answer == SMOLTCP_OK ? smoltcp_tcp_connect(at, &context, server, &local) : answer;
+    return answer == SMOLTCP_OK ? smoltcp_host_connect(&tun.host, &id, server, NULL) : answer;
 }
 
 /* Sends the request once the connection is open. */

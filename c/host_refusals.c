@@ -166,6 +166,83 @@ static void settings(void) {
     want("release", smoltcp_host_release(&host), SMOLTCP_OK);
 }
 
+/* A host chooses addresses and ports, and refuses what is in use (RFC 6056, section 3.3.1). */
+static void connections(void) {
+    static uint8_t more[2][ROOM];
+    struct smoltcp_endpoint server = {{4, {10, 0, 0, 2}, {0}}, 80}, mine, own = {{0, {0}, {0}}, 0}, nobody = server;
+    struct smoltcp_socket_id a, b, none = {2, 1};
+    struct smoltcp_tcp *s, second;
+    uint8_t packet[MTU];
+    make_host(3);
+    make_tcp();
+    want("tcp", smoltcp_tcp_init(&second, more[0], ROOM, more[1], ROOM), SMOLTCP_OK);
+    want("add", smoltcp_host_add_tcp(&host, &tcp, &a), SMOLTCP_OK);
+    want("add", smoltcp_host_add_tcp(&host, &second, &b), SMOLTCP_OK);
+    want("connect", smoltcp_host_connect(&host, &a, &server, NULL), SMOLTCP_OK);
+    want("open", smoltcp_host_connect(&host, &a, &server, NULL), SMOLTCP_ERROR_STATE);
+    want("lent", smoltcp_host_tcp(&host, &a, &s), SMOLTCP_OK);
+    want("local", smoltcp_tcp_local_endpoint(s, &mine), 1);
+    want("the own address", mine.addr.version == 4 && mine.addr.v4[3] == 1 && mine.port >= 49152, 1);
+    want("in use", smoltcp_host_connect(&host, &b, &server, &mine), SMOLTCP_ERROR_IN_USE);
+    nobody.port = 0;
+    want("no port", smoltcp_host_connect(&host, &b, &nobody, NULL), SMOLTCP_ERROR_ADDRESS);
+    own.addr = smoltcp_ipv4(10, 0, 0, 3);
+    want("foreign", smoltcp_host_connect(&host, &b, &server, &own), SMOLTCP_ERROR_ADDRESS);
+    nobody = server;
+    nobody.addr.version = 6;
+    want("no address of that version", smoltcp_host_connect(&host, &b, &nobody, NULL), SMOLTCP_ERROR_ADDRESS);
+    want("no socket", smoltcp_host_connect(&host, &none, &server, NULL), SMOLTCP_ERROR_SOCKET);
+    own.addr = smoltcp_ipv4(10, 0, 0, 1);
+    own.port = mine.port == 50000 ? 50001 : 50000;
+    want("a given one", smoltcp_host_connect(&host, &b, &server, &own), SMOLTCP_OK);
+    want("a SYN", smoltcp_host_emit(&host, 1, packet, MTU) > 40 && packet[33] == 2, 1);
+    want("a SYN", smoltcp_host_emit(&host, 1, packet, MTU) > 40 && packet[33] == 2, 1);
+    want("drop", smoltcp_host_drop_tcp(&host, &a), SMOLTCP_OK);
+    want("due", smoltcp_host_poll_at(&host) <= 1, 1);
+    want("short", smoltcp_host_emit(&host, 1, packet, 39), SMOLTCP_ERROR_ROOM);
+    want("an RST", smoltcp_host_emit(&host, 1, packet, MTU) == 40 && (packet[33] & 4) != 0, 1);
+    want("from there", packet[20] * 256 + packet[21] == mine.port && packet[19] == 2, 1);
+    want("once", smoltcp_host_emit(&host, 1, packet, MTU), 0);
+    want("gone", smoltcp_host_drop_tcp(&host, &a), SMOLTCP_ERROR_SOCKET);
+    want("drop", smoltcp_host_drop_tcp(&host, &b), SMOLTCP_OK);
+    want("release", smoltcp_host_release(&host), SMOLTCP_OK);
+}
+
+static void bindings(void) {
+    struct smoltcp_endpoint at = {{0, {0}, {0}}, 0};
+    struct smoltcp_socket_id a, none = {1, 1};
+    int64_t port;
+    make_host(2);
+    make_others();
+    want("add", smoltcp_host_add_udp(&host, &udp, &a), SMOLTCP_OK);
+    port = smoltcp_host_bind_udp(&host, &a, NULL);
+    want("a port of programs", port >= 49152 && port <= 65535, 1);
+    want("bound", smoltcp_host_bind_udp(&host, &a, NULL), SMOLTCP_ERROR_STATE);
+    at.port = (uint16_t)port;
+    want("in use", smoltcp_host_bind_udp(&host, &none, &at), SMOLTCP_ERROR_IN_USE);
+    at.port = 7;
+    want("no socket", smoltcp_host_bind_udp(&host, &none, &at), SMOLTCP_ERROR_SOCKET);
+    want("remove", smoltcp_host_remove_udp(&host, &a, &udp), SMOLTCP_OK);
+    want("release", smoltcp_udp_release(&udp, NULL, NULL), SMOLTCP_OK);
+    want("release", smoltcp_host_release(&host), SMOLTCP_OK);
+}
+
+static void addresses(void) {
+    struct smoltcp_cidr next = {{4, {10, 0, 0, 7}, {0}}, 24}, unset = {{0, {0}, {0}}, 0};
+    struct smoltcp_address peer = smoltcp_ipv4(10, 0, 0, 2);
+    struct smoltcp_context cx;
+    size_t slots = 0;
+    make_host(2);
+    want("capacity", smoltcp_host_capacity(&host, &slots) == SMOLTCP_OK && slots == 2, 1);
+    want("no address", smoltcp_host_set_addresses(&host, &unset, 1), SMOLTCP_ERROR_ADDRESS);
+    want("context", smoltcp_host_context(&host, &peer, &cx) == SMOLTCP_OK && cx.v4[3] == 1, 1);
+    want("another", smoltcp_host_set_addresses(&host, &next, 1), SMOLTCP_OK);
+    want("context", smoltcp_host_context(&host, &peer, &cx) == SMOLTCP_OK && cx.v4[3] == 7, 1);
+    want("none", smoltcp_host_set_addresses(&host, NULL, 0), SMOLTCP_OK);
+    want("context", smoltcp_host_context(&host, &peer, &cx) == SMOLTCP_OK && cx.v4[0] == 0, 1);
+    want("release", smoltcp_host_release(&host), SMOLTCP_OK);
+}
+
 #define NULLS(call) want(#call, call, SMOLTCP_ERROR_NULL)
 
 /* Of each call, every pointer in turn. */
@@ -175,6 +252,7 @@ static void nulls(void) {
     struct smoltcp_guards limits = {0, 0, 0, 0};
     struct smoltcp_counters counters;
     struct smoltcp_context cx;
+    struct smoltcp_endpoint at = {{0, {0}, {0}}, 80};
     uint8_t packet[MTU];
     size_t place;
     NULLS(smoltcp_host_init((struct smoltcp_host *)NULL, 1, &address, 1, &key));
@@ -196,7 +274,7 @@ static void nulls(void) {
     NULLS(smoltcp_host_counters(NULL, &counters));
     NULLS(smoltcp_host_counters(&host, NULL));
     NULLS(smoltcp_host_receive(NULL, 0, packet, 0, packet, MTU));
-    NULLS(smoltcp_host_receive(&host, 0, NULL, 0, packet, MTU));
+    NULLS(smoltcp_host_receive(&host, 0, NULL, 1, packet, MTU));
     NULLS(smoltcp_host_receive(&host, 0, packet, 0, NULL, MTU));
     NULLS(smoltcp_host_emit(NULL, 0, packet, MTU));
     NULLS(smoltcp_host_emit(&host, 0, NULL, MTU));
@@ -204,6 +282,17 @@ static void nulls(void) {
     NULLS(smoltcp_host_context(NULL, &address.address, &cx));
     NULLS(smoltcp_host_context(&host, NULL, &cx));
     NULLS(smoltcp_host_context(&host, &address.address, NULL));
+    NULLS(smoltcp_host_connect(NULL, &id, &at, NULL));
+    NULLS(smoltcp_host_connect(&host, NULL, &at, NULL));
+    NULLS(smoltcp_host_connect(&host, &id, NULL, NULL));
+    NULLS(smoltcp_host_bind_udp(NULL, &id, NULL));
+    NULLS(smoltcp_host_bind_udp(&host, NULL, NULL));
+    NULLS(smoltcp_host_drop_tcp(NULL, &id));
+    NULLS(smoltcp_host_drop_tcp(&host, NULL));
+    NULLS(smoltcp_host_set_addresses(NULL, &address, 1));
+    NULLS(smoltcp_host_set_addresses(&host, NULL, 1));
+    NULLS(smoltcp_host_capacity(NULL, &place));
+    NULLS(smoltcp_host_capacity(&host, NULL));
     NULLS(smoltcp_host_at(NULL, 0, &id));
     NULLS(smoltcp_host_at(&host, 0, NULL));
     NULLS(smoltcp_host_touched(NULL, 0, &place));
@@ -246,6 +335,9 @@ int main(void) {
         names();
         guards();
         settings();
+        connections();
+        bindings();
+        addresses();
         nulls();
         nulls_of_sockets();
     }

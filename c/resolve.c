@@ -16,11 +16,16 @@ static struct smoltcp_udp_place rx_places[PLACES], tx_places[PLACES];
 static struct smoltcp_icmp_place error_places[PLACES];
 static uint8_t rx[ROOM], tx[ROOM], errors_rx[ROOM];
 
-static int add_socket(const struct smoltcp_endpoint *at) {
+/* A socket at a port that the host chooses, which is written into at. */
+static int add_socket(struct smoltcp_endpoint *at) {
     struct smoltcp_udp_buffer in = {rx_places, PLACES, rx, ROOM}, out = {tx_places, PLACES, tx, ROOM};
     struct smoltcp_udp s;
-    return smoltcp_udp_init(&s, in, out) == SMOLTCP_OK && smoltcp_udp_bind(&s, at) == SMOLTCP_OK
-           && smoltcp_host_add_udp(&tun.host, &s, &id) == SMOLTCP_OK;
+    int64_t port;
+    if (smoltcp_udp_init(&s, in, out) != SMOLTCP_OK) return 0;
+    if (smoltcp_host_add_udp(&tun.host, &s, &id) != SMOLTCP_OK) return 0;
+    port = smoltcp_host_bind_udp(&tun.host, &id, NULL);
+    *at = smoltcp_any((uint16_t)port);
+    return port > 0;
 }
 
 /* A socket for the ICMP errors about what is sent by UDP from this port; it sends nothing. */
@@ -117,7 +122,7 @@ static size_t answered(const struct smoltcp_endpoint *server, const uint8_t *ask
 
 int main(int argc, char **argv) {
     uint8_t asked[300], data[TUN_MTU];
-    struct smoltcp_endpoint server, own = smoltcp_any(tun_port());
+    struct smoltcp_endpoint server, own;
     size_t len, n = 0;
     int attempt;
     if (argc != 5 && argc != 6) return fprintf(stderr, "usage: resolve DEVICE OWN SERVER NAME [A|AAAA]\n"), 2;

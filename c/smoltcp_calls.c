@@ -1,5 +1,6 @@
 /* The calls of smoltcp_socket.h as symbols of the library: their bodies are those that a program may inline. */
 #define SMOLTCP_NO_INLINE
+#define SMOLTCP_LIBRARY
 #include "smoltcp_socket.h"
 #include "smoltcp_nonnull.h"
 

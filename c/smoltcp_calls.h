@@ -1,8 +1,6 @@
 /* Bodies of the calls of smoltcp_socket.h that do more than hand on. */
 
-/* Where memory lies, as the library is told it: also of what a call only reads. */
-#define SMOLTCP_AT(place) ((uint8_t *)(uintptr_t)(place))
-
+#include "smoltcp_marks.h"
 
 SMOLTCP_INLINE struct smoltcp_address smoltcp_ipv4(uint8_t a, uint8_t b, uint8_t c, uint8_t d) {
     struct smoltcp_address addr = {4, {a, b, c, d}, {0}};
@@ -31,6 +29,7 @@ SMOLTCP_INLINE const char *smoltcp_strerror(int64_t answer) {
     case SMOLTCP_ERROR_EMPTY: return "no packet waits";
     case SMOLTCP_ERROR_MEMORY: return "the heap has too little memory";
     case SMOLTCP_ERROR_SOCKET: return "the host has no socket of this name and kind";
+    case SMOLTCP_ERROR_IN_USE: return "another socket has the connection or the port, or no port is free";
     default: return "no answer of any call";
     }
 }
@@ -114,17 +113,6 @@ SMOLTCP_INLINE int64_t (smoltcp_tcp_init)(struct smoltcp_tcp *s, uint8_t *rx, si
     return smoltcp_tcp_init_sized(s, sizeof *s, rx, rx_len, tx, tx_len);
 }
 
-SMOLTCP_INLINE int64_t smoltcp_tcp_release(struct smoltcp_tcp *s, uint8_t **rx, uint8_t **tx) {
-    struct smoltcp_tcp_handle h = {SMOLTCP_AT(s)};
-    struct smoltcp_bytes of_rx = {NULL, 0}, of_tx = {NULL, 0};
-    int64_t answer;
-    if (!s) return SMOLTCP_ERROR_NULL;
-    answer = smoltcp_tcp_release_nonnull(&h, &of_rx, &of_tx);
-    if (answer == SMOLTCP_OK && rx) *rx = of_rx.at;
-    if (answer == SMOLTCP_OK && tx) *tx = of_tx.at;
-    return answer;
-}
-
 SMOLTCP_INLINE int64_t smoltcp_tcp_peek(const struct smoltcp_tcp *s, size_t size, const uint8_t **at) {
     struct smoltcp_tcp_handle h = {SMOLTCP_AT(s)};
     struct smoltcp_place place = {NULL, 0};
@@ -178,29 +166,6 @@ SMOLTCP_INLINE int64_t smoltcp_udp_init_sized(struct smoltcp_udp *s, size_t size
 SMOLTCP_INLINE int64_t (smoltcp_udp_init)(struct smoltcp_udp *s, struct smoltcp_udp_buffer rx,
                                           struct smoltcp_udp_buffer tx) {
     return smoltcp_udp_init_sized(s, sizeof *s, rx, tx);
-}
-
-SMOLTCP_INLINE int64_t smoltcp_udp_release(struct smoltcp_udp *s, struct smoltcp_udp_buffer *rx,
-                                           struct smoltcp_udp_buffer *tx) {
-    struct smoltcp_udp_handle h = {SMOLTCP_AT(s)};
-    struct smoltcp_places rx_places = {NULL, 0}, tx_places = {NULL, 0};
-    struct smoltcp_bytes of_rx = {NULL, 0}, of_tx = {NULL, 0};
-    int64_t answer;
-    if (!s) return SMOLTCP_ERROR_NULL;
-    answer = smoltcp_udp_release_nonnull(&h, &rx_places, &of_rx, &tx_places, &of_tx);
-    if (rx) {
-        rx->places = (struct smoltcp_udp_place *)(void *)rx_places.at;
-        rx->count = rx_places.len;
-        rx->bytes = of_rx.at;
-        rx->len = of_rx.len;
-    }
-    if (tx) {
-        tx->places = (struct smoltcp_udp_place *)(void *)tx_places.at;
-        tx->count = tx_places.len;
-        tx->bytes = of_tx.at;
-        tx->len = of_tx.len;
-    }
-    return answer;
 }
 
 SMOLTCP_INLINE int64_t smoltcp_udp_send_place(struct smoltcp_udp *s, const struct smoltcp_udp_metadata *meta,
@@ -273,29 +238,6 @@ SMOLTCP_INLINE int64_t (smoltcp_raw_init)(struct smoltcp_raw *s, const struct sm
     return smoltcp_raw_init_sized(s, sizeof *s, filter, rx, tx);
 }
 
-SMOLTCP_INLINE int64_t smoltcp_raw_release(struct smoltcp_raw *s, struct smoltcp_raw_buffer *rx,
-                                           struct smoltcp_raw_buffer *tx) {
-    struct smoltcp_raw_handle h = {SMOLTCP_AT(s)};
-    struct smoltcp_places rx_places = {NULL, 0}, tx_places = {NULL, 0};
-    struct smoltcp_bytes of_rx = {NULL, 0}, of_tx = {NULL, 0};
-    int64_t answer;
-    if (!s) return SMOLTCP_ERROR_NULL;
-    answer = smoltcp_raw_release_nonnull(&h, &rx_places, &of_rx, &tx_places, &of_tx);
-    if (rx) {
-        rx->places = (struct smoltcp_raw_place *)(void *)rx_places.at;
-        rx->count = rx_places.len;
-        rx->bytes = of_rx.at;
-        rx->len = of_rx.len;
-    }
-    if (tx) {
-        tx->places = (struct smoltcp_raw_place *)(void *)tx_places.at;
-        tx->count = tx_places.len;
-        tx->bytes = of_tx.at;
-        tx->len = of_tx.len;
-    }
-    return answer;
-}
-
 SMOLTCP_INLINE int64_t smoltcp_raw_ip_protocol(const struct smoltcp_raw *s) {
     int64_t answer = smoltcp_raw_ask(s, SMOLTCP_ASK_IP_PROTOCOL);
     return s && answer < 0 ? (int64_t)SMOLTCP_RAW_ANY : answer;
@@ -366,29 +308,6 @@ SMOLTCP_INLINE int64_t (smoltcp_icmp_init)(struct smoltcp_icmp *s, struct smoltc
     return smoltcp_icmp_init_sized(s, sizeof *s, rx, tx);
 }
 
-SMOLTCP_INLINE int64_t smoltcp_icmp_release(struct smoltcp_icmp *s, struct smoltcp_icmp_buffer *rx,
-                                            struct smoltcp_icmp_buffer *tx) {
-    struct smoltcp_icmp_handle h = {SMOLTCP_AT(s)};
-    struct smoltcp_places rx_places = {NULL, 0}, tx_places = {NULL, 0};
-    struct smoltcp_bytes of_rx = {NULL, 0}, of_tx = {NULL, 0};
-    int64_t answer;
-    if (!s) return SMOLTCP_ERROR_NULL;
-    answer = smoltcp_icmp_release_nonnull(&h, &rx_places, &of_rx, &tx_places, &of_tx);
-    if (rx) {
-        rx->places = (struct smoltcp_icmp_place *)(void *)rx_places.at;
-        rx->count = rx_places.len;
-        rx->bytes = of_rx.at;
-        rx->len = of_rx.len;
-    }
-    if (tx) {
-        tx->places = (struct smoltcp_icmp_place *)(void *)tx_places.at;
-        tx->count = tx_places.len;
-        tx->bytes = of_tx.at;
-        tx->len = of_tx.len;
-    }
-    return answer;
-}
-
 SMOLTCP_INLINE int64_t smoltcp_icmp_send_place(struct smoltcp_icmp *s, const struct smoltcp_address *remote,
                                                size_t size, uint8_t **at) {
     struct smoltcp_icmp_handle h = {SMOLTCP_AT(s)};
@@ -419,3 +338,95 @@ SMOLTCP_INLINE int64_t smoltcp_icmp_poll_at(const struct smoltcp_icmp *s, const 
     if (answer < 0) return INT64_MIN;
     return answer == 0 ? at : INT64_MAX;
 }
+
+#ifdef SMOLTCP_LIBRARY /* symbols alone: what is rare, and looks for marks */
+
+SMOLTCP_INLINE int64_t smoltcp_tcp_release(struct smoltcp_tcp *s, uint8_t **rx, uint8_t **tx) {
+    struct smoltcp_tcp_handle h = {SMOLTCP_AT(s)};
+    struct smoltcp_bytes of_rx = {NULL, 0}, of_tx = {NULL, 0};
+    int64_t answer;
+    if (!s) return SMOLTCP_ERROR_NULL;
+    if (smoltcp_is_empty(s, sizeof *s)) return SMOLTCP_ERROR_STATE;
+    answer = smoltcp_tcp_release_nonnull(&h, &of_rx, &of_tx);
+    if (answer == SMOLTCP_OK) smoltcp_make_empty(s, sizeof *s);
+    if (answer == SMOLTCP_OK && rx) *rx = of_rx.at;
+    if (answer == SMOLTCP_OK && tx) *tx = of_tx.at;
+    return answer;
+}
+
+SMOLTCP_INLINE int64_t smoltcp_udp_release(struct smoltcp_udp *s, struct smoltcp_udp_buffer *rx,
+                                           struct smoltcp_udp_buffer *tx) {
+    struct smoltcp_udp_handle h = {SMOLTCP_AT(s)};
+    struct smoltcp_places rx_places = {NULL, 0}, tx_places = {NULL, 0};
+    struct smoltcp_bytes of_rx = {NULL, 0}, of_tx = {NULL, 0};
+    int64_t answer;
+    if (!s) return SMOLTCP_ERROR_NULL;
+    if (smoltcp_is_empty(s, sizeof *s)) return SMOLTCP_ERROR_STATE;
+    answer = smoltcp_udp_release_nonnull(&h, &rx_places, &of_rx, &tx_places, &of_tx);
+    smoltcp_make_empty(s, sizeof *s);
+    if (rx) {
+        rx->places = (struct smoltcp_udp_place *)(void *)rx_places.at;
+        rx->count = rx_places.len;
+        rx->bytes = of_rx.at;
+        rx->len = of_rx.len;
+    }
+    if (tx) {
+        tx->places = (struct smoltcp_udp_place *)(void *)tx_places.at;
+        tx->count = tx_places.len;
+        tx->bytes = of_tx.at;
+        tx->len = of_tx.len;
+    }
+    return answer;
+}
+
+SMOLTCP_INLINE int64_t smoltcp_raw_release(struct smoltcp_raw *s, struct smoltcp_raw_buffer *rx,
+                                           struct smoltcp_raw_buffer *tx) {
+    struct smoltcp_raw_handle h = {SMOLTCP_AT(s)};
+    struct smoltcp_places rx_places = {NULL, 0}, tx_places = {NULL, 0};
+    struct smoltcp_bytes of_rx = {NULL, 0}, of_tx = {NULL, 0};
+    int64_t answer;
+    if (!s) return SMOLTCP_ERROR_NULL;
+    if (smoltcp_is_empty(s, sizeof *s)) return SMOLTCP_ERROR_STATE;
+    answer = smoltcp_raw_release_nonnull(&h, &rx_places, &of_rx, &tx_places, &of_tx);
+    smoltcp_make_empty(s, sizeof *s);
+    if (rx) {
+        rx->places = (struct smoltcp_raw_place *)(void *)rx_places.at;
+        rx->count = rx_places.len;
+        rx->bytes = of_rx.at;
+        rx->len = of_rx.len;
+    }
+    if (tx) {
+        tx->places = (struct smoltcp_raw_place *)(void *)tx_places.at;
+        tx->count = tx_places.len;
+        tx->bytes = of_tx.at;
+        tx->len = of_tx.len;
+    }
+    return answer;
+}
+
+SMOLTCP_INLINE int64_t smoltcp_icmp_release(struct smoltcp_icmp *s, struct smoltcp_icmp_buffer *rx,
+                                            struct smoltcp_icmp_buffer *tx) {
+    struct smoltcp_icmp_handle h = {SMOLTCP_AT(s)};
+    struct smoltcp_places rx_places = {NULL, 0}, tx_places = {NULL, 0};
+    struct smoltcp_bytes of_rx = {NULL, 0}, of_tx = {NULL, 0};
+    int64_t answer;
+    if (!s) return SMOLTCP_ERROR_NULL;
+    if (smoltcp_is_empty(s, sizeof *s)) return SMOLTCP_ERROR_STATE;
+    answer = smoltcp_icmp_release_nonnull(&h, &rx_places, &of_rx, &tx_places, &of_tx);
+    smoltcp_make_empty(s, sizeof *s);
+    if (rx) {
+        rx->places = (struct smoltcp_icmp_place *)(void *)rx_places.at;
+        rx->count = rx_places.len;
+        rx->bytes = of_rx.at;
+        rx->len = of_rx.len;
+    }
+    if (tx) {
+        tx->places = (struct smoltcp_icmp_place *)(void *)tx_places.at;
+        tx->count = tx_places.len;
+        tx->bytes = of_tx.at;
+        tx->len = of_tx.len;
+    }
+    return answer;
+}
+
+#endif

@@ -1,4 +1,5 @@
-/* Small things that programs write again and again: endpoints, addresses from text and to text, free room of a socket.
+/* Small things that programs write again and again: endpoints, addresses from text and to text, free room of a socket,
+ * and, of a host, a pointer for each socket.
  *
  * All of it is C, in this header, over the calls of smoltcp_socket.h: tested by c/helpers.c, not proved. A program that
  * wants none of it leaves this header out. */
@@ -164,6 +165,41 @@ static inline char *smoltcp_address_text(const struct smoltcp_address *addr, cha
     *at = 0;
     return text;
 }
+
+/* For a program that includes smoltcp_host.h before this header. */
+#ifdef SMOLTCP_HOST_H
+
+/* A pointer of the program's for a socket of a host, in a table with an entry for each slot. It begins with zeros. */
+struct smoltcp_user { uint64_t generation; void *pointer; };
+
+/* Keeps a pointer for the socket of this name, in place of one for a socket that had the slot before. 1, or 0 where the
+ * table has no entry for the slot. */
+static inline int smoltcp_user_set(struct smoltcp_user *table, size_t count, const struct smoltcp_socket_id *id,
+                                   void *pointer) {
+    if (id->index >= count) return 0;
+    table[id->index].generation = id->generation;
+    table[id->index].pointer = pointer;
+    return 1;
+}
+
+/* The pointer that was kept for the socket of this name, or 0. */
+static inline void *smoltcp_user_get(const struct smoltcp_user *table, size_t count,
+                                     const struct smoltcp_socket_id *id) {
+    if (id->index >= count || table[id->index].generation != id->generation) return 0;
+    return table[id->index].pointer;
+}
+
+/* How many sockets the host has room for still. */
+static inline int64_t smoltcp_host_free_slots(const struct smoltcp_host *host) {
+    struct smoltcp_socket_id id;
+    size_t slots = 0, i;
+    int64_t left = 0, answer = smoltcp_host_capacity(host, &slots);
+    if (answer != SMOLTCP_OK) return answer;
+    for (i = 0; i < slots; i++) left += smoltcp_host_at(host, i, &id) == 0;
+    return left;
+}
+
+#endif
 
 #ifdef __cplusplus
 }

@@ -35,8 +35,15 @@ extern "C" {
 
 /* Memory for a host, for these calls alone; from smoltcp_host_init on it stays where it is. It lies at a multiple of
  * 16, as the compiler and malloc put it, since the library has numbers of 128 bits in it. */
-enum { SMOLTCP_HOST_SIZE = 1200 };
-struct smoltcp_host { union { uint64_t opaque[SMOLTCP_HOST_SIZE / 8]; long double aligned; } memory; };
+enum { SMOLTCP_HOST_SIZE = 1200, SMOLTCP_HOST_RESETS = 4 };
+struct smoltcp_host {
+    union { uint64_t opaque[SMOLTCP_HOST_SIZE / 8]; long double aligned; } memory;
+    uint64_t mark; /* of a host that init made here */
+    int64_t waiting_since;
+    size_t waiting; /* RSTs of connections that were dropped */
+    struct { uint8_t len, bytes[SMOLTCP_REPLY_ROOM + 3]; } resets[SMOLTCP_HOST_RESETS];
+    uint64_t unused;
+};
 #if defined(__STDC_VERSION__) && __STDC_VERSION__ >= 201112L
 _Static_assert(_Alignof(struct smoltcp_host) == 16, "a host lies at a multiple of 16");
 #endif
@@ -70,8 +77,8 @@ struct smoltcp_guards { int64_t handshake, closing, window, timeout; };
  * has. destination: to no address of the host, no broadcast and no group that it joined. protocol: of none that it
  * speaks. segment, datagram, message: of TCP, UDP, ICMP, with a wrong header, length or checksum. busy: a SYN for a
  * port that is served, while no socket is free. nobody: for no socket. Then SYNs that were answered without a socket,
- * and acknowledgements of such answers that took a socket, or that answered none. too_long: packets of sockets that were
- * dropped, as they were longer than the MTU. */
+ * and acknowledgements of such answers that took a socket, or that answered none. too_long: packets of sockets that
+ * were dropped, as they were longer than the MTU. */
 struct smoltcp_counters {
     uint64_t malformed, source, destination, protocol, segment, datagram, message, busy, nobody;
     uint64_t cookies_sent, cookies_taken, cookies_wrong, too_long;
@@ -84,8 +91,8 @@ size_t smoltcp_host_size(void);
  * the heap for one socket, and some 850 a socket for ten or more. Its moment is 0, its MTU 1500 bytes, and its guards
  * are 30 seconds for a handshake, a minute for closing and for timeout, and two minutes for window. The key is what
  * initial sequence numbers are made of (RFC 6528): no two hosts have the same. SMOLTCP_ERROR_ADDRESS where an address
- * is of no version, SMOLTCP_ERROR_MEMORY where the heap has too little; nothing is kept then, and no host is there. What
- * lies in the memory is not looked at: a host that was not released loses its tables, which stay allocated.
+ * is of no version, SMOLTCP_ERROR_MEMORY where the heap has too little; nothing is kept then, and no host is there.
+ * What lies in the memory is not looked at: a host that was not released loses its tables, which stay allocated.
  *
  * Errors: SMOLTCP_ERROR_ADDRESS, SMOLTCP_ERROR_MEMORY, SMOLTCP_ERROR_VERSION, SMOLTCP_ERROR_NULL. */
 int64_t smoltcp_host_init(struct smoltcp_host *host, size_t capacity, const struct smoltcp_cidr *addresses,
@@ -98,7 +105,8 @@ int64_t smoltcp_host_init_sized(struct smoltcp_host *host, size_t size, size_t c
 #define smoltcp_host_init(host, ...) smoltcp_host_init_sized((host), sizeof *(host), __VA_ARGS__)
 
 /* Lets go of the host: its tables go back to the heap, and its memory is the program's again. SMOLTCP_ERROR_STATE, with
- * nothing changed, where a socket is in it: remove each before.
+ * nothing changed, where a socket is in it: remove each before; and where no host is at this address, as it was
+ * released before, moved, or never made.
  *
  * Errors: SMOLTCP_ERROR_STATE, SMOLTCP_ERROR_NULL. */
 int64_t smoltcp_host_release(struct smoltcp_host *host);
@@ -175,32 +183,74 @@ int64_t smoltcp_host_poll_at(const struct smoltcp_host *host);
 int64_t smoltcp_host_context(struct smoltcp_host *host, const struct smoltcp_address *remote,
                              struct smoltcp_context *out);
 
+/* Opens a connection of the TCP socket of this name to remote, with a fresh initial sequence number. It comes from
+ * local: NULL, or version 0 of its address, is the own address from which packets go to remote; port 0 is a port of
+ * 49152 to 65535 that no socket of the host has toward remote, the first from a random one on (RFC 6056, section
+ * 3.3.1). smoltcp_tcp_local_endpoint reports which they are. In this order: SMOLTCP_ERROR_ADDRESS where the address is
+ * none of the host's, or none leads there; SMOLTCP_ERROR_IN_USE where another socket has this connection, or no port is
+ * free; SMOLTCP_ERROR_SOCKET where the host has no TCP socket of this name; SMOLTCP_ERROR_STATE where it is open;
+ * SMOLTCP_ERROR_ADDRESS where remote has port 0 or no address, or both are of different versions. Nothing changes then,
+ * but that a random number was drawn. It looks at each socket of the host.
+ *
+ * Errors: SMOLTCP_ERROR_ADDRESS, SMOLTCP_ERROR_IN_USE, SMOLTCP_ERROR_SOCKET, SMOLTCP_ERROR_STATE,
+ * SMOLTCP_ERROR_NULL. */
+int64_t smoltcp_host_connect(struct smoltcp_host *host, const struct smoltcp_socket_id *id,
+                             const struct smoltcp_endpoint *remote, const struct smoltcp_endpoint *local);
+
+/* Binds the UDP socket of this name at local, and returns the port: NULL, or version 0 of its address, is any own
+ * address; port 0 is a port of 49152 to 65535 to which no UDP socket of the host is bound, the first from a random one
+ * on. In this order: SMOLTCP_ERROR_IN_USE where another UDP socket of the host is bound to the port, at whichever
+ * address, or no port is free; SMOLTCP_ERROR_SOCKET where the host has no UDP socket of this name; SMOLTCP_ERROR_STATE
+ * where it is bound. Nothing changes then. It looks at each socket of the host.
+ *
+ * Errors: SMOLTCP_ERROR_IN_USE, SMOLTCP_ERROR_SOCKET, SMOLTCP_ERROR_STATE, SMOLTCP_ERROR_NULL. */
+int64_t smoltcp_host_bind_udp(struct smoltcp_host *host, const struct smoltcp_socket_id *id,
+                              const struct smoltcp_endpoint *local);
+
+/* Gives up the connection of the TCP socket of this name, and takes the socket out of the host: its name is gone, and
+ * its buffers are the program's at once. Where the peer has to be told by an RST, the next emit returns it; at most
+ * SMOLTCP_HOST_RESETS wait for it, and the peer of a further one gets an RST once it sends. This call and the RSTs that
+ * wait are C over proved calls: tested, not proved. SMOLTCP_ERROR_SOCKET where the host has no TCP socket of this name.
+ *
+ * Errors: SMOLTCP_ERROR_SOCKET, SMOLTCP_ERROR_NULL. */
+int64_t smoltcp_host_drop_tcp(struct smoltcp_host *host, const struct smoltcp_socket_id *id);
+
+/* Sets the addresses of the host, count of them, from the next packet on: as after a lease of DHCP, or where one is
+ * renewed with another address. A connection from an address that is gone ends, and nothing is sent for it; datagrams
+ * that wait go out from an address that is there. The table is taken from the heap, and the former one given back.
+ * SMOLTCP_ERROR_ADDRESS where an address is of no version, SMOLTCP_ERROR_MEMORY where the heap has too little; the
+ * addresses are as before then.
+ *
+ * Errors: SMOLTCP_ERROR_ADDRESS, SMOLTCP_ERROR_MEMORY, SMOLTCP_ERROR_NULL. */
+int64_t smoltcp_host_set_addresses(struct smoltcp_host *host, const struct smoltcp_cidr *addresses, size_t count);
+
 /* Moves the socket out of the memory into the first free place of the host, and writes its name into out. The memory is
  * the program's again, and no call may be made on it before an init made a socket there anew; the buffers stay the
- * socket's. SMOLTCP_ERROR_ROOM where no place is free: the socket lies in the memory as before.
+ * socket's. SMOLTCP_ERROR_ROOM where no place is free: the socket lies in the memory as before. SMOLTCP_ERROR_STATE
+ * where no socket lies there, as it was released or moved into a host.
  *
- * Errors: SMOLTCP_ERROR_ROOM, SMOLTCP_ERROR_NULL. */
+ * Errors: SMOLTCP_ERROR_ROOM, SMOLTCP_ERROR_STATE, SMOLTCP_ERROR_NULL. */
 int64_t smoltcp_host_add_tcp(struct smoltcp_host *host, struct smoltcp_tcp *s, struct smoltcp_socket_id *out);
 
 /* Moves the UDP socket out of the memory into the first free slot of the host, and writes its name into out. The memory
  * is the program's again, the buffers stay the socket's. SMOLTCP_ERROR_ROOM where no slot is free: the socket lies in
- * the memory as before.
+ * the memory as before. SMOLTCP_ERROR_STATE where no socket lies there.
  *
- * Errors: SMOLTCP_ERROR_ROOM, SMOLTCP_ERROR_NULL. */
+ * Errors: SMOLTCP_ERROR_ROOM, SMOLTCP_ERROR_STATE, SMOLTCP_ERROR_NULL. */
 int64_t smoltcp_host_add_udp(struct smoltcp_host *host, struct smoltcp_udp *s, struct smoltcp_socket_id *out);
 
 /* Moves the raw socket out of the memory into the first free slot of the host, and writes its name into out. The memory
  * is the program's again, the buffers stay the socket's. SMOLTCP_ERROR_ROOM where no slot is free: the socket lies in
- * the memory as before.
+ * the memory as before. SMOLTCP_ERROR_STATE where no socket lies there.
  *
- * Errors: SMOLTCP_ERROR_ROOM, SMOLTCP_ERROR_NULL. */
+ * Errors: SMOLTCP_ERROR_ROOM, SMOLTCP_ERROR_STATE, SMOLTCP_ERROR_NULL. */
 int64_t smoltcp_host_add_raw(struct smoltcp_host *host, struct smoltcp_raw *s, struct smoltcp_socket_id *out);
 
 /* Moves the ICMP socket out of the memory into the first free slot of the host, and writes its name into out. The
  * memory is the program's again, the buffers stay the socket's. SMOLTCP_ERROR_ROOM where no slot is free: the socket
- * lies in the memory as before.
+ * lies in the memory as before. SMOLTCP_ERROR_STATE where no socket lies there.
  *
- * Errors: SMOLTCP_ERROR_ROOM, SMOLTCP_ERROR_NULL. */
+ * Errors: SMOLTCP_ERROR_ROOM, SMOLTCP_ERROR_STATE, SMOLTCP_ERROR_NULL. */
 int64_t smoltcp_host_add_icmp(struct smoltcp_host *host, struct smoltcp_icmp *s, struct smoltcp_socket_id *out);
 
 /* Moves the socket of this name out of the host into the memory, in which no socket lies, in any state: what it has to
@@ -257,6 +307,11 @@ int64_t smoltcp_host_raw(struct smoltcp_host *host, const struct smoltcp_socket_
  * Errors: SMOLTCP_ERROR_SOCKET, SMOLTCP_ERROR_NULL. */
 int64_t smoltcp_host_icmp(struct smoltcp_host *host, const struct smoltcp_socket_id *id, struct smoltcp_icmp **out);
 
+/* Writes into out for how many sockets the host has room.
+ *
+ * Errors: SMOLTCP_ERROR_NULL. */
+int64_t smoltcp_host_capacity(const struct smoltcp_host *host, size_t *out);
+
 /* Writes the name of the socket at this place of the host into out, and answers 1; 0 where none is there, with out as
  * it was.
  *
@@ -287,6 +342,10 @@ extern "C" {
 }
 #endif
 #undef SMOLTCP_INLINE
+#endif
+
+#ifdef SMOLTCP_CHECK
+#include "smoltcp_host_check.h"
 #endif
 
 #endif

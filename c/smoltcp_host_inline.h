@@ -1,42 +1,16 @@
 /* Bodies of the calls of smoltcp_host.h that only hand on.
  * Made by c/abi from crates/smoltcp_c; not to be changed by hand. */
 
-SMOLTCP_INLINE int64_t smoltcp_host_add_icmp(struct smoltcp_host *host, struct smoltcp_icmp *s,
-                                             struct smoltcp_socket_id *out) {
-    struct smoltcp_host_handle h = {SMOLTCP_AT(host)};
-    struct smoltcp_icmp_handle room = {SMOLTCP_AT(s)};
-    if (!host || !s || !out) return SMOLTCP_ERROR_NULL;
-    return smoltcp_host_add_icmp_nonnull(&h, &room, out);
-}
-
-SMOLTCP_INLINE int64_t smoltcp_host_add_raw(struct smoltcp_host *host, struct smoltcp_raw *s,
-                                            struct smoltcp_socket_id *out) {
-    struct smoltcp_host_handle h = {SMOLTCP_AT(host)};
-    struct smoltcp_raw_handle room = {SMOLTCP_AT(s)};
-    if (!host || !s || !out) return SMOLTCP_ERROR_NULL;
-    return smoltcp_host_add_raw_nonnull(&h, &room, out);
-}
-
-SMOLTCP_INLINE int64_t smoltcp_host_add_tcp(struct smoltcp_host *host, struct smoltcp_tcp *s,
-                                            struct smoltcp_socket_id *out) {
-    struct smoltcp_host_handle h = {SMOLTCP_AT(host)};
-    struct smoltcp_tcp_handle room = {SMOLTCP_AT(s)};
-    if (!host || !s || !out) return SMOLTCP_ERROR_NULL;
-    return smoltcp_host_add_tcp_nonnull(&h, &room, out);
-}
-
-SMOLTCP_INLINE int64_t smoltcp_host_add_udp(struct smoltcp_host *host, struct smoltcp_udp *s,
-                                            struct smoltcp_socket_id *out) {
-    struct smoltcp_host_handle h = {SMOLTCP_AT(host)};
-    struct smoltcp_udp_handle room = {SMOLTCP_AT(s)};
-    if (!host || !s || !out) return SMOLTCP_ERROR_NULL;
-    return smoltcp_host_add_udp_nonnull(&h, &room, out);
-}
-
 SMOLTCP_INLINE int64_t smoltcp_host_at(const struct smoltcp_host *host, size_t index, struct smoltcp_socket_id *out) {
     struct smoltcp_host_handle h = {SMOLTCP_AT(host)};
     if (!host || !out) return SMOLTCP_ERROR_NULL;
     return smoltcp_host_at_nonnull(&h, index, out);
+}
+
+SMOLTCP_INLINE int64_t smoltcp_host_capacity(const struct smoltcp_host *host, size_t *out) {
+    struct smoltcp_host_handle h = {SMOLTCP_AT(host)};
+    if (!host || !out) return SMOLTCP_ERROR_NULL;
+    return smoltcp_host_capacity_nonnull(&h, out);
 }
 
 SMOLTCP_INLINE int64_t smoltcp_host_context(struct smoltcp_host *host, const struct smoltcp_address *remote,
@@ -50,12 +24,6 @@ SMOLTCP_INLINE int64_t smoltcp_host_counters(const struct smoltcp_host *host, st
     struct smoltcp_host_handle h = {SMOLTCP_AT(host)};
     if (!host || !out) return SMOLTCP_ERROR_NULL;
     return smoltcp_host_counters_nonnull(&h, out);
-}
-
-SMOLTCP_INLINE int64_t smoltcp_host_emit(struct smoltcp_host *host, int64_t now, uint8_t *out, size_t cap) {
-    struct smoltcp_host_handle h = {SMOLTCP_AT(host)};
-    if (!host || !out) return SMOLTCP_ERROR_NULL;
-    return smoltcp_host_emit_nonnull(&h, now, out, cap);
 }
 
 SMOLTCP_INLINE int64_t smoltcp_host_join(struct smoltcp_host *host, const struct smoltcp_address *group) {
@@ -73,14 +41,9 @@ SMOLTCP_INLINE int64_t smoltcp_host_leave(struct smoltcp_host *host, const struc
 SMOLTCP_INLINE int64_t smoltcp_host_receive(struct smoltcp_host *host, int64_t now, const uint8_t *packet, size_t len,
                                             uint8_t *reply, size_t cap) {
     struct smoltcp_host_handle h = {SMOLTCP_AT(host)};
-    if (!host || !packet || !reply) return SMOLTCP_ERROR_NULL;
-    return smoltcp_host_receive_nonnull(&h, now, packet, len, reply, cap);
-}
-
-SMOLTCP_INLINE int64_t smoltcp_host_release(struct smoltcp_host *host) {
-    struct smoltcp_host_handle h = {SMOLTCP_AT(host)};
-    if (!host) return SMOLTCP_ERROR_NULL;
-    return smoltcp_host_release_nonnull(&h);
+    if (!host || (!packet && len) || (!reply && cap)) return SMOLTCP_ERROR_NULL;
+    return smoltcp_host_receive_nonnull(&h, now, SMOLTCP_OR_NONE(const uint8_t, packet), len,
+                                        SMOLTCP_OR_NONE(uint8_t, reply), cap);
 }
 
 SMOLTCP_INLINE int64_t smoltcp_host_remove_icmp(struct smoltcp_host *host, const struct smoltcp_socket_id *id,
@@ -113,6 +76,13 @@ SMOLTCP_INLINE int64_t smoltcp_host_remove_udp(struct smoltcp_host *host, const 
     struct smoltcp_udp_handle room = {SMOLTCP_AT(s)};
     if (!host || !id || !s) return SMOLTCP_ERROR_NULL;
     return smoltcp_host_remove_udp_nonnull(&h, id, &room);
+}
+
+SMOLTCP_INLINE int64_t smoltcp_host_set_addresses(struct smoltcp_host *host, const struct smoltcp_cidr *addresses,
+                                                  size_t count) {
+    struct smoltcp_host_handle h = {SMOLTCP_AT(host)};
+    if (!host || (!addresses && count)) return SMOLTCP_ERROR_NULL;
+    return smoltcp_host_set_addresses_nonnull(&h, SMOLTCP_OR_NONE(const struct smoltcp_cidr, addresses), count);
 }
 
 SMOLTCP_INLINE int64_t smoltcp_host_set_guards(struct smoltcp_host *host, const struct smoltcp_guards *guards) {

@@ -24,7 +24,7 @@ _Static_assert(sizeof(struct smoltcp_host_handle) == 8, "host_handle");
 _Static_assert(sizeof(struct smoltcp_key) == 32, "key");
 _Static_assert(sizeof(struct smoltcp_socket_at) == 8, "socket_at");
 _Static_assert(sizeof(struct smoltcp_socket_id) == 16, "socket_id");
-_Static_assert(sizeof(struct smoltcp_host) == SMOLTCP_HOST_SIZE, "host");
+_Static_assert(sizeof(((struct smoltcp_host *)0)->memory) == SMOLTCP_HOST_SIZE, "host");
 #endif
 
 int64_t smoltcp_host_add_icmp_nonnull(struct smoltcp_host_handle *h, struct smoltcp_icmp_handle *room,
@@ -36,6 +36,11 @@ int64_t smoltcp_host_add_tcp_nonnull(struct smoltcp_host_handle *h, struct smolt
 int64_t smoltcp_host_add_udp_nonnull(struct smoltcp_host_handle *h, struct smoltcp_udp_handle *room,
                                      struct smoltcp_socket_id *out);
 int64_t smoltcp_host_at_nonnull(struct smoltcp_host_handle *h, size_t index, struct smoltcp_socket_id *out);
+int64_t smoltcp_host_bind_udp_nonnull(struct smoltcp_host_handle *h, const struct smoltcp_socket_id *id,
+                                      const struct smoltcp_endpoint *local);
+int64_t smoltcp_host_capacity_nonnull(struct smoltcp_host_handle *h, size_t *out);
+int64_t smoltcp_host_connect_nonnull(struct smoltcp_host_handle *h, const struct smoltcp_socket_id *id,
+                                     const struct smoltcp_endpoint *remote, const struct smoltcp_endpoint *local);
 int64_t smoltcp_host_context_nonnull(struct smoltcp_host_handle *h, const struct smoltcp_address *remote,
                                      struct smoltcp_context *out);
 int64_t smoltcp_host_counters_nonnull(struct smoltcp_host_handle *h, struct smoltcp_counters *out);
@@ -60,6 +65,8 @@ int64_t smoltcp_host_remove_tcp_nonnull(struct smoltcp_host_handle *h, const str
                                         struct smoltcp_tcp_handle *room);
 int64_t smoltcp_host_remove_udp_nonnull(struct smoltcp_host_handle *h, const struct smoltcp_socket_id *id,
                                         struct smoltcp_udp_handle *room);
+int64_t smoltcp_host_set_addresses_nonnull(struct smoltcp_host_handle *h, const struct smoltcp_cidr *addresses,
+                                           size_t count);
 int64_t smoltcp_host_set_guards_nonnull(struct smoltcp_host_handle *h, const struct smoltcp_guards *guards);
 int64_t smoltcp_host_set_mtu_nonnull(struct smoltcp_host_handle *h, size_t mtu);
 int64_t smoltcp_host_set_syn_cookies_nonnull(struct smoltcp_host_handle *h, const struct smoltcp_key *key,

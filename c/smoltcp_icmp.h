@@ -27,9 +27,11 @@ int64_t smoltcp_icmp_init_sized(struct smoltcp_icmp *s, size_t size, struct smol
 #define smoltcp_icmp_init(s, ...) smoltcp_icmp_init_sized((s), sizeof *(s), __VA_ARGS__)
 
 /* Lets go of the socket in any state: its memory and its buffers are the program's again, as with smoltcp_tcp_release.
- * Where the buffers lie is written into rx and tx, of which each may be NULL. The messages in its queues are gone.
+ * Where the buffers lie is written into rx and tx, of which each may be NULL. The messages in its queues are gone. The
+ * memory has zeros afterwards. SMOLTCP_ERROR_STATE where no socket lies there, as it was released before, or moved into
+ * a host.
  *
- * Errors: SMOLTCP_ERROR_NULL. */
+ * Errors: SMOLTCP_ERROR_STATE, SMOLTCP_ERROR_NULL. */
 int64_t smoltcp_icmp_release(struct smoltcp_icmp *s, struct smoltcp_icmp_buffer *rx, struct smoltcp_icmp_buffer *tx);
 
 /* Opens an ICMP socket for these messages. SMOLTCP_ERROR_ADDRESS where there are none or a port is missing, else

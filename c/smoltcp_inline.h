@@ -54,8 +54,8 @@ SMOLTCP_INLINE int64_t smoltcp_tcp_consume(struct smoltcp_tcp *s, size_t count) 
 SMOLTCP_INLINE int64_t smoltcp_tcp_dispatch(struct smoltcp_tcp *s, const struct smoltcp_context *cx, uint8_t *out,
                                             size_t cap) {
     struct smoltcp_tcp_handle h = {SMOLTCP_AT(s)};
-    if (!s || !cx || !out) return SMOLTCP_ERROR_NULL;
-    return smoltcp_tcp_dispatch_nonnull(&h, cx, out, cap);
+    if (!s || !cx || (!out && cap)) return SMOLTCP_ERROR_NULL;
+    return smoltcp_tcp_dispatch_nonnull(&h, cx, SMOLTCP_OR_NONE(uint8_t, out), cap);
 }
 
 SMOLTCP_INLINE int64_t smoltcp_tcp_ended(const struct smoltcp_tcp *s) {
@@ -102,21 +102,22 @@ SMOLTCP_INLINE int64_t smoltcp_tcp_pause_synack(struct smoltcp_tcp *s, uint8_t p
 
 SMOLTCP_INLINE int64_t smoltcp_tcp_peek_slice(const struct smoltcp_tcp *s, uint8_t *data, size_t cap) {
     struct smoltcp_tcp_handle h = {SMOLTCP_AT(s)};
-    if (!s || !data) return SMOLTCP_ERROR_NULL;
-    return smoltcp_tcp_peek_slice_nonnull(&h, data, cap);
+    if (!s || (!data && cap)) return SMOLTCP_ERROR_NULL;
+    return smoltcp_tcp_peek_slice_nonnull(&h, SMOLTCP_OR_NONE(uint8_t, data), cap);
 }
 
 SMOLTCP_INLINE int64_t smoltcp_tcp_process(struct smoltcp_tcp *s, const struct smoltcp_context *cx,
                                            const uint8_t *packet, size_t len, uint8_t *reply, size_t cap) {
     struct smoltcp_tcp_handle h = {SMOLTCP_AT(s)};
-    if (!s || !cx || !packet || !reply) return SMOLTCP_ERROR_NULL;
-    return smoltcp_tcp_process_nonnull(&h, cx, packet, len, reply, cap);
+    if (!s || !cx || (!packet && len) || (!reply && cap)) return SMOLTCP_ERROR_NULL;
+    return smoltcp_tcp_process_nonnull(&h, cx, SMOLTCP_OR_NONE(const uint8_t, packet), len,
+                                       SMOLTCP_OR_NONE(uint8_t, reply), cap);
 }
 
 SMOLTCP_INLINE int64_t smoltcp_tcp_recv(struct smoltcp_tcp *s, uint8_t *data, size_t cap) {
     struct smoltcp_tcp_handle h = {SMOLTCP_AT(s)};
-    if (!s || !data) return SMOLTCP_ERROR_NULL;
-    return smoltcp_tcp_recv_nonnull(&h, data, cap);
+    if (!s || (!data && cap)) return SMOLTCP_ERROR_NULL;
+    return smoltcp_tcp_recv_nonnull(&h, SMOLTCP_OR_NONE(uint8_t, data), cap);
 }
 
 SMOLTCP_INLINE int64_t smoltcp_tcp_remote_endpoint(const struct smoltcp_tcp *s, struct smoltcp_endpoint *out) {
@@ -126,14 +127,14 @@ SMOLTCP_INLINE int64_t smoltcp_tcp_remote_endpoint(const struct smoltcp_tcp *s, 
 }
 
 SMOLTCP_INLINE int64_t smoltcp_tcp_reset(const uint8_t *packet, size_t len, uint8_t *reply, size_t cap) {
-    if (!packet || !reply) return SMOLTCP_ERROR_NULL;
-    return smoltcp_tcp_reset_nonnull(packet, len, reply, cap);
+    if ((!packet && len) || (!reply && cap)) return SMOLTCP_ERROR_NULL;
+    return smoltcp_tcp_reset_nonnull(SMOLTCP_OR_NONE(const uint8_t, packet), len, SMOLTCP_OR_NONE(uint8_t, reply), cap);
 }
 
 SMOLTCP_INLINE int64_t smoltcp_tcp_send(struct smoltcp_tcp *s, const uint8_t *data, size_t len) {
     struct smoltcp_tcp_handle h = {SMOLTCP_AT(s)};
-    if (!s || !data) return SMOLTCP_ERROR_NULL;
-    return smoltcp_tcp_send_nonnull(&h, data, len);
+    if (!s || (!data && len)) return SMOLTCP_ERROR_NULL;
+    return smoltcp_tcp_send_nonnull(&h, SMOLTCP_OR_NONE(const uint8_t, data), len);
 }
 
 SMOLTCP_INLINE int64_t smoltcp_tcp_set_ack_delay(struct smoltcp_tcp *s, int64_t micros) {
@@ -205,8 +206,8 @@ SMOLTCP_INLINE int64_t smoltcp_tcp_state(const struct smoltcp_tcp *s) {
 SMOLTCP_INLINE int64_t smoltcp_udp_accepts(const struct smoltcp_udp *s, const struct smoltcp_context *cx,
                                            const uint8_t *packet, size_t len) {
     struct smoltcp_udp_handle h = {SMOLTCP_AT(s)};
-    if (!s || !cx || !packet) return SMOLTCP_ERROR_NULL;
-    return smoltcp_udp_accepts_nonnull(&h, cx, packet, len);
+    if (!s || !cx || (!packet && len)) return SMOLTCP_ERROR_NULL;
+    return smoltcp_udp_accepts_nonnull(&h, cx, SMOLTCP_OR_NONE(const uint8_t, packet), len);
 }
 
 SMOLTCP_INLINE int64_t smoltcp_udp_ask(const struct smoltcp_udp *s, uint32_t what) {
@@ -230,8 +231,8 @@ SMOLTCP_INLINE int64_t smoltcp_udp_close(struct smoltcp_udp *s) {
 SMOLTCP_INLINE int64_t smoltcp_udp_dispatch(struct smoltcp_udp *s, const struct smoltcp_context *cx, uint8_t *out,
                                             size_t cap) {
     struct smoltcp_udp_handle h = {SMOLTCP_AT(s)};
-    if (!s || !cx || !out) return SMOLTCP_ERROR_NULL;
-    return smoltcp_udp_dispatch_nonnull(&h, cx, out, cap);
+    if (!s || !cx || (!out && cap)) return SMOLTCP_ERROR_NULL;
+    return smoltcp_udp_dispatch_nonnull(&h, cx, SMOLTCP_OR_NONE(uint8_t, out), cap);
 }
 
 SMOLTCP_INLINE int64_t smoltcp_udp_endpoint(const struct smoltcp_udp *s, struct smoltcp_endpoint *out) {
@@ -243,29 +244,29 @@ SMOLTCP_INLINE int64_t smoltcp_udp_endpoint(const struct smoltcp_udp *s, struct 
 SMOLTCP_INLINE int64_t smoltcp_udp_peek(struct smoltcp_udp *s, struct smoltcp_udp_metadata *meta, uint8_t *data,
                                         size_t cap) {
     struct smoltcp_udp_handle h = {SMOLTCP_AT(s)};
-    if (!s || !meta || !data) return SMOLTCP_ERROR_NULL;
-    return smoltcp_udp_peek_nonnull(&h, meta, data, cap);
+    if (!s || !meta || (!data && cap)) return SMOLTCP_ERROR_NULL;
+    return smoltcp_udp_peek_nonnull(&h, meta, SMOLTCP_OR_NONE(uint8_t, data), cap);
 }
 
 SMOLTCP_INLINE int64_t smoltcp_udp_process(struct smoltcp_udp *s, const struct smoltcp_context *cx,
                                            const uint8_t *packet, size_t len) {
     struct smoltcp_udp_handle h = {SMOLTCP_AT(s)};
-    if (!s || !cx || !packet) return SMOLTCP_ERROR_NULL;
-    return smoltcp_udp_process_nonnull(&h, cx, packet, len);
+    if (!s || !cx || (!packet && len)) return SMOLTCP_ERROR_NULL;
+    return smoltcp_udp_process_nonnull(&h, cx, SMOLTCP_OR_NONE(const uint8_t, packet), len);
 }
 
 SMOLTCP_INLINE int64_t smoltcp_udp_recv(struct smoltcp_udp *s, struct smoltcp_udp_metadata *meta, uint8_t *data,
                                         size_t cap) {
     struct smoltcp_udp_handle h = {SMOLTCP_AT(s)};
-    if (!s || !meta || !data) return SMOLTCP_ERROR_NULL;
-    return smoltcp_udp_recv_nonnull(&h, meta, data, cap);
+    if (!s || !meta || (!data && cap)) return SMOLTCP_ERROR_NULL;
+    return smoltcp_udp_recv_nonnull(&h, meta, SMOLTCP_OR_NONE(uint8_t, data), cap);
 }
 
 SMOLTCP_INLINE int64_t smoltcp_udp_send(struct smoltcp_udp *s, const struct smoltcp_udp_metadata *meta,
                                         const uint8_t *data, size_t len) {
     struct smoltcp_udp_handle h = {SMOLTCP_AT(s)};
-    if (!s || !meta || !data) return SMOLTCP_ERROR_NULL;
-    return smoltcp_udp_send_nonnull(&h, meta, data, len);
+    if (!s || !meta || (!data && len)) return SMOLTCP_ERROR_NULL;
+    return smoltcp_udp_send_nonnull(&h, meta, SMOLTCP_OR_NONE(const uint8_t, data), len);
 }
 
 SMOLTCP_INLINE int64_t smoltcp_udp_set_hop_limit(struct smoltcp_udp *s, uint8_t hop_limit) {
@@ -276,8 +277,8 @@ SMOLTCP_INLINE int64_t smoltcp_udp_set_hop_limit(struct smoltcp_udp *s, uint8_t 
 
 SMOLTCP_INLINE int64_t smoltcp_raw_accepts(const struct smoltcp_raw *s, const uint8_t *packet, size_t len) {
     struct smoltcp_raw_handle h = {SMOLTCP_AT(s)};
-    if (!s || !packet) return SMOLTCP_ERROR_NULL;
-    return smoltcp_raw_accepts_nonnull(&h, packet, len);
+    if (!s || (!packet && len)) return SMOLTCP_ERROR_NULL;
+    return smoltcp_raw_accepts_nonnull(&h, SMOLTCP_OR_NONE(const uint8_t, packet), len);
 }
 
 SMOLTCP_INLINE int64_t smoltcp_raw_ask(const struct smoltcp_raw *s, uint32_t what) {
@@ -289,40 +290,40 @@ SMOLTCP_INLINE int64_t smoltcp_raw_ask(const struct smoltcp_raw *s, uint32_t wha
 SMOLTCP_INLINE int64_t smoltcp_raw_dispatch(struct smoltcp_raw *s, const struct smoltcp_context *cx, uint8_t *out,
                                             size_t cap) {
     struct smoltcp_raw_handle h = {SMOLTCP_AT(s)};
-    if (!s || !cx || !out) return SMOLTCP_ERROR_NULL;
-    return smoltcp_raw_dispatch_nonnull(&h, cx, out, cap);
+    if (!s || !cx || (!out && cap)) return SMOLTCP_ERROR_NULL;
+    return smoltcp_raw_dispatch_nonnull(&h, cx, SMOLTCP_OR_NONE(uint8_t, out), cap);
 }
 
 SMOLTCP_INLINE int64_t smoltcp_raw_peek(struct smoltcp_raw *s, uint8_t *data, size_t cap) {
     struct smoltcp_raw_handle h = {SMOLTCP_AT(s)};
-    if (!s || !data) return SMOLTCP_ERROR_NULL;
-    return smoltcp_raw_peek_nonnull(&h, data, cap);
+    if (!s || (!data && cap)) return SMOLTCP_ERROR_NULL;
+    return smoltcp_raw_peek_nonnull(&h, SMOLTCP_OR_NONE(uint8_t, data), cap);
 }
 
 SMOLTCP_INLINE int64_t smoltcp_raw_process(struct smoltcp_raw *s, const struct smoltcp_context *cx,
                                            const uint8_t *packet, size_t len) {
     struct smoltcp_raw_handle h = {SMOLTCP_AT(s)};
-    if (!s || !cx || !packet) return SMOLTCP_ERROR_NULL;
-    return smoltcp_raw_process_nonnull(&h, cx, packet, len);
+    if (!s || !cx || (!packet && len)) return SMOLTCP_ERROR_NULL;
+    return smoltcp_raw_process_nonnull(&h, cx, SMOLTCP_OR_NONE(const uint8_t, packet), len);
 }
 
 SMOLTCP_INLINE int64_t smoltcp_raw_recv(struct smoltcp_raw *s, uint8_t *data, size_t cap) {
     struct smoltcp_raw_handle h = {SMOLTCP_AT(s)};
-    if (!s || !data) return SMOLTCP_ERROR_NULL;
-    return smoltcp_raw_recv_nonnull(&h, data, cap);
+    if (!s || (!data && cap)) return SMOLTCP_ERROR_NULL;
+    return smoltcp_raw_recv_nonnull(&h, SMOLTCP_OR_NONE(uint8_t, data), cap);
 }
 
 SMOLTCP_INLINE int64_t smoltcp_raw_send(struct smoltcp_raw *s, const uint8_t *data, size_t len) {
     struct smoltcp_raw_handle h = {SMOLTCP_AT(s)};
-    if (!s || !data) return SMOLTCP_ERROR_NULL;
-    return smoltcp_raw_send_nonnull(&h, data, len);
+    if (!s || (!data && len)) return SMOLTCP_ERROR_NULL;
+    return smoltcp_raw_send_nonnull(&h, SMOLTCP_OR_NONE(const uint8_t, data), len);
 }
 
 SMOLTCP_INLINE int64_t smoltcp_icmp_accepts(const struct smoltcp_icmp *s, const struct smoltcp_context *cx,
                                             const uint8_t *packet, size_t len) {
     struct smoltcp_icmp_handle h = {SMOLTCP_AT(s)};
-    if (!s || !cx || !packet) return SMOLTCP_ERROR_NULL;
-    return smoltcp_icmp_accepts_nonnull(&h, cx, packet, len);
+    if (!s || !cx || (!packet && len)) return SMOLTCP_ERROR_NULL;
+    return smoltcp_icmp_accepts_nonnull(&h, cx, SMOLTCP_OR_NONE(const uint8_t, packet), len);
 }
 
 SMOLTCP_INLINE int64_t smoltcp_icmp_ask(const struct smoltcp_icmp *s, uint32_t what) {
@@ -340,29 +341,29 @@ SMOLTCP_INLINE int64_t smoltcp_icmp_bind(struct smoltcp_icmp *s, const struct sm
 SMOLTCP_INLINE int64_t smoltcp_icmp_dispatch(struct smoltcp_icmp *s, const struct smoltcp_context *cx, uint8_t *out,
                                              size_t cap) {
     struct smoltcp_icmp_handle h = {SMOLTCP_AT(s)};
-    if (!s || !cx || !out) return SMOLTCP_ERROR_NULL;
-    return smoltcp_icmp_dispatch_nonnull(&h, cx, out, cap);
+    if (!s || !cx || (!out && cap)) return SMOLTCP_ERROR_NULL;
+    return smoltcp_icmp_dispatch_nonnull(&h, cx, SMOLTCP_OR_NONE(uint8_t, out), cap);
 }
 
 SMOLTCP_INLINE int64_t smoltcp_icmp_process(struct smoltcp_icmp *s, const struct smoltcp_context *cx,
                                             const uint8_t *packet, size_t len) {
     struct smoltcp_icmp_handle h = {SMOLTCP_AT(s)};
-    if (!s || !cx || !packet) return SMOLTCP_ERROR_NULL;
-    return smoltcp_icmp_process_nonnull(&h, cx, packet, len);
+    if (!s || !cx || (!packet && len)) return SMOLTCP_ERROR_NULL;
+    return smoltcp_icmp_process_nonnull(&h, cx, SMOLTCP_OR_NONE(const uint8_t, packet), len);
 }
 
 SMOLTCP_INLINE int64_t smoltcp_icmp_recv(struct smoltcp_icmp *s, struct smoltcp_address *remote, uint8_t *data,
                                          size_t cap) {
     struct smoltcp_icmp_handle h = {SMOLTCP_AT(s)};
-    if (!s || !remote || !data) return SMOLTCP_ERROR_NULL;
-    return smoltcp_icmp_recv_nonnull(&h, remote, data, cap);
+    if (!s || !remote || (!data && cap)) return SMOLTCP_ERROR_NULL;
+    return smoltcp_icmp_recv_nonnull(&h, remote, SMOLTCP_OR_NONE(uint8_t, data), cap);
 }
 
 SMOLTCP_INLINE int64_t smoltcp_icmp_send(struct smoltcp_icmp *s, const struct smoltcp_address *remote,
                                          const uint8_t *data, size_t len) {
     struct smoltcp_icmp_handle h = {SMOLTCP_AT(s)};
-    if (!s || !remote || !data) return SMOLTCP_ERROR_NULL;
-    return smoltcp_icmp_send_nonnull(&h, remote, data, len);
+    if (!s || !remote || (!data && len)) return SMOLTCP_ERROR_NULL;
+    return smoltcp_icmp_send_nonnull(&h, remote, SMOLTCP_OR_NONE(const uint8_t, data), len);
 }
 
 SMOLTCP_INLINE int64_t smoltcp_icmp_set_hop_limit(struct smoltcp_icmp *s, uint8_t hop_limit) {

@@ -29,9 +29,11 @@ int64_t smoltcp_raw_init_sized(struct smoltcp_raw *s, size_t size, const struct 
 #define smoltcp_raw_init(s, ...) smoltcp_raw_init_sized((s), sizeof *(s), __VA_ARGS__)
 
 /* Lets go of the socket in any state: its memory and its buffers are the program's again, as with smoltcp_tcp_release.
- * Where the buffers lie is written into rx and tx, of which each may be NULL. The packets in its queues are gone.
+ * Where the buffers lie is written into rx and tx, of which each may be NULL. The packets in its queues are gone. The
+ * memory has zeros afterwards. SMOLTCP_ERROR_STATE where no socket lies there, as it was released before, or moved into
+ * a host.
  *
- * Errors: SMOLTCP_ERROR_NULL. */
+ * Errors: SMOLTCP_ERROR_STATE, SMOLTCP_ERROR_NULL. */
 int64_t smoltcp_raw_release(struct smoltcp_raw *s, struct smoltcp_raw_buffer *rx, struct smoltcp_raw_buffer *tx);
 
 /* The version of IP of the socket's packets: 4, 6, or 0 for both.

@@ -15,7 +15,11 @@
  * not brought in here, has such a host, in a library that asks for a heap too.
  *
  * Each call is a symbol of the library. Where a compiler of the GNU kind optimises, its body is inlined, which looks
- * for null pointers and hands on to a call of smoltcp_nonnull.h; with SMOLTCP_NO_INLINE defined it is not. */
+ * for null pointers and hands on to a call of smoltcp_nonnull.h; with SMOLTCP_NO_INLINE defined it is not.
+ *
+ * With SMOLTCP_CHECK defined before this header, for tests: calls on memory with no socket in it, on a socket of a host
+ * that was borrowed too long ago, and over buffers that overlap end the program by abort, with a sentence on standard
+ * error. What it knows of borrowed sockets, it knows in each file of a program for itself. */
 #ifndef SMOLTCP_SOCKET_H
 #define SMOLTCP_SOCKET_H
 
@@ -37,6 +41,10 @@ extern "C" {
 }
 #endif
 #undef SMOLTCP_INLINE
+#endif
+
+#ifdef SMOLTCP_CHECK
+#include "smoltcp_check.h"
 #endif
 
 #endif

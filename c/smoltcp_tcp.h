@@ -14,7 +14,8 @@ extern "C" {
 int64_t smoltcp_tcp_ask(const struct smoltcp_tcp *s, uint32_t what);
 
 /* Makes a closed socket with SMOLTCP_RULES_RFC in the memory, over the two buffers, of at most 2^30 bytes each (else
- * SMOLTCP_ERROR_RANGE, with nothing changed). The memory and the buffers are the socket's until smoltcp_tcp_release has answered SMOLTCP_OK.
+ * SMOLTCP_ERROR_RANGE, with nothing changed). The memory and the buffers are the socket's until smoltcp_tcp_release
+ * has returned SMOLTCP_OK.
  *
  * Errors: SMOLTCP_ERROR_RANGE, SMOLTCP_ERROR_VERSION, SMOLTCP_ERROR_NULL. */
 int64_t smoltcp_tcp_init(struct smoltcp_tcp *s, uint8_t *rx, size_t rx_len, uint8_t *tx, size_t tx_len);
@@ -29,7 +30,8 @@ int64_t smoltcp_tcp_init_sized(struct smoltcp_tcp *s, size_t size, uint8_t *rx, 
  * the buffers lie is written into rx and tx, of which each may be NULL. No call may be made on the socket then before
  * smoltcp_tcp_init made one there anew. Bytes that came and were not read are gone. SMOLTCP_ERROR_STATE, with nothing
  * changed, where it is in any state but CLOSED, as in TIME-WAIT, or a peer has yet to be told by an RST: after
- * smoltcp_tcp_abort the next smoltcp_tcp_dispatch emits that.
+ * smoltcp_tcp_abort the next smoltcp_tcp_dispatch emits that; and where no socket lies there, as it was released
+ * before, or moved into a host. The memory has zeros afterwards.
  *
  * Errors: SMOLTCP_ERROR_STATE, SMOLTCP_ERROR_NULL. */
 int64_t smoltcp_tcp_release(struct smoltcp_tcp *s, uint8_t **rx, uint8_t **tx);

@@ -29,7 +29,8 @@ enum {
     SMOLTCP_ERROR_RANGE = -9,    /* a number is out of its range */
     SMOLTCP_ERROR_EMPTY = -11,   /* no packet waits */
     SMOLTCP_ERROR_MEMORY = -12,  /* the heap has too little memory */
-    SMOLTCP_ERROR_SOCKET = -13   /* the host has no socket of this name and kind */
+    SMOLTCP_ERROR_SOCKET = -13,  /* the host has no socket of this name and kind */
+    SMOLTCP_ERROR_IN_USE = -14   /* another socket of the host has the connection or the port, or no port is free */
 };
 
 /* States, as in RFC 9293. */

@@ -27,9 +27,11 @@ int64_t smoltcp_udp_init_sized(struct smoltcp_udp *s, size_t size, struct smoltc
 #define smoltcp_udp_init(s, ...) smoltcp_udp_init_sized((s), sizeof *(s), __VA_ARGS__)
 
 /* Lets go of the socket in any state: its memory and its buffers are the program's again, as with smoltcp_tcp_release.
- * Where the buffers lie is written into rx and tx, of which each may be NULL. The datagrams in its queues are gone.
+ * Where the buffers lie is written into rx and tx, of which each may be NULL. The datagrams in its queues are gone. The
+ * memory has zeros afterwards. SMOLTCP_ERROR_STATE where no socket lies there, as it was released before, or moved into
+ * a host.
  *
- * Errors: SMOLTCP_ERROR_NULL. */
+ * Errors: SMOLTCP_ERROR_STATE, SMOLTCP_ERROR_NULL. */
 int64_t smoltcp_udp_release(struct smoltcp_udp *s, struct smoltcp_udp_buffer *rx, struct smoltcp_udp_buffer *tx);
 
 /* Opens a UDP socket for datagrams to this port, and to this address where one is given. SMOLTCP_ERROR_ADDRESS where

@@ -15,8 +15,8 @@
 #include <time.h>
 #include <unistd.h>
 
-#include "smoltcp_helpers.h"
 #include "smoltcp_host.h"
+#include "smoltcp_helpers.h"
 
 enum { TUN_MTU = 1500, TUN_TURN = 64, SECOND = 1000000 };
 
@@ -33,11 +33,6 @@ static inline uint32_t tun_random(void) {
     uint32_t word = 0;
     if (getrandom(&word, sizeof word, 0) != sizeof word) exit(2);
     return word;
-}
-
-/* A free port of an own socket, drawn as RFC 6056 asks; a program of many connections tests that none has it. */
-static inline uint16_t tun_port(void) {
-    return (uint16_t)(49152 + tun_random() % 16384);
 }
 
 /* Opens the device, which has to be up, and makes a host of this address and of so many sockets. */

@@ -10,6 +10,7 @@ pub mod Polls
 pub mod Bare
 pub mod Emitting
 pub mod Raws
+pub mod Taken
 pub mod Told
 pub mod Turning
 pub mod Walking

@@ -1,6 +1,7 @@
 pub mod Aim
 pub mod Addresses
 pub mod Arrivals
+pub mod Bindings
 pub mod Cookies
 pub mod Counts
 pub mod Datagrams
@@ -18,8 +19,10 @@ pub mod Listing
 pub mod Looking
 pub mod Messages
 pub mod Moments
+pub mod Openings
 pub mod Passing
 pub mod Polling
+pub mod Ports
 pub mod RawCopies
 pub mod Receiving
 pub mod Remembered

@@ -97,6 +97,9 @@ error_memory = negsuc 11
 abbrev pub error_socket : ℤ
 error_socket = negsuc 12
 
+abbrev pub error_in_use : ℤ
+error_in_use = negsuc 13
+
 -- a packet that is copied out of a queue: how many bytes it has
 abbrev pub refused_copy : CopyError → ℤ
 refused_copy copy_error.Exhausted = error_empty

@@ -4,6 +4,7 @@ pub mod Context
 pub mod Ends
 pub mod Heard
 pub mod Host
+pub mod HostOpening
 pub mod Icmp
 pub mod InPlace
 pub mod Memory

@@ -38,6 +38,9 @@ pub const ERROR_MEMORY: i64 = -12;
 /// The host has no socket of this name and kind.
 pub const ERROR_SOCKET: i64 = -13;
 
+/// Another socket has the connection or the port, or no port is free.
+pub const ERROR_IN_USE: i64 = -14;
+
 /// The packet is not for this socket.
 pub const NOT_ACCEPTED: i64 = -8;
 

@@ -1,10 +1,10 @@
 //! A host is made, and let go of.
-ghost use Rattle.std.specs.Prelude.{◌≡◌, IfOk, IfSome, false, true, is_some, map, None, pos};
+ghost use Rattle.std.specs.Prelude.{◌≡◌, IfOk, IfSome, false, true, is_some, length, map, None, pos};
 ghost use Rattle.smoltcp_c.specs.Answers.{error_state};
-ghost use Rattle.smoltcp_c.specs.Host.{HasNone, IsMade, are_addresses, cidr_in, host_size, init_answer};
+ghost use Rattle.smoltcp_c.specs.Host.{HasNone, IsMade, are_addresses, cidr_in, host_size, init_answer, slots};
 
 use crate::answers::{ERROR_ADDRESS, ERROR_MEMORY, ERROR_STATE, OK};
-use crate::host::{Host, HostRoom};
+use crate::host::{Host, HostHandle, HostRoom};
 use crate::host_numbers::{Cidr, Key, cidr_in, is_address};
 use net_host::{Interface, IpCidr, Secret, SocketSet};
 use std::alloc::{AllocError, Global};
@@ -49,7 +49,7 @@ pub extern "C" fn smoltcp_host_init_nonnull(
     }
 }
 
-fn are_addresses(addresses: &[Cidr]) -> bool
+pub(crate) fn are_addresses(addresses: &[Cidr]) -> bool
     ensures { result ≡ are_addresses addresses.now }
 {
     addresses.iter().all(|c: &Cidr| is_address(&c.address))
@@ -64,7 +64,7 @@ fn host(alloc: Global, capacity: usize, addresses: &[Cidr], key: &Key) -> Result
     Ok(Host { interface, sockets })
 }
 
-fn addresses_in(alloc: Global, addresses: &[Cidr]) -> Result<Vec<IpCidr>, AllocError>
+pub(crate) fn addresses_in(alloc: Global, addresses: &[Cidr]) -> Result<Vec<IpCidr>, AllocError>
     ensures { IfOk result (λ v. v.items ≡ map (λ c. cidr_in c) addresses.now) }
 {
     let mut made = Vec::with_capacity(alloc, addresses.len())?;
@@ -72,6 +72,18 @@ fn addresses_in(alloc: Global, addresses: &[Cidr]) -> Result<Vec<IpCidr>, AllocE
         made.push(cidr_in(address))?;
     }
     Ok(made)
+}
+
+/// Writes into `out` for how many sockets the host has room. Answers 0.
+#[unsafe(no_mangle)]
+pub extern "C" fn smoltcp_host_capacity_nonnull(h: &mut HostHandle, out: &mut usize) -> i64
+    ensures answer { result ≡ pos 0 }
+    ensures told { out.new ≡ length (slots h.old) }
+    ensures at { h.new.at ≡ h.old.at }
+    ensures same { h.new.host ≡ h.old.host }
+{
+    *out = h.host().sockets.capacity();
+    OK
 }
 
 /// Lets go of the host, which leaves room for another, and gives its tables back to the heap. Answers 0; `ERROR_STATE`,

@@ -16,6 +16,7 @@ pub mod host;
 pub mod host_lends;
 pub mod host_lent;
 pub mod host_numbers;
+pub mod host_opening;
 pub mod host_packets;
 pub mod host_settings;
 pub mod host_setup;

@@ -124,6 +124,7 @@ pub const ERROR_RANGE: i64 = -9;
 pub const ERROR_EMPTY: i64 = -11;
 pub const ERROR_MEMORY: i64 = -12;
 pub const ERROR_SOCKET: i64 = -13;
+pub const ERROR_IN_USE: i64 = -14;
 pub const NOT_ACCEPTED: i64 = -8;
 
 // The sizes of sockets, and of places of their queues, in bytes.

@@ -1,0 +1,16 @@
+use Rattle.std.proofs.Common.{rules, ◌≡◌, ◌<◌, false, subst, sym, arith}
+use Rattle.std.specs.Prelude.{is_none}
+use Rattle.net_host.specs.Ports.{Binds, port_after}
+use Rattle.net_host.specs.Walks.{Nowhere}
+use Rattle.net_host.proofs.Taken.{goes_on, taken}
+use Rattle.net_host.proofs.ports.free_binding.Goals as goal
+
+pub loop-k-preserved : goal.loop-k-preserved
+loop-k-preserved g c =
+    let found : is_none c.binding.result ≡ false = search rules in
+    goes_on (λ j. Nowhere (λ s. Binds (port_after c.args.start j) s) c.args.slots.now) c.loop-k.k c.loop-k.invariant
+    (λ n. taken (λ s. Binds c.port_after-port.result s) c.args.slots.now c.binding.result found c.binding.ensures
+    (subst (λ p. Nowhere (λ s. Binds p s) c.args.slots.now) (sym c.port_after-port.ensures) n))
+
+pub returns : goal.returns
+returns g c = λ k within. c.loop-k.invariant k (omega (arith, within))

@@ -1,0 +1,254 @@
+//! A connection is opened from an interface: from one of its addresses, and from a port that is free.
+ghost use Rattle.std.specs.Prelude.{◌≡◌, ◌<◌, ◌%◌, ◌^◌, IfSome, IsSome, is_some, length, slice_get, true};
+ghost use Rattle.net_host.specs.Openings.{FindsPort, IsGiven, Opens, OpensAt, OpensBy, OpensFrom, SlotOpens};
+ghost use Rattle.net_host.specs.Openings.{given_port, local_address, open_answer, refused};
+ghost use Rattle.sock_tcp.specs.Draw.{Draws};
+ghost use Rattle.net_host.specs.Facts.{facts_by};
+ghost use Rattle.net_host.specs.Slots.{tcp_at, tcp_in};
+ghost use Rattle.net_host.specs.Walks.{ChangesAt};
+
+use crate::environment::Environment;
+use crate::filed::Filed;
+use crate::interface::Interface;
+use crate::ports::{connection, free_port};
+use crate::set::SocketSet;
+use crate::slot::{Slot, SocketHandle};
+use host_context::Words;
+use smoltcp_socket::tcp::ConnectError;
+use smoltcp_socket::wire::{IpAddress, IpEndpoint, IpListenEndpoint};
+use smoltcp_socket::{Context, Socket};
+use sock_tcp::TsvalSource;
+
+/// Why a connection is not opened.
+#[derive(Debug, Clone, Copy, PartialEq, Eq)]
+pub enum OpenError {
+    /// The local address is none of the interface, no address of the interface leads there, or an endpoint lacks an
+    /// address or a port.
+    Unaddressable,
+    /// Another socket has this connection, or each port of 49152 and more is taken toward this peer.
+    InUse,
+    /// No TCP socket has the handle.
+    NoSocket,
+    /// The socket is open.
+    InvalidState,
+}
+
+fn refused(error: ConnectError) -> OpenError
+    ensures { result ≡ refused error }
+{
+    match error {
+        ConnectError::InvalidState => OpenError::InvalidState,
+        ConnectError::Unaddressable => OpenError::Unaddressable,
+    }
+}
+
+fn open_answer(answer: Result<(), ConnectError>, local: IpEndpoint) -> Result<IpEndpoint, OpenError>
+    ensures { result ≡ open_answer answer local }
+{
+    match answer {
+        Ok(()) => Ok(local),
+        Err(error) => Err(refused(error)),
+    }
+}
+
+impl<'a, G: TsvalSource> Slot<'a, G> {
+    fn open<C: Context>(
+        &mut self,
+        cx: &mut C,
+        remote: IpEndpoint,
+        local: IpEndpoint,
+    ) -> Result<IpEndpoint, OpenError>
+        requires { IsSome (tcp_in self.old.socket) }
+        ensures { SlotOpens C.facts C.word_at self.old cx.old remote local result self.new cx.new }
+    {
+        match &mut self.socket {
+            Some(Socket::Tcp(tcp)) => {
+                let from = IpListenEndpoint {
+                    addr: Some(local.addr),
+                    port: local.port,
+                };
+                let answer = tcp.connect(cx, remote, from);
+                open_answer(answer, local)
+            }
+            _ => Err(OpenError::NoSocket),
+        }
+    }
+}
+
+fn open_there<C: Context, G: TsvalSource>(
+    slots: &mut Vec<Slot<'_, G>>,
+    i: usize,
+    cx: &mut C,
+    remote: IpEndpoint,
+    local: IpEndpoint,
+) -> Result<IpEndpoint, OpenError>
+    requires within { i < length slots.old.items }
+    requires tcp { IfSome (slice_get slots.old.items i) (λ s. IsSome (tcp_in s.socket)) }
+    ensures { ChangesAt (λ before after. SlotOpens C.facts C.word_at before cx.old remote local result after cx.new)
+        slots.old.items i slots.new.items }
+{
+    slots[i].open(cx, remote, local)
+}
+
+impl<'a, G: TsvalSource> Filed<Slot<'a, G>> {
+    // Whether a TCP socket has the handle.
+    fn has_tcp(&self, handle: SocketHandle) -> bool
+        ensures { result ≡ is_some (tcp_at self.now.slots.items handle) }
+    {
+        matches!(self.get(handle), Some(Socket::Tcp(_)))
+    }
+
+    fn open<C: Context>(
+        &mut self,
+        handle: SocketHandle,
+        cx: &mut C,
+        remote: IpEndpoint,
+        local: IpEndpoint,
+    ) -> Result<IpEndpoint, OpenError>
+        ensures { OpensAt C.facts C.word_at self.old.slots.items handle cx.old remote local result
+            self.new.slots.items cx.new }
+    {
+        if !self.has_tcp(handle) {
+            return Err(OpenError::NoSocket);
+        }
+        self.lend(handle.index);
+        open_there(&mut self.slots, handle.index, cx, remote, local)
+    }
+}
+
+// The port, where no socket has the connection.
+pub(crate) fn given_port(found: Option<usize>, port: u16) -> Option<u16>
+    ensures { result ≡ given_port found port }
+{
+    match found {
+        Some(_) => None,
+        None => Some(port),
+    }
+}
+
+fn given<G: TsvalSource>(
+    slots: &[Slot<'_, G>],
+    addr: IpAddress,
+    port: u16,
+    remote: &IpEndpoint,
+) -> Option<u16>
+    ensures { IsGiven addr port remote.now slots.now result }
+{
+    given_port(connection(slots, &IpEndpoint { addr, port }, remote), port)
+}
+
+// The local port, where there is one: that which is asked for, or of 0 a free one.
+fn find_port<G: TsvalSource>(
+    slots: &[Slot<'_, G>],
+    addr: IpAddress,
+    port: u16,
+    remote: &IpEndpoint,
+    start: u16,
+) -> Option<u16>
+    ensures { FindsPort addr port remote.now slots.now start result }
+{
+    if port == 0 {
+        return free_port(slots, addr, remote, start);
+    }
+    given(slots, addr, port, remote)
+}
+
+// A number for where the search for a port begins.
+pub(crate) fn draw_start<C: Context>(cx: &mut C) -> u16
+    ensures draws { Draws true C.facts C.word_at cx.old cx.new }
+    ensures start { result ≡ C.word_at cx.old 0 % 2 ^ 16 }
+{
+    (cx.rand_u32() % 65536) as u16
+}
+
+// From this address, and the port, where there is one.
+fn open_from<C: Context, G: TsvalSource>(
+    sockets: &mut SocketSet<'_, G>,
+    handle: SocketHandle,
+    cx: &mut C,
+    addr: IpAddress,
+    port: Option<u16>,
+    remote: IpEndpoint,
+) -> Result<IpEndpoint, OpenError>
+    ensures { OpensFrom C.facts C.word_at addr port sockets.old.slots.items handle cx.old remote result
+        sockets.new.slots.items cx.new }
+{
+    match port {
+        Some(port) => sockets.open(handle, cx, remote, IpEndpoint { addr, port }),
+        None => Err(OpenError::InUse),
+    }
+}
+
+// From this address.
+fn open_by<C: Context, G: TsvalSource>(
+    sockets: &mut SocketSet<'_, G>,
+    handle: SocketHandle,
+    cx: &mut C,
+    addr: IpAddress,
+    port: u16,
+    remote: IpEndpoint,
+) -> Result<IpEndpoint, OpenError>
+    ensures { OpensBy C.facts C.word_at addr port sockets.old.slots.items handle cx.old remote result
+        sockets.new.slots.items cx.new }
+{
+    let start = draw_start(cx);
+    let port = find_port(&sockets.slots, addr, port, &remote, start);
+    open_from(sockets, handle, cx, addr, port, remote)
+}
+
+impl Environment {
+    // The address that is asked for, if it is one of these, else that from which packets go to the peer.
+    fn local_address(&self, asked: Option<IpAddress>, dst: &IpAddress) -> Option<IpAddress>
+        ensures { result ≡ local_address ⟦<IpAddress as PartialEq>⟧.eq self.entry.now.addresses.items asked dst.now }
+    {
+        match asked {
+            None => self.source(dst),
+            Some(addr) => {
+                if self.has_ip_addr(&addr) {
+                    Some(addr)
+                } else {
+                    None
+                }
+            }
+        }
+    }
+}
+
+impl<W: Words> Interface<W> {
+    /// Opens a connection of a TCP socket of the set to `remote`, and returns its local endpoint: the local address
+    /// given, which is one of the interface, else that from which packets go there; the local port given, or of 0 one
+    /// that no socket has toward this peer, of 49152 to 65535, the first from a random one on (RFC 6056, section
+    /// 3.3.1). Then as `connect` of the socket.
+    ///
+    /// In this order: `Unaddressable` where the address is none of the interface, or there is none to send from;
+    /// `InUse` where another socket has the connection, or all ports are taken; `NoSocket` where no TCP socket has the
+    /// handle; `InvalidState` where it is open; `Unaddressable` as `connect` says. A refusal changes nothing, but may
+    /// have drawn a random number.
+    ///
+    /// It looks at each socket of the set, for a free port at each of the few ports that are tried.
+    pub fn connect<G: TsvalSource>(
+        &mut self,
+        sockets: &mut SocketSet<'_, G>,
+        handle: SocketHandle,
+        remote: IpEndpoint,
+        local: IpListenEndpoint,
+    ) -> Result<IpEndpoint, OpenError>
+        ensures opened { Opens (λ c. facts_by ⟦<IpAddress as PartialEq>⟧.eq c.environment) (λ c k. W.word_at c.words k)
+            (local_address ⟦<IpAddress as PartialEq>⟧.eq self.old.inner.environment.addresses.items local.addr
+            remote.addr) local.port sockets.old.slots.items handle self.old.inner remote result
+            sockets.new.slots.items self.new.inner }
+        ensures same { (self.new.turn ≡ self.old.turn) × (self.new.resets ≡ self.old.resets)
+            × (self.new.errors ≡ self.old.errors) × (self.new.counters ≡ self.old.counters)
+            × (self.new.guards ≡ self.old.guards) × (self.new.cookies ≡ self.old.cookies)
+            × (self.new.groups ≡ self.old.groups) }
+    {
+        match self
+            .inner
+            .environment
+            .local_address(local.addr, &remote.addr)
+        {
+            Some(addr) => open_by(sockets, handle, &mut self.inner, addr, local.port, remote),
+            None => Err(OpenError::Unaddressable),
+        }
+    }
+}
