@@ -1,0 +1,50 @@
+//! Room for a packet of an interface: of the heap, or in its place.
+#[cfg(feature = "alloc")]
+use alloc::vec::Vec;
+
+/// The longest packet.
+#[cfg(feature = "alloc")]
+pub(super) const LONGEST: usize = usize::MAX;
+/// The longest packet.
+#[cfg(not(feature = "alloc"))]
+pub(super) const LONGEST: usize = crate::config::IFACE_MAX_MTU;
+
+/// So many bytes.
+#[cfg(feature = "alloc")]
+pub(super) struct Buffer(Vec<u8>);
+
+#[cfg(feature = "alloc")]
+impl Buffer {
+    pub(super) fn new() -> Buffer {
+        Buffer(Vec::new())
+    }
+
+    pub(super) fn fit(&mut self, len: usize) {
+        if self.0.len() != len {
+            self.0 = alloc::vec![0; len];
+        }
+    }
+
+    pub(super) fn bytes(&mut self) -> &mut [u8] {
+        &mut self.0
+    }
+}
+
+/// So many bytes.
+#[cfg(not(feature = "alloc"))]
+pub(super) struct Buffer([u8; LONGEST], usize);
+
+#[cfg(not(feature = "alloc"))]
+impl Buffer {
+    pub(super) fn new() -> Buffer {
+        Buffer([0; LONGEST], 0)
+    }
+
+    pub(super) fn fit(&mut self, len: usize) {
+        self.1 = len;
+    }
+
+    pub(super) fn bytes(&mut self) -> &mut [u8] {
+        &mut self.0[..self.1]
+    }
+}
