@@ -15,8 +15,7 @@ impl Instant {
     /// The moment of the system's clock, counted from 1970.
     #[cfg(feature = "std")]
     pub fn now() -> Instant {
-        let since = std::time::SystemTime::now().duration_since(std::time::UNIX_EPOCH);
-        Instant::from_micros(since.map_or(0, |since| since.as_micros() as i64))
+        std::time::SystemTime::now().into()
     }
 
     /// The time so many milliseconds after zero, as [`Instant::from_millis`] makes it.
@@ -34,9 +33,9 @@ impl Instant {
         self.micros % 1_000_000 / 1000
     }
 
-    /// The microseconds behind the whole milliseconds.
+    /// The microseconds behind the whole seconds.
     pub const fn micros(&self) -> i64 {
-        self.micros % 1000
+        self.micros % 1_000_000
     }
 
     /// The whole seconds after the start; what is left over is cut off, towards the start.
@@ -59,9 +58,9 @@ impl Duration {
         self.micros % 1_000_000 / 1000
     }
 
-    /// The microseconds behind the whole milliseconds.
+    /// The microseconds behind the whole seconds.
     pub const fn micros(&self) -> u64 {
-        self.micros % 1000
+        self.micros % 1_000_000
     }
 
     /// The whole seconds.
@@ -108,7 +107,9 @@ impl Sub for Duration {
     type Output = Duration;
 
     fn sub(self, other: Duration) -> Duration {
-        Duration::from_micros(self.micros - other.micros)
+        Duration::from_micros(
+            self.micros.checked_sub(other.micros).expect("overflow when subtracting durations"),
+        )
     }
 }
 
@@ -155,26 +156,31 @@ impl core::ops::MulAssign<u32> for Duration {
     }
 }
 
+/// Counted from 1970.
 #[cfg(feature = "std")]
 impl From<std::time::SystemTime> for Instant {
     fn from(moment: std::time::SystemTime) -> Instant {
-        let since = moment.duration_since(std::time::UNIX_EPOCH).expect("a moment after 1970");
-        Instant::from_micros(since.as_micros() as i64)
+        Instant::from_micros(match moment.duration_since(std::time::UNIX_EPOCH) {
+            Ok(since) => since.as_micros() as i64,
+            Err(before) => -(before.duration().as_micros() as i64),
+        })
     }
 }
 
+/// Counted from 1970.
 #[cfg(feature = "std")]
 impl From<Instant> for std::time::SystemTime {
     fn from(moment: Instant) -> std::time::SystemTime {
-        std::time::UNIX_EPOCH + core::time::Duration::from_micros(moment.micros as u64)
+        let far = core::time::Duration::from_micros(moment.micros.unsigned_abs());
+        if moment.micros < 0 { std::time::UNIX_EPOCH - far } else { std::time::UNIX_EPOCH + far }
     }
 }
 
-/// Counted from 1970: what has gone by since is taken from the system's clock.
+/// How long ago the moment was, as in smoltcp.
 #[cfg(feature = "std")]
 impl From<std::time::Instant> for Instant {
     fn from(moment: std::time::Instant) -> Instant {
-        Instant::now() - Duration::from_micros(moment.elapsed().as_micros() as u64)
+        Instant::from_micros(moment.elapsed().as_micros() as i64)
     }
 }
 
@@ -230,6 +236,7 @@ converted! {
     SocketAddrV4 => IpListenEndpoint: |addr| IpEndpoint::from(addr).into();
     SocketAddrV6 => IpListenEndpoint: |addr| IpEndpoint::from(addr).into();
     SocketAddr => IpEndpoint: |addr| IpEndpoint { addr: addr.ip().into(), port: addr.port() };
+    IpEndpoint => SocketAddr: |end| SocketAddr::new(end.addr.into(), end.port);
     u16 => IpListenEndpoint: |port| IpListenEndpoint { addr: None, port };
     SocketAddr => IpListenEndpoint: |addr| IpEndpoint::from(addr).into();
     IpEndpoint => UdpMetadata: |endpoint| UdpMetadata::from_endpoint(endpoint);
@@ -379,10 +386,17 @@ impl Default for Checksum {
     }
 }
 
+impl IpEndpoint {
+    /// Whether there is an address and a port.
+    pub fn is_specified(&self) -> bool {
+        !self.addr.is_unspecified() && self.port != 0
+    }
+}
+
 impl IpListenEndpoint {
-    /// Whether there is a port.
+    /// Whether there is an address and a port.
     pub const fn is_specified(&self) -> bool {
-        self.port != 0
+        self.addr.is_some() && self.port != 0
     }
 }
 

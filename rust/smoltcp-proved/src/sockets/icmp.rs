@@ -1,8 +1,8 @@
 //! ICMP sockets, which take and send echoes, and hear errors about what was sent from a port.
 use super::Context;
-use super::wakers::{Wakers, of_packets};
+use super::wakers::{Wakers, of_packets, written};
 use crate::proved::control_wire::{IcmpRepr, Icmpv4Repr, Icmpv6Repr};
-use crate::proved::ip_wire::{IpRepr, Ipv4Repr, Ipv6Repr};
+use crate::proved::ip_wire::{IpAddress, IpRepr, Ipv4Repr, Ipv6Repr};
 use crate::proved::sock_dgram::icmp as proved;
 
 pub use proved::{BindError, Endpoint, PacketBuffer, PacketMetadata, RecvError, SendError};
@@ -34,6 +34,23 @@ impl<'a> Socket<'a> {
         self.proved.bind(endpoint.into())?;
         self.wakers.wake_both();
         Ok(())
+    }
+
+    /// Puts a message whose bytes `f` writes into the transmit queue: `f` is lent `max_size` bytes and answers how many
+    /// of them, from the first on, are the message. This count is answered.
+    ///
+    /// # Errors
+    /// As the proved call of this name.
+    ///
+    /// # Panics
+    /// Where `f` answers more than it was lent.
+    pub fn send_with<F: FnOnce(&mut [u8]) -> usize>(
+        &mut self,
+        max_size: usize,
+        endpoint: IpAddress,
+        f: F,
+    ) -> Result<usize, SendError> {
+        self.proved.send_with(max_size, endpoint, |room| written(room, f))
     }
 
     /// Puts a message over IPv4 that `accepts_v4` holds of into the receive queue, where there is room, and wakes who

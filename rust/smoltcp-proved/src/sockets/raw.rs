@@ -1,6 +1,6 @@
 //! Raw sockets, which take and send whole IP packets.
 use super::Context;
-use super::wakers::{Wakers, of_packets};
+use super::wakers::{Wakers, of_packets, written};
 use crate::proved::ip_wire::{IpProtocol, IpRepr, IpVersion};
 use crate::proved::sock_dgram::raw as proved;
 
@@ -27,6 +27,22 @@ impl<'a> Socket<'a> {
     /// The two buffers, with what stands in their queues: the receive buffer first.
     pub fn into_buffers(self) -> (PacketBuffer<'a>, PacketBuffer<'a>) {
         self.proved.into_buffers()
+    }
+
+    /// Puts a packet whose bytes `f` writes into the transmit queue: `f` is lent `max_size` bytes and answers how many of
+    /// them, from the first on, are the packet. This count is answered.
+    ///
+    /// # Errors
+    /// `BufferFull` where there is no room for `max_size` bytes.
+    ///
+    /// # Panics
+    /// Where `f` answers more than it was lent.
+    pub fn send_with<F: FnOnce(&mut [u8]) -> usize>(
+        &mut self,
+        max_size: usize,
+        f: F,
+    ) -> Result<usize, SendError> {
+        self.proved.send_with(max_size, |room| written(room, f))
     }
 
     /// Puts a packet that `accepts` holds of into the receive queue, where there is room, and wakes who waits.

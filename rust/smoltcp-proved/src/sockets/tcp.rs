@@ -22,6 +22,19 @@ pub struct Socket<'a, G = Generator> {
     wakers: Wakers,
 }
 
+impl fmt::Display for Ended {
+    fn fmt(&self, f: &mut fmt::Formatter<'_>) -> fmt::Result {
+        f.write_str(match self {
+            Ended::Finished => "closed by both sides",
+            Ended::Refused => "refused by the peer",
+            Ended::Reset => "reset by the peer",
+            Ended::TimedOut => "timed out",
+            Ended::Aborted => "aborted",
+            Ended::Unaddressable => "own address gone",
+        })
+    }
+}
+
 // What a task that waits would see of a socket.
 #[derive(Clone, Copy, PartialEq)]
 struct Seen {
@@ -178,6 +191,25 @@ impl<'a, G> Socket<'a, G> {
     /// Ends the connection: the socket is CLOSED, and the peer is told by an RST, as the proved call of this name.
     pub fn abort(&mut self) {
         self.watched(|socket| socket.abort());
+    }
+
+    /// Lends `f` the free places behind the transmit queue that stand in one piece. `f` answers how many bytes it put at
+    /// their beginning, and these join the queue; beside that it answers what this call answers.
+    ///
+    /// # Errors
+    /// `InvalidState` where `may_send` is false; `f` is not called then, and nothing changes.
+    ///
+    /// # Panics
+    /// Where `f` answers more than it was lent.
+    pub fn send<F, R>(&mut self, f: F) -> Result<R, SendError>
+    where
+        F: FnOnce(&mut [u8]) -> (usize, R),
+    {
+        self.proved.send(|room| {
+            let (count, answer) = f(room);
+            assert!(count <= room.len(), "no more bytes are sent than were lent");
+            (count, answer)
+        })
     }
 
     /// Lends `f` the receive queue up to the end of its ring's storage. `f` answers how many of these bytes leave the

@@ -1,6 +1,6 @@
 //! UDP sockets (RFC 768).
 use super::Context;
-use super::wakers::{Wakers, of_packets};
+use super::wakers::{Wakers, of_packets, written};
 use crate::phy::PacketMeta;
 use crate::proved::control_wire::UdpRepr;
 use crate::proved::ip_wire::{IpAddress, IpEndpoint, IpListenEndpoint, IpRepr};
@@ -101,13 +101,16 @@ impl<'a> Socket<'a> {
     ///
     /// # Errors
     /// As [`Socket::send_slice`], for a datagram of `max_size` bytes; the queue then stays as it was.
+    ///
+    /// # Panics
+    /// Where `f` answers more than it was lent.
     pub fn send_with<F: FnOnce(&mut [u8]) -> usize>(
         &mut self,
         max_size: usize,
         meta: impl Into<UdpMetadata>,
         f: F,
     ) -> Result<usize, SendError> {
-        self.proved.send_with(max_size, meta.into().proved(), f)
+        self.proved.send_with(max_size, meta.into().proved(), |room| written(room, f))
     }
 
     /// Puts a datagram of these bytes into the transmit queue.

@@ -71,6 +71,13 @@ impl Wakers {
     }
 }
 
+/// Asks a closure how many bytes it wrote, of those that it is lent: panics where they are more.
+pub(crate) fn written(room: &mut [u8], f: impl FnOnce(&mut [u8]) -> usize) -> usize {
+    let count = f(room);
+    assert!(count <= room.len(), "no more bytes are written than were lent");
+    count
+}
+
 /// What the three kinds of sockets of packets have alike: their proved socket below, and the calls that keep a waker.
 macro_rules! of_packets {
     ($proved:ident, $what:literal, $changed:literal) => {
