@@ -4,10 +4,12 @@
 //! [`SocketHandle`] to one of [`net_host::SocketSet`]. Which socket hears a packet, who speaks next and when to look
 //! again is proved there.
 use crate::kit::alloc::Global;
+use crate::logged::{TOLD, tell};
 use crate::own;
 use crate::phy::{Device, Medium, RxToken, TxToken};
 use crate::proved::ip_wire::{IpAddress, Ipv4Address, Ipv6Address};
 use crate::proved::net_base::{Duration, Instant};
+use crate::proved::net_host::counters::Counters;
 use crate::proved::net_host::{self, Secret};
 use crate::sockets::{Context as _, PollAt};
 use crate::wire::IpCidr;
@@ -170,7 +172,7 @@ impl Interface {
 
     fn fit(&mut self, device: &(impl Device + ?Sized)) {
         let capabilities = device.capabilities();
-        self.host.set_mtu(capabilities.ip_mtu().min(buffer::LONGEST));
+        self.host.set_mtu(buffer::fitting(capabilities.ip_mtu()));
         self.host.set_checksums(capabilities.checksum);
         self.loops_back = capabilities.loops_back;
         self.packet.fit(self.host.ip_mtu().max(LEAST_ROOM));
@@ -304,6 +306,24 @@ impl Interface {
     }
 }
 
+// Tells who logs which packets were dropped between two moments.
+fn tell_dropped(before: Counters, after: Counters) {
+    if !TOLD {
+        return;
+    }
+    let counts = |of: Counters| {
+        let first = [of.malformed, of.source, of.destination, of.protocol, of.segment, of.datagram];
+        (first, [of.message, of.busy, of.nobody, of.too_long])
+    };
+    let ((a, b), (c, d)) = (counts(before), counts(after));
+    let reasons = ["malformed", "source", "destination", "protocol", "segment", "datagram"];
+    let others = ["message", "busy", "nobody", "too long"];
+    let pairs = a.iter().zip(&c).zip(&reasons).chain(b.iter().zip(&d).zip(&others));
+    for (_, reason) in pairs.filter(|((before, after), _)| before != after) {
+        tell!("dropped: {}", *reason);
+    }
+}
+
 // Packets, and when to look again.
 impl Interface {
     /// Takes all packets that have arrived, and then sends what sockets have to say.
@@ -344,6 +364,7 @@ impl Interface {
             room.consume(len, |packet| packet.copy_from_slice(&self.packet.bytes()[..len]));
         }
         let after = self.host.counters();
+        tell_dropped(before, after);
         if (before.malformed, before.source) != (after.malformed, after.source) {
             return PollIngressSingleResult::PacketProcessed;
         }
@@ -359,6 +380,7 @@ impl Interface {
     ) -> PollResult {
         self.fit(device);
         let (mut result, mut refused) = (PollResult::None, 0);
+        let before = self.host.counters();
         let (set, _) = sockets.parts();
         // a datagram that is longer than the MTU stays with its socket, and each such socket has one turn
         while refused <= set.capacity() {
@@ -372,6 +394,7 @@ impl Interface {
                 Err(_) => refused += 1,
             }
         }
+        tell_dropped(before, self.host.counters());
         result
     }
 

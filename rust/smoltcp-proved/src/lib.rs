@@ -2,14 +2,14 @@
 //! of them has a contract, which is proved of its body by the Rattle toolchain. This crate is those sources as plain
 //! Rust, without the contracts: it needs no prover and no library, and has no `unsafe` code.
 //!
-//! [`proved`] has them, a module for each crate of the repository, made by its `rust/translate`; `tcp`, `udp`,
-//! `icmp`, `raw`, `wire`, `time` and `storage` are those for who uses sockets. By hand, and not proved, are
-//! `iface` and `phy`, a host on a device with smoltcp's signatures, over `proved::net_host`; conversions, texts
-//! and operators of addresses and times; and [`kit`]: vectors and strings that may be refused memory, and ChaCha20.
+//! [`proved`] has them, a module for each crate of the repository, made by its `rust/translate`. By hand, and not
+//! proved, stand over them [`socket`], [`iface`], [`phy`], [`wire`], [`storage`] and [`time`], with smoltcp's names and
+//! signatures: which task is woken, how a device's packets become a host's, conversions, texts and views of addresses,
+//! times and packets; and below them [`kit`]: vectors and strings that may be refused memory, and ChaCha20.
 //!
-//! Features: `std`, on by default, for programs; `alloc`, which it turns on, for a host and its guard; `programs`, on
-//! by default, the scripts and drills of the repository, with its examples; `c-library`, the module `c_library`:
-//! sockets over the C library of the repository, which has to be there.
+//! Features: `std`, on by default, for programs; `alloc`, which it turns on, for sockets and sets that own their memory
+//! (without it each set has room for [`config::IFACE_MAX_SOCKET_COUNT`]); `async`, on by default, for tasks that wait;
+//! `tuntap`, a TUN device of Linux; `programs`, on by default, the scripts and drills of the repository.
 //!
 //! ```
 //! use smoltcp_proved::storage::RingBuffer;
@@ -22,7 +22,7 @@
 #![no_std]
 #![deny(missing_docs, missing_debug_implementations, unsafe_code)]
 #![deny(unsafe_op_in_unsafe_fn, clippy::undocumented_unsafe_blocks)]
-#![cfg_attr(not(any(feature = "c-library", feature = "tuntap")), forbid(unsafe_code))]
+#![cfg_attr(not(feature = "tuntap"), forbid(unsafe_code))]
 
 #[cfg(not(any(target_pointer_width = "32", target_pointer_width = "64")))]
 compile_error!("a `usize` has at least 32 bits here: lengths and offsets of a TCP window do not fit fewer");
@@ -38,6 +38,7 @@ pub mod config;
 mod icmp_wire;
 pub mod iface;
 pub mod kit;
+mod logged;
 mod names;
 mod own;
 mod packets;
@@ -95,6 +96,3 @@ pub mod wire {
     /// The length of a TCP header without options, in bytes.
     pub const TCP_HEADER_LEN: usize = 20;
 }
-
-#[cfg(feature = "c-library")]
-pub mod c_library;

@@ -452,11 +452,10 @@ read! {
     IpEndpoint: SocketAddr;
 }
 
-#[cfg(test)]
+#[cfg(all(test, feature = "std"))]
 mod tests {
     use super::*;
 
-    #[cfg(feature = "std")]
     #[test]
     fn texts_are_read_and_written() {
         use std::string::ToString;

@@ -418,7 +418,7 @@ setters! {
     /// Sets the number that it acknowledges up to.
     set_ack_number(value: TcpSeqNumber) = |bytes| put(bytes, 8, &value.0.to_be_bytes());
     /// Sets the length of the header, in bytes: a multiple of four.
-    set_header_len(value: u8) = |bytes| put_bits(&mut bytes[12], 0xf0, value / 4 << 4);
+    set_header_len(value: u8) = |bytes| put_bits(&mut bytes[12], 0xf0, (value / 4) << 4);
     /// Sets the window, not scaled.
     set_window_len(value: u16) = |bytes| put(bytes, 14, &value.to_be_bytes());
     /// Sets the checksum.
@@ -539,7 +539,7 @@ impl Ipv6Repr {
     }
 }
 
-impl<'a, T: AsRef<[u8]> + ?Sized> fmt::Display for Ipv4Packet<&'a T> {
+impl<T: AsRef<[u8]> + ?Sized> fmt::Display for Ipv4Packet<&T> {
     fn fmt(&self, f: &mut fmt::Formatter<'_>) -> fmt::Result {
         match Ipv4Repr::parse(self, &ChecksumCapabilities::ignored()) {
             Ok(repr) => write!(f, "{repr}"),
@@ -548,7 +548,7 @@ impl<'a, T: AsRef<[u8]> + ?Sized> fmt::Display for Ipv4Packet<&'a T> {
     }
 }
 
-impl<'a, T: AsRef<[u8]> + ?Sized> fmt::Display for Ipv6Packet<&'a T> {
+impl<T: AsRef<[u8]> + ?Sized> fmt::Display for Ipv6Packet<&T> {
     fn fmt(&self, f: &mut fmt::Formatter<'_>) -> fmt::Result {
         match Ipv6Repr::parse(self) {
             Ok(repr) => write!(f, "{repr}"),
@@ -557,13 +557,13 @@ impl<'a, T: AsRef<[u8]> + ?Sized> fmt::Display for Ipv6Packet<&'a T> {
     }
 }
 
-impl<'a, T: AsRef<[u8]> + ?Sized> fmt::Display for UdpPacket<&'a T> {
+impl<T: AsRef<[u8]> + ?Sized> fmt::Display for UdpPacket<&T> {
     fn fmt(&self, f: &mut fmt::Formatter<'_>) -> fmt::Result {
         write!(f, "UDP src={} dst={} len={}", self.src_port(), self.dst_port(), self.payload().len())
     }
 }
 
-impl<'a, T: AsRef<[u8]> + ?Sized> fmt::Display for TcpPacket<&'a T> {
+impl<T: AsRef<[u8]> + ?Sized> fmt::Display for TcpPacket<&T> {
     fn fmt(&self, f: &mut fmt::Formatter<'_>) -> fmt::Result {
         write!(f, "TCP src={} dst={}", self.src_port(), self.dst_port())?;
         let flags = [(self.syn(), "syn"), (self.fin(), "fin"), (self.rst(), "rst"), (self.psh(), "psh")];

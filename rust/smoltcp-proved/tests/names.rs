@@ -1,6 +1,6 @@
 //! Each name that a user of smoltcp's IP media knows, with the argument forms that he writes: that this compiles is what
 //! is tested. With another crate under the name `smoltcp` it is a test of that one.
-#![allow(unused)]
+#![allow(unused, clippy::all)]
 extern crate smoltcp_proved as smoltcp;
 
 use core::fmt::Write as _;

@@ -116,7 +116,7 @@ fn nothing_is_left() {
 fn half_of_it() {
     let (mut places, mut bytes) = ([udp::PacketMetadata::EMPTY; 2], [0; 100]);
     let owned = || udp::PacketBuffer::new(vec![udp::PacketMetadata::EMPTY; 8], vec![0; 1024]);
-    let mut socket = udp::Socket::new(udp::PacketBuffer::new(&mut places, &mut bytes), owned());
+    let mut socket = udp::Socket::new(udp::PacketBuffer::new(&mut places[..], &mut bytes[..]), owned());
     assert_eq!((socket.packet_recv_capacity(), socket.bind(53)), (2, Ok(())));
     let _ = bytes[0]; // free again
 }

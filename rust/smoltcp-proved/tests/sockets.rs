@@ -116,8 +116,10 @@ fn bytes_pass_between_two_sockets() {
 fn a_datagram_is_sent_as_it_was_queued() {
     let (mut rx_meta, mut tx_meta) = ([PacketMetadata::EMPTY; 2], [PacketMetadata::EMPTY; 2]);
     let (mut rx, mut tx) = ([0; 64], [0; 64]);
-    let mut socket =
-        udp::Socket::new(PacketBuffer::new(&mut rx_meta, &mut rx), PacketBuffer::new(&mut tx_meta, &mut tx));
+    let mut socket = udp::Socket::new(
+        PacketBuffer::new(&mut rx_meta[..], &mut rx[..]),
+        PacketBuffer::new(&mut tx_meta[..], &mut tx[..]),
+    );
     let mut cx = layer(1);
     socket.bind(IpListenEndpoint { addr: None, port: 7 }).expect("a socket that is not bound");
     assert!(socket.poll_at(&cx) == PollAt::Ingress);

@@ -2,12 +2,16 @@
 #[cfg(feature = "alloc")]
 use alloc::vec::Vec;
 
-/// The longest packet.
-#[cfg(feature = "alloc")]
-pub(super) const LONGEST: usize = usize::MAX;
-/// The longest packet.
 #[cfg(not(feature = "alloc"))]
-pub(super) const LONGEST: usize = crate::config::IFACE_MAX_MTU;
+use crate::config::IFACE_MAX_MTU as LONGEST;
+
+/// The MTU for a device of this one: where there is no heap, at most what the build fixes.
+pub(super) fn fitting(mtu: usize) -> usize {
+    #[cfg(not(feature = "alloc"))]
+    return mtu.min(LONGEST);
+    #[cfg(feature = "alloc")]
+    mtu
+}
 
 /// So many bytes.
 #[cfg(feature = "alloc")]

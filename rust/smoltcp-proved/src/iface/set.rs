@@ -106,7 +106,7 @@ impl<'a> SocketSet<'a> {
         let mut old = core::mem::replace(&mut self.set, room_for(capacity));
         for handle in self.handles.iter_mut().flatten() {
             let socket = old.remove(*handle).expect("each handle has its socket");
-            *handle = self.set.add(socket).ok().expect("the new set is larger");
+            *handle = self.set.add(socket).expect("the new set is larger");
         }
     }
 

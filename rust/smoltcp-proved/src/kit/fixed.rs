@@ -217,3 +217,49 @@ impl<T: Kept> DerefMut for Vec<T> {
         self.as_mut_slice()
     }
 }
+
+#[cfg(test)]
+mod tests {
+    use super::*;
+    use crate::iface::{SocketSet, SocketStorage};
+    use crate::socket::{Socket, tcp};
+    use crate::storage::RingBuffer;
+
+    fn socket<'a>() -> tcp::Socket<'a> {
+        let none = || RingBuffer::new([].as_mut_slice());
+        tcp::Socket::new(none(), none())
+    }
+
+    #[test]
+    fn a_full_vector_gives_the_item_back() {
+        let mut vector: Vec<u32> = Vec::filled(Global, 7, 2 * IFACE_MAX_SOCKET_COUNT).expect("room for all");
+        assert_eq!(vector.push(8), Err(AllocFailed { value: 8 }));
+        assert_eq!(vector.remove(0), 7);
+        assert_eq!((vector.insert(0, 9), vector[0], vector.len()), (Ok(()), 9, vector.capacity()));
+        assert_eq!(vector.insert(0, 9), Err(AllocFailed { value: 9 }));
+        assert!(Vec::<u32>::with_capacity(Global, vector.capacity() + 1).is_err());
+    }
+
+    #[test]
+    fn sockets_come_and_go_in_a_set_without_a_heap() {
+        let mut places = [SocketStorage::EMPTY; IFACE_MAX_SOCKET_COUNT];
+        let mut sockets = SocketSet::new(&mut places[..]);
+        for _ in 0..3 {
+            let handles = [(); IFACE_MAX_SOCKET_COUNT].map(|()| sockets.add(socket()));
+            assert_eq!(sockets.iter().count(), IFACE_MAX_SOCKET_COUNT);
+            for handle in handles {
+                sockets.get_mut::<tcp::Socket<'_>>(handle).listen(80).expect("a closed socket listens");
+                assert!(matches!(sockets.remove(handle), Socket::Tcp(socket) if socket.is_listening()));
+            }
+        }
+    }
+
+    #[test]
+    #[should_panic(expected = "full SocketSet")]
+    fn a_set_has_as_many_sockets_as_places() {
+        let mut places = [SocketStorage::EMPTY; 1];
+        let mut sockets = SocketSet::new(&mut places[..]);
+        sockets.add(socket());
+        sockets.add(socket());
+    }
+}

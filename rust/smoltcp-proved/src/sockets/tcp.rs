@@ -1,6 +1,7 @@
 //! TCP sockets (RFC 9293).
 use super::Context;
 use super::wakers::Wakers;
+use crate::logged::{TOLD, tell};
 use crate::proved::control_wire::TcpRepr;
 use crate::proved::ip_wire::{IpEndpoint, IpListenEndpoint, IpRepr};
 use crate::proved::sock_tcp as proved;
@@ -53,6 +54,12 @@ fn seen<G>(socket: &proved::Socket<'_, G>) -> Seen {
     }
 }
 
+// The endpoints of a connection, where anybody is told of it.
+#[inline(always)]
+fn told_ends<G>(socket: &proved::Socket<'_, G>) -> Option<(IpEndpoint, IpEndpoint)> {
+    if TOLD { socket.local_endpoint().zip(socket.remote_endpoint()) } else { None }
+}
+
 impl<'a> Socket<'a> {
     /// A closed socket over these two buffers, with no source of timestamps.
     ///
@@ -93,13 +100,26 @@ impl<'a, G> Socket<'a, G> {
     // Makes a call that changes the socket, and wakes whom the change concerns, when it has ended.
     #[inline(always)]
     fn watched<R>(&mut self, call: impl FnOnce(&mut proved::Socket<'a, G>) -> R) -> R {
-        if !self.wakers.any() {
+        if !self.wakers.any() && !TOLD {
             return call(&mut self.proved);
         }
-        let before = seen(&self.proved);
+        let (before, peer) = (seen(&self.proved), self.proved.remote_endpoint());
         let answer = call(&mut self.proved);
         self.wake(before);
+        if TOLD && self.proved.state() != before.state {
+            self.tell_state(before.state, peer);
+        }
         answer
+    }
+
+    // The endpoints are those of now, or the peer's of before.
+    fn tell_state(&self, before: State, peer: Option<IpEndpoint>) {
+        match (self.proved.local_endpoint(), self.proved.remote_endpoint().or(peer)) {
+            (Some(local), Some(remote)) => {
+                tell!("{} -> {}: {} => {}", local, remote, before, self.proved.state());
+            }
+            _ => tell!("{}: {} => {}", self.proved.listen_endpoint(), before, self.proved.state()),
+        }
     }
 
     #[cold]
@@ -268,7 +288,20 @@ impl<'a, G: TsvalSource> Socket<'a, G> {
     ) -> Result<(), E> {
         self.watched(
             #[inline(always)]
-            |socket| socket.dispatch(cx, emit),
+            |socket| {
+                let (sent, ends) = (socket.control_block.remote_last_seq, told_ends(socket));
+                socket.dispatch(
+                    cx,
+                    #[inline(always)]
+                    |cx: &mut C, (ip, repr): (IpRepr, TcpRepr<'_>)| {
+                        let again = repr.segment_len() > 0 && before(repr.seq_number, sent);
+                        if let (true, Some((local, remote))) = (again, ends) {
+                            tell!("{} -> {}: sends again from {}", local, remote, repr.seq_number.0);
+                        }
+                        emit(cx, (ip, repr))
+                    },
+                )
+            },
         )
     }
 }
