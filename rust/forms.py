@@ -33,8 +33,38 @@ NEARER, NEARER_CRATES = {"IpEndpoint", "IpListenEndpoint", "UdpMetadata"}, {"soc
 # the fields on which the buffers of this crate stand
 STORAGE, STORAGE_CRATE = {"storage", "payload"}, "net_base"
 MACROS = {"format", "vec"}
-# reads of several bytes that are spelled as single bytes, each once in its crate: what kit/bytes.rs has in their place
+# methods whose names smoltcp has for others, which are by hand
+RENAMED = {"enqueue_one": "enqueue_item", "enqueue_many_with": "enqueue_lent", "dequeue_many_with": "dequeue_shown",
+           "dequeue": "dequeue_packet", "dequeue_with": "dequeue_packet_with"}
+RENAMED_CRATES = {"net_base", "sock_core", "sock_tcp", "sock_dgram"}
+# the addresses are those of Rust's own library: what of theirs is cut, and where their octets are asked for
+ADDRESS = re.compile(r"#\[derive\([^]]*\)\]\s*pub struct Ipv[46]Address\(pub \[u8; \d+\]\);|impl Ipv[46]Address \{")
+ADDRESSES, ADDRESS_CRATE = {"Ipv4Address": "ipv4", "Ipv6Address": "ipv6"}, "ip_wire"
+OCTETS = {"addr", "address", "src_addr", "dst_addr", "v4"}
+OCTETS_CRATES = {"ip_wire", "segment_wire", "net_host", "host_cookies", "host_context", "socket_script"}
+# what stands on sets of sockets has those that wake tasks, by hand over the proved ones
+HOSTS = {"net_host", "host_link", "two_hosts", "hosted_bench", "host_bench", "first_socket"}
+WAKING = {"smoltcp_socket": "sockets", "sock_tcp": "sockets::sock_tcp"}
+# texts that stand once in their crate, and what stands in their place: moments of any number, as smoltcp's; and reads of
+# several bytes that are spelled as single bytes, for which kit/bytes.rs has calls
 READS = {
+    "net_base": {
+        "const fn from_micros(micros: i64)": "fn from_micros(micros: impl Into<i64>)",
+        "Instant { micros }": "Instant { micros: micros.into() }",
+        "const fn from_millis(millis: i64)": "fn from_millis(millis: impl Into<i64>)",
+        "Instant::from_micros(millis * 1000)": "Instant::from_micros(millis.into() * 1000)",
+        "const fn from_secs(secs: i64)": "fn from_secs(secs: impl Into<i64>)",
+        "Instant::from_micros(secs * 1_000_000)": "Instant::from_micros(secs.into() * 1_000_000)",
+        "pub struct RingBuffer<'a, T> {\n    storage": "pub struct RingBuffer<'a, T> {\n    pub(crate) storage",
+        "pub struct PacketBuffer<'a, H> {\n    payload": "pub struct PacketBuffer<'a, H> {\n    pub(crate) payload",
+        "    metadata: RingBuffer<'a, PacketMetadata<H>>,\n    start: usize,\n    length: usize,\n}":
+            "    pub(crate) metadata: RingBuffer<'a, PacketMetadata<H>>,\n    pub(crate) start: usize,\n"
+            "    pub(crate) length: usize,\n}",
+        "    read_at: usize,\n    length: usize,\n}": "    pub(crate) read_at: usize,\n    pub(crate) length: usize,\n}",
+    },
+    "net_host": {"pub trait Keyed {": "pub trait Keyed: crate::kit::Kept {"},
+    "host_index": {"const COUNT: usize = 256;": "const COUNT: usize = crate::kit::KNOWN;"},
+    "sock_core": {"    ring: RingBuffer<'a, u8>,": "    pub(crate) ring: RingBuffer<'a, u8>,"},
     "ip_wire": {
         """let first = total + le64_at(bytes, at) + le64_at(bytes, at + 8);
     first + le64_at(bytes, at + 16) + le64_at(bytes, at + 24)""": "total + crate::kit::four_le64(bytes, at)",
@@ -70,7 +100,15 @@ LIST = {
     "into": "of public methods of the sockets, x: T -> x: impl Into<T>, and let x = x.into(), for "
             f"{', '.join(sorted(NEARER))}",
     "owned": f"of the buffers of {STORAGE_CRATE}, &'a mut [T] -> crate::kit::Storage<'a, T>, a lent slice or a vector",
-    "reads": "of ip_wire and bench_parts, single bytes that make up a number -> crate::kit::le64(bytes, at) and the like",
+    "reads": "of ip_wire and bench_parts, single bytes that make up a number -> crate::kit::le64(bytes, at) and the like; of "
+             "net_base, Instant::from_*(i64) -> Instant::from_*(impl Into<i64>); fields of buffers are pub(crate); "
+             "of net_host and host_index, for builds without a heap, what is filed is crate::kit::Kept, and the number of "
+             "known keys is crate::kit::KNOWN",
+    "renamed": f"of {', '.join(sorted(RENAMED_CRATES))}, methods of buffers whose names smoltcp has for others: "
+               + ", ".join(f"{old} -> {new}" for old, new in RENAMED.items()),
+    "address": f"Ipv4Address and Ipv6Address of {ADDRESS_CRATE}: cut, those of core::net in their place; "
+               "Ipv4Address(x) -> crate::kit::ipv4(x), and .0 of one -> .octets()",
+    "waking": f"of {', '.join(sorted(HOSTS))}, smoltcp_socket:: -> crate::sockets::, sock_tcp:: -> crate::sockets::sock_tcp::",
     "main": "fn main(rt: HostRuntime) { -> fn main() { let rt = HostRuntime;",
 }
 
@@ -151,6 +189,8 @@ def cut_at(text, at):
         return text.index(";", at) + 1, "error"
     if found := TESTS.match(text, at):
         return found.end(), "tests"
+    if found := ADDRESS.match(text, at):
+        return found.end() if found[0][0] == "#" else behind(text, found.end() - 1, "{", "}"), "address"
     if TACTIC.match(text, at):
         return behind(text, text.index("[", at), "[", "]"), "tactic"
     return None
@@ -188,7 +228,7 @@ def cuts(text):
         found = cut_at(text, at) if one.kind in ("word", "sign") else None
         if found:
             end, form = found
-            edits.append(Edit(begins_above(text, at, kept) if form == "ghost" else at, end, "", form))
+            edits.append(Edit(begins_above(text, at, kept) if form in ("ghost", "address") else at, end, "", form))
             at = end
             continue
         if one.kind in ("word", "sign"):
@@ -334,6 +374,8 @@ def paths(text, code, place, crate, crates, root):
         return [Edit(one.start, one.end, f"crate::proved::{crate}", "crate")]
     if one.text == "std" and after == "::":
         return toolchain(text, code, place, root)
+    if crate in HOSTS and one.text in WAKING:
+        return [Edit(one.start, one.end, f"{root}::{WAKING[one.text]}", "waking")]
     if one.text in crates:
         return [Edit(one.start, one.end, f"{root}::proved::{one.text}", "other")]
     if one.text in KIT_CRATES:
@@ -370,6 +412,8 @@ def imports(text, kept, code, root):
     if wanted:
         names = wanted[0] if len(wanted) == 1 else "{" + ", ".join(wanted) + "}"
         lines.append(Edit(at, at, f"use {root}::kit::{names};\n", "prelude"))
+    if "pub struct Ipv4Address(" in text:
+        lines.append(Edit(at, at, "pub use core::net::{Ipv4Addr as Ipv4Address, Ipv6Addr as Ipv6Address};\n", "address"))
     if "write_char" in used:
         lines.append(Edit(at, at, "use core::fmt::Write as _;\n", "write_char"))
     if lines and not text.startswith("use ", at):
@@ -381,6 +425,18 @@ def reads(text, crate):
     """The edits of reads of several bytes."""
     found = [(text.find(old), old, new) for old, new in READS.get(crate, {}).items()]
     return [Edit(at, at + len(old), new, "reads") for at, old, new in found if at >= 0]
+
+
+def addresses(code, place, crate, root):
+    """The edits of an address that is made of its octets, or asked for them."""
+    one, before = code[place], [code[i].text if i >= 0 else "" for i in (place - 2, place - 1)]
+    if one.text in ADDRESSES and code[place + 1].text == "(":
+        return [Edit(one.start, one.end, f"{root}::kit::{ADDRESSES[one.text]}", "address")]
+    if crate not in OCTETS_CRATES or [code[i].text for i in (place + 1, place + 2) if i < len(code)] != [".", "0"]:
+        return []
+    lent = one.text in ("a", "b", "src", "dst") and (before[1] == "&" or before == ["from_be_bytes", "("])
+    zero = code[place + 2]
+    return [Edit(zero.start, zero.end, "octets()", "address")] if lent or one.text in OCTETS else []
 
 
 def words(text, kept, crate, crates, root):
@@ -400,8 +456,10 @@ def words(text, kept, crate, crates, root):
             edits += program_main(text, code, place)
         elif one.text == "fn":
             edits += nearer(code, place, crate)
+        elif one.text in RENAMED and crate in RENAMED_CRATES:
+            edits.append(Edit(one.start, one.end, RENAMED[one.text], "renamed"))
         elif one.kind == "word":
-            edits += paths(text, code, place, crate, crates, root)
+            edits += paths(text, code, place, crate, crates, root) + addresses(code, place, crate, root)
     return edits + reads(text, crate) + imports(text, kept, code, root)
 
 

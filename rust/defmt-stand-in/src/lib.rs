@@ -51,3 +51,32 @@ pub fn text(value: &impl Format) -> String {
     value.format(Formatter(&text));
     text.into_inner()
 }
+
+thread_local! {
+    static LINES: RefCell<Vec<String>> = const { RefCell::new(Vec::new()) };
+}
+
+/// The lines that were told since this was asked last.
+pub fn taken() -> Vec<String> {
+    LINES.take()
+}
+
+#[doc(hidden)]
+pub fn line(pieces: &[String], text: &str) {
+    let mut pieces = pieces.iter();
+    let parts: Vec<&str> = text.split("{}").collect();
+    let mut line = parts[0].to_string();
+    for part in &parts[1..] {
+        line += pieces.next().expect("a value for each place");
+        line += part;
+    }
+    LINES.with_borrow_mut(|lines| lines.push(line));
+}
+
+/// A line of a text and values.
+#[macro_export]
+macro_rules! debug {
+    ($text:literal $(, $value:expr)*) => {
+        $crate::line(&[$($crate::text(&$value)),*], $text)
+    };
+}

@@ -1,94 +1,50 @@
-//! Two sockets in one process: a connects to b and sends a line, b sends it back, and both close.
+//! A host that talks with itself: a client sends bytes to a server over TCP, on a device that hands back what is sent.
+//! Time is simulated: the clock jumps to when it is needed.
 //!
-//!     cargo run --example loopback
-use smoltcp_proved::c_library::tcp::{Memory, Socket, State};
-use smoltcp_proved::c_library::time::{Duration, Instant};
-use smoltcp_proved::c_library::wire::IpAddress;
-use smoltcp_proved::c_library::{Context, Words, tcp};
+//! loopback [BYTES]      Ends with 0 when all came through.
+use smoltcp_proved::iface::{Config, Interface, PollResult, SocketSet};
+use smoltcp_proved::phy::{Loopback, Medium};
+use smoltcp_proved::socket::tcp;
+use smoltcp_proved::time::{Duration, Instant};
+use smoltcp_proved::wire::{HardwareAddress, IpAddress, IpCidr};
 
-const MTU: usize = 1500;
-
-/// A socket with what it is told of its interface.
-struct Host<'a> {
-    socket: Socket<'a>,
-    cx: Context<Numbers>,
+fn socket() -> tcp::Socket<'static> {
+    let buffer = || tcp::SocketBuffer::new(vec![0; 8192]);
+    tcp::Socket::new(buffer(), buffer())
 }
 
-/// The numbers that connections begin with. A program takes words that nobody can guess (RFC 6528).
-struct Numbers(u32);
+fn main() {
+    let total = std::env::args().nth(1).map_or(100_000, |word| word.parse().expect("a number of bytes"));
+    let mut device = Loopback::new(Medium::Ip);
+    let mut config = Config::new(HardwareAddress::Ip);
+    config.random_seed = 1; // a host on a network has a `secret`
+    let mut now = Instant::ZERO;
+    let mut iface = Interface::new(config, &mut device, now);
+    let here = IpAddress::v4(127, 0, 0, 1);
+    iface.update_ip_addrs(|addrs| addrs.push(IpCidr::new(here, 8)).expect("room for an address"));
 
-impl Words for Numbers {
-    fn next(&mut self) -> Option<u32> {
-        self.0 = self.0.wrapping_add(64_000);
-        Some(self.0)
-    }
-}
+    let mut sockets = SocketSet::new(vec![]);
+    let (server, client) = (sockets.add(socket()), sockets.add(socket()));
+    sockets.get_mut::<tcp::Socket>(server).listen(80).expect("a closed socket listens");
+    let socket = sockets.get_mut::<tcp::Socket>(client);
+    socket.connect(iface.context(), (here, 80), 49152).expect("a closed socket connects");
 
-impl<'a> Host<'a> {
-    fn new(last: u8, memory: &'a mut Memory, rx: &'a mut [u8], tx: &'a mut [u8]) -> Host<'a> {
-        let cx = Context::new(MTU).expect("an MTU of 576 or more");
-        let mut cx = cx.with_source(Numbers(1000 * u32::from(last)));
-        cx.set_ipv4_addr([10, 0, 0, last].into());
-        let mut socket = Socket::new(memory, rx, tx);
-        socket.set_timeout(Some(Duration::from_secs(60)));
-        socket.set_keep_alive(Some(Duration::from_secs(15)));
-        Host { socket, cx }
-    }
-
-    /// Gives what it emits to the other, and the replies back. Answers how many packets went.
-    fn send_to(&mut self, other: &mut Host) -> usize {
-        let (mut packet, mut reply) = ([0; MTU], [0; tcp::REPLY_LEN]);
-        for count in 0..64 {
-            let Ok(Some(len)) = self.socket.dispatch(&self.cx, &mut packet) else {
-                return count;
-            };
-            if let Ok(Some(len)) = other.socket.process(&mut other.cx, &packet[..len], &mut reply) {
-                let _ = self.socket.process(&mut self.cx, &reply[..len], &mut packet);
-            }
+    let (mut sent, mut got, mut polls) = (0, 0, 0);
+    while got < total && now < Instant::from_secs(60) {
+        let did = iface.poll(now, &mut device, &mut sockets);
+        polls += 1;
+        let socket = sockets.get_mut::<tcp::Socket>(client);
+        if socket.can_send() && sent < total {
+            sent += socket.send_slice(&vec![7; total - sent]).expect("an open socket sends");
         }
-        64
-    }
-}
-
-/// Carries packets until none is due.
-fn run(a: &mut Host, b: &mut Host) {
-    for _ in 0..100 {
-        let now: Instant = a.cx.now() + Duration::from_millis(20);
-        a.cx.set_now(now);
-        b.cx.set_now(now);
-        if a.send_to(b) + b.send_to(a) == 0 {
-            return;
+        let socket = sockets.get_mut::<tcp::Socket>(server);
+        if socket.can_recv() {
+            got += socket.recv(|bytes| (bytes.len(), bytes.len())).expect("bytes are there");
+        }
+        if did == PollResult::None {
+            now += iface.poll_delay(now, &sockets).unwrap_or(Duration::ZERO).max(Duration::from_millis(1));
         }
     }
-}
-
-fn main() -> Result<(), Box<dyn std::error::Error>> {
-    let mut memory = [Memory::new(), Memory::new()];
-    let mut bytes = [[0; 4096]; 4];
-    let ([m, n], [p, q, r, s]) = (&mut memory, &mut bytes);
-    let (mut a, mut b) = (Host::new(1, m, p, q), Host::new(2, n, r, s));
-
-    b.socket.listen(7)?;
-    a.socket.connect(&mut a.cx, (IpAddress::v4(10, 0, 0, 2), 7), 49152)?;
-    run(&mut a, &mut b);
-    println!("a {}, b {}", a.socket.state(), b.socket.state());
-
-    a.socket.send_slice(b"the quick brown fox")?;
-    run(&mut a, &mut b);
-    let line = b.socket.recv(|line| (line.len(), String::from_utf8_lossy(line).into_owned()))?;
-    println!("b reads: {line}");
-    b.socket.send_slice(line.as_bytes())?;
-    run(&mut a, &mut b);
-    let mut back = [0; 100];
-    let len = a.socket.recv_slice(&mut back)?;
-    println!("a reads: {}", String::from_utf8_lossy(&back[..len]));
-    assert_eq!(&back[..len], b"the quick brown fox");
-
-    a.socket.close();
-    run(&mut a, &mut b);
-    b.socket.close();
-    run(&mut a, &mut b);
-    println!("a {}, b {}", a.socket.state(), b.socket.state());
-    assert_eq!((a.socket.state(), b.socket.state()), (State::TimeWait, State::Closed));
-    Ok(())
+    assert_eq!(got, total);
+    println!("{got} bytes in {polls} polls, at {now}");
 }

@@ -5,106 +5,39 @@
 //!
 //! makes the device, which then has to be given the address 10.9.0.1/24 and set up, and ends with an error where an
 //! answer does not come within ten seconds.
-use smoltcp_proved::c_library::socket::{AnySocket, Socket};
-use smoltcp_proved::c_library::time::{Duration, Instant};
-use smoltcp_proved::c_library::wire::{Icmpv4Repr, IpAddress};
-use smoltcp_proved::c_library::{Context, NoWords, icmp, udp};
+use smoltcp_proved::iface::{Config, Interface, SocketSet};
+use smoltcp_proved::phy::{ChecksumCapabilities, Medium, TunTapInterface, wait};
+use smoltcp_proved::socket::{icmp, udp};
+use smoltcp_proved::time::{Duration, Instant};
+use smoltcp_proved::wire::{HardwareAddress, Icmpv4Packet, Icmpv4Repr, IpAddress, IpCidr};
 use std::io;
+use std::os::fd::AsRawFd;
 
-#[path = "tun/device.rs"]
-mod device;
-use device::Device;
-
-const MTU: usize = 1500;
 const PEER: IpAddress = IpAddress::v4(10, 9, 0, 1);
 const IDENT: u16 = 0x2a2a;
 const PORT: u16 = 49152;
 const PATIENCE: Duration = Duration::from_secs(10);
-const PAUSE: i32 = 100;
-const TURN: usize = 64;
 
-/// Memory and queues of a socket of messages for four of them each way.
-struct Room {
-    memory: icmp::Memory,
-    places: [[icmp::PacketMetadata; 4]; 2],
-    bytes: [[u8; 4 * MTU]; 2],
+fn socket(endpoint: icmp::Endpoint) -> Result<icmp::Socket<'static>, icmp::BindError> {
+    let buffer = || icmp::PacketBuffer::new(vec![icmp::PacketMetadata::EMPTY; 4], vec![0; 4000]);
+    let mut socket = icmp::Socket::new(buffer(), buffer());
+    socket.bind(endpoint)?;
+    Ok(socket)
 }
 
-impl Room {
-    fn new() -> Room {
-        let places = [[icmp::PacketMetadata::EMPTY; 4]; 2];
-        Room { memory: icmp::Memory::new(), places, bytes: [[0; 4 * MTU]; 2] }
-    }
-
-    fn socket(&mut self, endpoint: icmp::Endpoint) -> io::Result<icmp::Socket<'_>> {
-        let ([rx_places, tx_places], [rx, tx]) = (&mut self.places, &mut self.bytes);
-        let (rx, tx) = (icmp::PacketBuffer::new(rx_places, rx), icmp::PacketBuffer::new(tx_places, tx));
-        let mut socket = icmp::Socket::new(&mut self.memory, rx, tx);
-        socket.bind(endpoint).map_err(io::Error::other)?;
-        Ok(socket)
-    }
-}
-
-/// The device, what the sockets are told of it, and since when the program runs.
-struct Host {
-    device: Device,
-    cx: Context<NoWords>,
-    begin: std::time::Instant,
-}
-
-impl Host {
-    fn now(&self) -> Instant {
-        Instant::ZERO + Duration::from(self.begin.elapsed())
-    }
-
-    /// Sends what the sockets have to send, and gives them what comes within a moment.
-    fn round(&mut self, sockets: &mut [Socket]) {
-        self.cx.set_now(self.now());
-        let mut packet = [0; MTU];
-        for socket in sockets.iter_mut() {
-            for _ in 0..TURN {
-                let Ok(Some(len)) = socket.dispatch(&self.cx, &mut packet) else { break };
-                self.device.emit(&packet[..len]);
-            }
+/// The message that these bytes spell, and what there is to say of it, where it is an answer.
+fn said(bytes: &[u8], from: IpAddress) -> Option<String> {
+    let packet = Icmpv4Packet::new_checked(bytes).ok()?;
+    match Icmpv4Repr::parse(&packet, &ChecksumCapabilities::default()).ok()? {
+        Icmpv4Repr::EchoReply { seq_no, data, .. } => {
+            Some(format!("{from}: seq {seq_no}, {} bytes", data.len()))
         }
-        self.device.wait(PAUSE);
-        for _ in 0..TURN {
-            let Ok(len) = self.device.read(&mut packet) else { return };
-            // none is of TCP, which alone would answer at once
-            let (cx, packet) = (&mut self.cx, &packet[..len]);
-            let _taken = sockets.iter_mut().any(|socket| socket.process(cx, packet, &mut []).is_ok());
-        }
+        Icmpv4Repr::DstUnreachable { header, .. } => Some(format!(
+            "{from}: destination port unreachable: {} to {}",
+            header.next_header, header.dst_addr
+        )),
+        _ => None,
     }
-}
-
-/// Where each socket stands in the host's array.
-const ECHOES: usize = 0;
-const ERRORS: usize = 1;
-const DATAGRAMS: usize = 2;
-
-fn of_kind<'c, 'a, T: AnySocket<'a>>(socket: &'c mut Socket<'a>) -> &'c mut T {
-    T::downcast_mut(socket).expect("a socket of this kind")
-}
-
-/// Sends a request of this number.
-fn ping(socket: &mut icmp::Socket, seq_no: u16) -> io::Result<()> {
-    let request = Icmpv4Repr::EchoRequest { ident: IDENT, seq_no, data: b"proved sockets" };
-    request.emit(socket.send(request.buffer_len(), PEER).map_err(io::Error::other)?);
-    Ok(())
-}
-
-/// The message that has come, in words.
-fn heard(socket: &mut icmp::Socket) -> Option<String> {
-    let (message, from) = socket.recv().ok()?;
-    Some(match Icmpv4Repr::parse(message) {
-        Ok(Icmpv4Repr::EchoReply { seq_no, data, .. }) => {
-            format!("{} bytes from {from}: seq {seq_no}", data.len())
-        }
-        Ok(Icmpv4Repr::DstUnreachable { reason, header, .. }) => {
-            format!("{from}: {reason}: {} to {}", header.next_header, header.dst_addr)
-        }
-        other => format!("{from}: {other:?}"),
-    })
 }
 
 fn main() -> io::Result<()> {
@@ -113,40 +46,48 @@ fn main() -> io::Result<()> {
         return Err(io::Error::other("usage: tun_ping DEVICE COUNT"));
     };
     let count: u16 = count.parse().map_err(io::Error::other)?;
-    let mut cx = Context::new(MTU).expect("an MTU of 576 or more");
-    cx.set_ipv4_addr([10, 9, 0, 2].into());
-    let mut host = Host { device: Device::open(name)?, cx, begin: std::time::Instant::now() };
+    let begin = std::time::Instant::now();
+    let now = || Instant::from(begin);
+    let mut device = TunTapInterface::new(name, Medium::Ip)?;
+    let mut iface = Interface::new(Config::new(HardwareAddress::Ip), &mut device, now());
+    iface.update_ip_addrs(|addrs| {
+        addrs.push(IpCidr::new(IpAddress::v4(10, 9, 0, 2), 24)).expect("room for an address");
+    });
 
-    let (mut echoes, mut errors) = (Room::new(), Room::new());
-    let (mut memory, mut places) = (udp::Memory::new(), [[udp::PacketMetadata::EMPTY; 1]; 2]);
-    let ([p, q], [r, s]) = (&mut places, &mut [[0; 100]; 2]);
-    let (rx, tx) = (udp::PacketBuffer::new(p, r), udp::PacketBuffer::new(q, s));
-    let mut datagrams = udp::Socket::new(&mut memory, rx, tx);
-    datagrams.bind(PORT).map_err(io::Error::other)?;
-    let mut sockets = [
-        echoes.socket(icmp::Endpoint::Ident(IDENT))?.into(),
-        errors.socket(icmp::Endpoint::Udp(PORT.into()))?.into(),
-        datagrams.into(),
-    ];
+    let mut sockets = SocketSet::new(vec![]);
+    let echoes = sockets.add(socket(icmp::Endpoint::Ident(IDENT)).map_err(io::Error::other)?);
+    let errors = sockets.add(socket(icmp::Endpoint::Udp(PORT.into())).map_err(io::Error::other)?);
+    let buffer = || udp::PacketBuffer::new(vec![udp::PacketMetadata::EMPTY; 4], vec![0; 1000]);
+    let datagrams = sockets.add(udp::Socket::new(buffer(), buffer()));
+    sockets.get_mut::<udp::Socket>(datagrams).bind(PORT).map_err(io::Error::other)?;
 
+    // one question after the other, each asked again every second until it is answered
     for seq_no in 0..=count {
-        let (sent, is_echo) = (host.now(), seq_no < count);
-        // again each round, as the device may not be up yet, until one is answered
-        let said = loop {
-            if is_echo {
-                ping(of_kind(&mut sockets[ECHOES]), seq_no)?;
-            } else {
-                let datagrams: &mut udp::Socket = of_kind(&mut sockets[DATAGRAMS]);
-                datagrams.send_slice(b"anybody?", (PEER, 9)).map_err(io::Error::other)?;
+        let (asked_at, mut again_at) = (now(), now());
+        loop {
+            if now() >= again_at {
+                again_at = now() + Duration::from_secs(1);
+                if seq_no < count {
+                    let repr = Icmpv4Repr::EchoRequest { ident: IDENT, seq_no, data: &[seq_no as u8; 40] };
+                    let room = sockets.get_mut::<icmp::Socket>(echoes).send(repr.buffer_len(), PEER);
+                    let room = room.map_err(io::Error::other)?;
+                    repr.emit(&mut Icmpv4Packet::new_unchecked(room), &ChecksumCapabilities::default());
+                } else {
+                    let socket = sockets.get_mut::<udp::Socket>(datagrams);
+                    socket.send_slice(b"anybody?", (PEER, 9)).map_err(io::Error::other)?;
+                }
             }
-            host.round(&mut sockets);
-            match heard(of_kind(&mut sockets[if is_echo { ECHOES } else { ERRORS }])) {
-                Some(said) => break said,
-                None if host.now() - sent > PATIENCE => return Err(io::ErrorKind::TimedOut.into()),
-                None => {}
+            iface.poll(now(), &mut device, &mut sockets);
+            let socket = sockets.get_mut::<icmp::Socket>(if seq_no < count { echoes } else { errors });
+            if let Some(line) = socket.recv().ok().and_then(|(bytes, from)| said(bytes, from)) {
+                println!("{line}");
+                break;
             }
-        };
-        println!("{said}");
+            if now() - asked_at > PATIENCE {
+                return Err(io::Error::other("no answer"));
+            }
+            wait(device.as_raw_fd(), Some(Duration::from_millis(100)))?;
+        }
     }
     Ok(())
 }

@@ -1,10 +1,12 @@
 //! ICMP messages with smoltcp's names: a view of bytes, and the message that they spell. By hand, over the proved
 //! [`control_wire`](crate::proved::control_wire), whose messages have a `body` where these have `data`, and a number
 //! where these have a reason.
+use crate::packets::{Ipv4Repr, Ipv6Repr};
 use crate::proved::control_wire::icmp as proved;
 use crate::proved::ip_wire::octets::word;
 use crate::proved::ip_wire::sum::{checksum_after, pseudo_sum, sum_after};
-use crate::proved::ip_wire::{ChecksumCapabilities, Error, Ipv4Repr, Ipv6Address, Ipv6Repr};
+use crate::proved::ip_wire::{ChecksumCapabilities, Error, Ipv6Address};
+use core::fmt;
 
 macro_rules! numbered {
     ($($(#[$doc:meta])* $name:ident { $($variant:ident = $number:literal: $what:literal),* $(,)? })*) => { $(
@@ -283,10 +285,10 @@ impl<'a> From<proved::Icmpv4Repr<'a>> for Icmpv4Repr<'a> {
             }
             Proved::EchoReply { ident, seq_no, body } => Icmpv4Repr::EchoReply { ident, seq_no, data: body },
             Proved::DstUnreachable { reason, header, body } => {
-                Icmpv4Repr::DstUnreachable { reason: reason.into(), header, data: body }
+                Icmpv4Repr::DstUnreachable { reason: reason.into(), header: header.into(), data: body }
             }
             Proved::TimeExceeded { reason, header, body } => {
-                Icmpv4Repr::TimeExceeded { reason: reason.into(), header, data: body }
+                Icmpv4Repr::TimeExceeded { reason: reason.into(), header: header.into(), data: body }
             }
         }
     }
@@ -301,10 +303,10 @@ impl<'a> From<Icmpv4Repr<'a>> for proved::Icmpv4Repr<'a> {
             }
             Icmpv4Repr::EchoReply { ident, seq_no, data } => Proved::EchoReply { ident, seq_no, body: data },
             Icmpv4Repr::DstUnreachable { reason, header, data } => {
-                Proved::DstUnreachable { reason: reason.into(), header, body: data }
+                Proved::DstUnreachable { reason: reason.into(), header: header.into(), body: data }
             }
             Icmpv4Repr::TimeExceeded { reason, header, data } => {
-                Proved::TimeExceeded { reason: reason.into(), header, body: data }
+                Proved::TimeExceeded { reason: reason.into(), header: header.into(), body: data }
             }
         }
     }
@@ -341,6 +343,8 @@ impl<'a> Icmpv4Repr<'a> {
 pub enum Icmpv6Repr<'a> {
     /// A destination that is not reached.
     DstUnreachable { reason: Icmpv6DstUnreachable, header: Ipv6Repr, data: &'a [u8] },
+    /// A packet that is too long for a link, and the link's MTU.
+    PktTooBig { mtu: u32, header: Ipv6Repr, data: &'a [u8] },
     /// A packet took too long.
     TimeExceeded { reason: Icmpv6TimeExceeded, header: Ipv6Repr, data: &'a [u8] },
     /// A header that is wrong.
@@ -360,37 +364,50 @@ impl<'a> From<proved::Icmpv6Repr<'a>> for Icmpv6Repr<'a> {
             }
             Proved::EchoReply { ident, seq_no, body } => Icmpv6Repr::EchoReply { ident, seq_no, data: body },
             Proved::DstUnreachable { reason, header, body } => {
-                Icmpv6Repr::DstUnreachable { reason: reason.into(), header, data: body }
+                Icmpv6Repr::DstUnreachable { reason: reason.into(), header: header.into(), data: body }
             }
             Proved::TimeExceeded { reason, header, body } => {
-                Icmpv6Repr::TimeExceeded { reason: reason.into(), header, data: body }
+                Icmpv6Repr::TimeExceeded { reason: reason.into(), header: header.into(), data: body }
             }
             Proved::ParamProblem { reason, pointer, header, body } => {
-                Icmpv6Repr::ParamProblem { reason: reason.into(), pointer, header, data: body }
+                Icmpv6Repr::ParamProblem { reason: reason.into(), pointer, header: header.into(), data: body }
             }
         }
     }
 }
 
-impl<'a> From<Icmpv6Repr<'a>> for proved::Icmpv6Repr<'a> {
-    fn from(repr: Icmpv6Repr<'a>) -> proved::Icmpv6Repr<'a> {
+impl<'a> Icmpv6Repr<'a> {
+    // As the proved sources have it: all but a packet that is too long.
+    fn proved(self) -> Option<proved::Icmpv6Repr<'a>> {
         use proved::Icmpv6Repr as Proved;
-        match repr {
+        Some(match self {
             Icmpv6Repr::EchoRequest { ident, seq_no, data } => {
                 Proved::EchoRequest { ident, seq_no, body: data }
             }
             Icmpv6Repr::EchoReply { ident, seq_no, data } => Proved::EchoReply { ident, seq_no, body: data },
             Icmpv6Repr::DstUnreachable { reason, header, data } => {
-                Proved::DstUnreachable { reason: reason.into(), header, body: data }
+                Proved::DstUnreachable { reason: reason.into(), header: header.into(), body: data }
             }
             Icmpv6Repr::TimeExceeded { reason, header, data } => {
-                Proved::TimeExceeded { reason: reason.into(), header, body: data }
+                Proved::TimeExceeded { reason: reason.into(), header: header.into(), body: data }
             }
             Icmpv6Repr::ParamProblem { reason, pointer, header, data } => {
-                Proved::ParamProblem { reason: reason.into(), pointer, header, body: data }
+                Proved::ParamProblem { reason: reason.into(), pointer, header: header.into(), body: data }
             }
-        }
+            Icmpv6Repr::PktTooBig { .. } => return None,
+        })
     }
+}
+
+// A packet that is too long: the MTU, and the packet that is quoted.
+fn too_big<'a, T: AsRef<[u8]> + ?Sized>(packet: &Icmpv6Packet<&'a T>) -> Result<Icmpv6Repr<'a>> {
+    let quoted = packet.payload();
+    if quoted.len() < 48 || quoted[0] >> 4 != 6 {
+        return Err(Error);
+    }
+    let (header, data) = quoted.split_at(40);
+    let header = crate::proved::ip_wire::Ipv6Repr::of_fields(header, data.len()).into();
+    Ok(Icmpv6Repr::PktTooBig { mtu: packet.pkt_too_big_mtu(), header, data })
 }
 
 impl<'a> Icmpv6Repr<'a> {
@@ -401,12 +418,20 @@ impl<'a> Icmpv6Repr<'a> {
         packet: &Icmpv6Packet<&'a T>,
         checksum_caps: &ChecksumCapabilities,
     ) -> Result<Icmpv6Repr<'a>> {
+        if packet.msg_type() == Icmpv6Message::PktTooBig {
+            packet.check_len()?;
+            let right = !checksum_caps.icmpv6.rx() || packet.verify_checksum(src_addr, dst_addr);
+            return if right { too_big(packet) } else { Err(Error) };
+        }
         proved::Icmpv6Repr::parse(src_addr, dst_addr, packet.buffer.as_ref(), checksum_caps).map(Into::into)
     }
 
     /// How many bytes the message takes.
     pub fn buffer_len(&self) -> usize {
-        proved::Icmpv6Repr::from(*self).buffer_len()
+        match self {
+            Icmpv6Repr::PktTooBig { data, .. } => 48 + data.len(),
+            _ => self.proved().map_or(0, |repr| repr.buffer_len()),
+        }
     }
 
     /// Writes the message; panics where the bytes are not `buffer_len`.
@@ -417,6 +442,61 @@ impl<'a> Icmpv6Repr<'a> {
         packet: &mut Icmpv6Packet<&mut T>,
         checksum_caps: &ChecksumCapabilities,
     ) {
-        proved::Icmpv6Repr::from(*self).emit(src_addr, dst_addr, packet.buffer.as_mut(), checksum_caps);
+        let Icmpv6Repr::PktTooBig { mtu, header, data } = self else {
+            let emit = |repr: proved::Icmpv6Repr<'_>| {
+                repr.emit(src_addr, dst_addr, packet.buffer.as_mut(), checksum_caps);
+            };
+            return self.proved().map_or((), emit);
+        };
+        packet.set_msg_type(Icmpv6Message::PktTooBig);
+        packet.set_msg_code(0);
+        packet.set_checksum(0);
+        packet.buffer.as_mut()[4..8].copy_from_slice(&mtu.to_be_bytes());
+        let (head, rest) = packet.payload_mut().split_at_mut(40);
+        header.emit(&mut crate::packets::Ipv6Packet::new_unchecked(head));
+        rest[..data.len()].copy_from_slice(data);
+        if checksum_caps.icmpv6.tx() {
+            packet.fill_checksum(src_addr, dst_addr);
+        }
+    }
+}
+
+impl<T: AsRef<[u8]> + ?Sized> fmt::Display for Icmpv4Packet<&T> {
+    fn fmt(&self, f: &mut fmt::Formatter<'_>) -> fmt::Result {
+        write!(f, "ICMPv4 {:?} code={} len={}", self.msg_type(), self.msg_code(), self.data().len())
+    }
+}
+
+impl<T: AsRef<[u8]> + ?Sized> fmt::Display for Icmpv6Packet<&T> {
+    fn fmt(&self, f: &mut fmt::Formatter<'_>) -> fmt::Result {
+        write!(f, "ICMPv6 {:?} code={} len={}", self.msg_type(), self.msg_code(), self.payload().len())
+    }
+}
+
+#[cfg(all(test, feature = "std"))]
+mod tests {
+    use super::*;
+    use crate::proved::ip_wire::IpProtocol;
+
+    #[test]
+    fn a_packet_too_long_is_written_and_read() {
+        let (src, dst) = (&Ipv6Address::LOCALHOST, &Ipv6Address::new(0xfd00, 0, 0, 0, 0, 0, 0, 1));
+        let header = Ipv6Repr {
+            src_addr: *dst,
+            dst_addr: *src,
+            next_header: IpProtocol::Udp,
+            payload_len: 12,
+            hop_limit: 3,
+        };
+        let repr = Icmpv6Repr::PktTooBig { mtu: 1280, header, data: b"twelve bytes" };
+        let mut bytes = std::vec![0xff; repr.buffer_len()];
+        let caps = ChecksumCapabilities::default();
+        repr.emit(src, dst, &mut Icmpv6Packet::new_unchecked(&mut bytes), &caps);
+        assert_eq!(bytes[..2], [2, 0]);
+        assert_eq!(Icmpv6Repr::parse(src, dst, &Icmpv6Packet::new_unchecked(&bytes), &caps), Ok(repr));
+        bytes[50] ^= 1;
+        assert_eq!(Icmpv6Repr::parse(src, dst, &Icmpv6Packet::new_unchecked(&bytes), &caps), Err(Error));
+        let short = Icmpv6Packet::new_unchecked(&bytes[..40]);
+        assert_eq!(Icmpv6Repr::parse(src, dst, &short, &ChecksumCapabilities::ignored()), Err(Error));
     }
 }

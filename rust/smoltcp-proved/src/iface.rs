@@ -4,41 +4,75 @@
 //! [`SocketHandle`] to one of [`net_host::SocketSet`]. Which socket hears a packet, who speaks next and when to look
 //! again is proved there.
 use crate::kit::alloc::Global;
+use crate::logged::{TOLD, tell};
 use crate::own;
-use crate::phy::{Device, RxToken, TxToken};
+use crate::phy::{Device, Medium, RxToken, TxToken};
 use crate::proved::ip_wire::{IpAddress, Ipv4Address, Ipv6Address};
 use crate::proved::net_base::{Duration, Instant};
-use crate::proved::net_host::{self, IpCidr, Secret};
-use crate::proved::smoltcp_socket::{Context as _, PollAt};
-use alloc::vec::Vec;
+use crate::proved::net_host::counters::Counters;
+use crate::proved::net_host::{self, Secret};
+use crate::sockets::{Context as _, PollAt};
+use crate::wire::IpCidr;
 use core::fmt;
 
+mod buffer;
 mod fixed;
 mod foreign;
 mod routes;
 mod set;
 
+pub use crate::config::{IFACE_MAX_ADDR_COUNT, IFACE_MAX_ROUTE_COUNT};
 pub use crate::proved::host_groups::MulticastError;
-pub use fixed::FixedVec;
+use buffer::Buffer;
+pub use fixed::{Blank, FixedVec};
+pub(crate) use foreign::FOREIGN;
 pub use routes::{Route, RouteTableFull, Routes};
 pub use set::{Places, SocketHandle, SocketSet, SocketStorage};
-
-/// How many addresses an interface has at most.
-pub const IFACE_MAX_ADDR_COUNT: usize = 8;
-
-/// How many routes an interface has at most.
-pub const IFACE_MAX_ROUTE_COUNT: usize = 4;
 
 // Room for the longest reply of a TCP socket, whatever the MTU.
 const LEAST_ROOM: usize = 100;
 
 /// The address of an interface on its medium: IP packets have none.
-#[derive(Debug, Clone, Copy, PartialEq, Eq)]
+#[derive(Debug, Clone, Copy, PartialEq, Eq, PartialOrd, Ord, Hash)]
 #[non_exhaustive]
 pub enum HardwareAddress {
     /// None, on a medium of IP packets.
     Ip,
 }
+
+impl HardwareAddress {
+    /// Its bytes: none.
+    pub const fn as_bytes(&self) -> &[u8] {
+        &[]
+    }
+
+    /// Whether it is of one host: it is of none.
+    pub fn is_unicast(&self) -> bool {
+        false
+    }
+
+    /// Whether it is of each host: it is of none.
+    pub fn is_broadcast(&self) -> bool {
+        false
+    }
+}
+
+impl fmt::Display for HardwareAddress {
+    fn fmt(&self, f: &mut fmt::Formatter<'_>) -> fmt::Result {
+        f.write_str("no hardware addr")
+    }
+}
+
+impl fmt::Display for MulticastError {
+    fn fmt(&self, f: &mut fmt::Formatter<'_>) -> fmt::Result {
+        f.write_str(match self {
+            MulticastError::GroupTableFull => "GroupTableFull",
+            MulticastError::Unaddressable => "Unaddressable",
+        })
+    }
+}
+
+impl core::error::Error for MulticastError {}
 
 /// What an interface begins with.
 #[derive(Debug, Clone)]
@@ -92,14 +126,15 @@ pub type Context = net_host::inner::InterfaceInner<Secret>;
 pub struct Interface {
     host: net_host::Interface<Secret>,
     hardware_addr: HardwareAddress,
-    packet: Vec<u8>,
-    reply: Vec<u8>,
+    addresses: FixedVec<IpCidr, IFACE_MAX_ADDR_COUNT>,
+    // what goes out, before the device has room for it
+    packet: Buffer,
     // of the device
     loops_back: bool,
     routes: Routes,
     any_ip: bool,
-    // how many addresses stand behind the own ones
-    foreign: usize,
+    // for which it answers beside the own ones
+    foreign: FixedVec<IpCidr, FOREIGN>,
     reassembly_timeout: Duration,
 }
 
@@ -111,18 +146,23 @@ impl fmt::Debug for Interface {
 
 impl Interface {
     /// An interface without an address, with the device's MTU and checksums.
+    ///
+    /// # Panics
+    /// Where the device carries something else than IP packets.
     pub fn new(config: Config, device: &mut (impl Device + ?Sized), now: Instant) -> Interface {
         let host = net_host::Interface::new(crate::kit::Vec::new(Global), Secret::new(config.key()));
         let hardware_addr = config.hardware_addr;
+        let medium = device.capabilities().medium;
+        assert!(medium == Medium::Ip, "The hardware address does not match the medium of the interface.");
         let mut interface = Interface {
             host,
             hardware_addr,
-            packet: Vec::new(),
-            reply: Vec::new(),
+            addresses: FixedVec::new(),
+            packet: Buffer::new(),
             loops_back: false,
             routes: Routes::default(),
             any_ip: false,
-            foreign: 0,
+            foreign: FixedVec::new(),
             reassembly_timeout: Duration::from_secs(60),
         };
         interface.fit(device);
@@ -132,13 +172,10 @@ impl Interface {
 
     fn fit(&mut self, device: &(impl Device + ?Sized)) {
         let capabilities = device.capabilities();
-        self.host.set_mtu(capabilities.ip_mtu());
+        self.host.set_mtu(buffer::fitting(capabilities.ip_mtu()));
         self.host.set_checksums(capabilities.checksum);
         self.loops_back = capabilities.loops_back;
-        let room = self.host.ip_mtu().max(LEAST_ROOM);
-        if self.packet.len() != room {
-            (self.packet, self.reply) = (alloc::vec![0; room], alloc::vec![0; room]);
-        }
+        self.packet.fit(self.host.ip_mtu().max(LEAST_ROOM));
     }
 
     fn set_now(&mut self, now: Instant) {
@@ -167,13 +204,12 @@ impl Interface {
 
     /// The addresses.
     pub fn ip_addrs(&self) -> &[IpCidr] {
-        let addresses = self.host.inner.environment.addresses.as_slice();
-        &addresses[..addresses.len() - self.foreign]
+        &self.addresses
     }
 
     /// The first IPv4 address.
     pub fn ipv4_addr(&self) -> Option<Ipv4Address> {
-        self.ip_addrs().iter().find_map(|cidr| match cidr.address {
+        self.ip_addrs().iter().find_map(|cidr| match cidr.address() {
             IpAddress::Ipv4(addr) => Some(addr),
             IpAddress::Ipv6(_) => None,
         })
@@ -181,7 +217,7 @@ impl Interface {
 
     /// The first IPv6 address.
     pub fn ipv6_addr(&self) -> Option<Ipv6Address> {
-        self.ip_addrs().iter().find_map(|cidr| match cidr.address {
+        self.ip_addrs().iter().find_map(|cidr| match cidr.address() {
             IpAddress::Ipv6(addr) => Some(addr),
             IpAddress::Ipv4(_) => None,
         })
@@ -203,12 +239,16 @@ impl Interface {
     }
 
     /// Lets `f` change the addresses.
+    ///
+    /// # Panics
+    /// Where one that is left is of a group, or the broadcast.
     pub fn update_ip_addrs<F: FnOnce(&mut FixedVec<IpCidr, IFACE_MAX_ADDR_COUNT>)>(&mut self, f: F) {
-        let mut list = FixedVec::from_slice(self.ip_addrs()).expect("no more than there may be");
-        f(&mut list);
-        let unicast = |cidr: &IpCidr| !cidr.address.is_multicast() && !cidr.address.is_unspecified();
-        assert!(list.iter().all(unicast), "If a new address is added, it must be unicast");
-        self.put_addresses(list.to_vec(), list.len());
+        f(&mut self.addresses);
+        for addr in self.addresses.iter().map(IpCidr::address) {
+            assert!(addr.is_unicast() || addr.is_unspecified(), "IP address {addr} is not unicast");
+        }
+        self.foreign.clear();
+        self.tell_addresses();
     }
 
     /// The routes.
@@ -225,7 +265,8 @@ impl Interface {
     pub fn set_any_ip(&mut self, any_ip: bool) {
         self.any_ip = any_ip;
         if !any_ip {
-            self.put_addresses(self.ip_addrs().to_vec(), self.ip_addrs().len());
+            self.foreign.clear();
+            self.tell_addresses();
         }
     }
 
@@ -265,6 +306,24 @@ impl Interface {
     }
 }
 
+// Tells who logs which packets were dropped between two moments.
+fn tell_dropped(before: Counters, after: Counters) {
+    if !TOLD {
+        return;
+    }
+    let counts = |of: Counters| {
+        let first = [of.malformed, of.source, of.destination, of.protocol, of.segment, of.datagram];
+        (first, [of.message, of.busy, of.nobody, of.too_long])
+    };
+    let ((a, b), (c, d)) = (counts(before), counts(after));
+    let reasons = ["malformed", "source", "destination", "protocol", "segment", "datagram"];
+    let others = ["message", "busy", "nobody", "too long"];
+    let pairs = a.iter().zip(&c).zip(&reasons).chain(b.iter().zip(&d).zip(&others));
+    for (_, reason) in pairs.filter(|((before, after), _)| before != after) {
+        tell!("dropped: {}", *reason);
+    }
+}
+
 // Packets, and when to look again.
 impl Interface {
     /// Takes all packets that have arrived, and then sends what sockets have to say.
@@ -296,15 +355,16 @@ impl Interface {
             if self.any_ip {
                 self.take_on(timestamp, packet, sockets);
             }
-            let (host, reply, set) = (&mut self.host, &mut self.reply, sockets.parts());
+            let (host, reply, set) = (&mut self.host, self.packet.bytes(), sockets.parts());
             let own = own::hear(host, self.loops_back, set, timestamp, packet, reply);
             // `fit` has made room
             own.unwrap_or_else(|| host.receive(sockets.parts().0, timestamp, packet, reply).unwrap_or(0))
         });
         if len > 0 {
-            room.consume(len, |packet| packet.copy_from_slice(&self.reply[..len]));
+            room.consume(len, |packet| packet.copy_from_slice(&self.packet.bytes()[..len]));
         }
         let after = self.host.counters();
+        tell_dropped(before, after);
         if (before.malformed, before.source) != (after.malformed, after.source) {
             return PollIngressSingleResult::PacketProcessed;
         }
@@ -320,19 +380,21 @@ impl Interface {
     ) -> PollResult {
         self.fit(device);
         let (mut result, mut refused) = (PollResult::None, 0);
+        let before = self.host.counters();
         let (set, _) = sockets.parts();
         // a datagram that is longer than the MTU stays with its socket, and each such socket has one turn
         while refused <= set.capacity() {
             let Some(room) = device.transmit(timestamp) else { break };
-            match self.host.emit(set, timestamp, &mut self.packet) {
+            match self.host.emit(set, timestamp, self.packet.bytes()) {
                 Ok(0) => break,
                 Ok(len) => {
-                    room.consume(len, |packet| packet.copy_from_slice(&self.packet[..len]));
+                    room.consume(len, |packet| packet.copy_from_slice(&self.packet.bytes()[..len]));
                     (result, refused) = (PollResult::SocketStateChanged, 0);
                 }
                 Err(_) => refused += 1,
             }
         }
+        tell_dropped(before, self.host.counters());
         result
     }
 

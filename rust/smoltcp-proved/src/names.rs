@@ -1,9 +1,13 @@
 //! What smoltcp's types of time and of addresses have beside what is proved: operators, conversions and texts.
-use crate::proved::ip_wire::{IpAddress, IpEndpoint, IpListenEndpoint, Ipv4Address, Ipv6Address};
+use crate::proved::ip_wire::{
+    Checksum, IpAddress, IpEndpoint, IpListenEndpoint, IpProtocol, IpVersion, Ipv4Address, Ipv6Address,
+};
 use crate::proved::net_base::{Duration, Instant};
 use crate::proved::sock_dgram::udp::UdpMetadata;
+use core::cmp::Ordering;
 use core::fmt;
-use core::net::{IpAddr, Ipv4Addr, Ipv6Addr, SocketAddr};
+use core::hash::{Hash, Hasher};
+use core::net::{IpAddr, SocketAddr, SocketAddrV4, SocketAddrV6};
 use core::ops::{Add, AddAssign, Sub, SubAssign};
 use core::str::FromStr;
 
@@ -11,18 +15,17 @@ impl Instant {
     /// The moment of the system's clock, counted from 1970.
     #[cfg(feature = "std")]
     pub fn now() -> Instant {
-        let since = std::time::SystemTime::now().duration_since(std::time::UNIX_EPOCH);
-        Instant::from_micros(since.map_or(0, |since| since.as_micros() as i64))
+        std::time::SystemTime::now().into()
     }
 
     /// The time so many milliseconds after zero, as [`Instant::from_millis`] makes it.
     pub const fn from_millis_const(millis: i64) -> Instant {
-        Instant::from_millis(millis)
+        Instant { micros: millis * 1000 }
     }
 
     /// The time so many microseconds after zero, as [`Instant::from_micros`] makes it.
     pub const fn from_micros_const(micros: i64) -> Instant {
-        Instant::from_micros(micros)
+        Instant { micros }
     }
 
     /// The milliseconds behind the whole seconds.
@@ -30,9 +33,9 @@ impl Instant {
         self.micros % 1_000_000 / 1000
     }
 
-    /// The microseconds behind the whole milliseconds.
+    /// The microseconds behind the whole seconds.
     pub const fn micros(&self) -> i64 {
-        self.micros % 1000
+        self.micros % 1_000_000
     }
 
     /// The whole seconds after the start; what is left over is cut off, towards the start.
@@ -47,14 +50,17 @@ impl Instant {
 }
 
 impl Duration {
+    /// The longest.
+    pub const MAX: Duration = Duration::from_micros(u64::MAX);
+
     /// The milliseconds behind the whole seconds.
     pub const fn millis(&self) -> u64 {
         self.micros % 1_000_000 / 1000
     }
 
-    /// The microseconds behind the whole milliseconds.
+    /// The microseconds behind the whole seconds.
     pub const fn micros(&self) -> u64 {
-        self.micros % 1000
+        self.micros % 1_000_000
     }
 
     /// The whole seconds.
@@ -101,7 +107,9 @@ impl Sub for Duration {
     type Output = Duration;
 
     fn sub(self, other: Duration) -> Duration {
-        Duration::from_micros(self.micros - other.micros)
+        Duration::from_micros(
+            self.micros.checked_sub(other.micros).expect("overflow when subtracting durations"),
+        )
     }
 }
 
@@ -148,26 +156,31 @@ impl core::ops::MulAssign<u32> for Duration {
     }
 }
 
+/// Counted from 1970.
 #[cfg(feature = "std")]
 impl From<std::time::SystemTime> for Instant {
     fn from(moment: std::time::SystemTime) -> Instant {
-        let since = moment.duration_since(std::time::UNIX_EPOCH).expect("a moment after 1970");
-        Instant::from_micros(since.as_micros() as i64)
+        Instant::from_micros(match moment.duration_since(std::time::UNIX_EPOCH) {
+            Ok(since) => since.as_micros() as i64,
+            Err(before) => -(before.duration().as_micros() as i64),
+        })
     }
 }
 
+/// Counted from 1970.
 #[cfg(feature = "std")]
 impl From<Instant> for std::time::SystemTime {
     fn from(moment: Instant) -> std::time::SystemTime {
-        std::time::UNIX_EPOCH + core::time::Duration::from_micros(moment.micros as u64)
+        let far = core::time::Duration::from_micros(moment.micros.unsigned_abs());
+        if moment.micros < 0 { std::time::UNIX_EPOCH - far } else { std::time::UNIX_EPOCH + far }
     }
 }
 
-/// Counted from 1970: what has gone by since is taken from the system's clock.
+/// How long ago the moment was, as in smoltcp.
 #[cfg(feature = "std")]
 impl From<std::time::Instant> for Instant {
     fn from(moment: std::time::Instant) -> Instant {
-        Instant::now() - Duration::from_micros(moment.elapsed().as_micros() as u64)
+        Instant::from_micros(moment.elapsed().as_micros() as i64)
     }
 }
 
@@ -208,23 +221,22 @@ macro_rules! converted {
 }
 
 converted! {
-    Ipv4Addr => Ipv4Address: |addr| Ipv4Address(addr.octets());
-    Ipv6Addr => Ipv6Address: |addr| Ipv6Address(addr.octets());
-    Ipv4Address => Ipv4Addr: |addr| addr.0.into();
-    Ipv6Address => Ipv6Addr: |addr| addr.0.into();
     Ipv4Address => IpAddress: |addr| IpAddress::Ipv4(addr);
     Ipv6Address => IpAddress: |addr| IpAddress::Ipv6(addr);
-    Ipv4Addr => IpAddress: |addr| IpAddress::Ipv4(addr.into());
-    Ipv6Addr => IpAddress: |addr| IpAddress::Ipv6(addr.into());
     IpAddr => IpAddress: |addr| match addr {
         IpAddr::V4(addr) => addr.into(),
         IpAddr::V6(addr) => addr.into(),
     };
     IpAddress => IpAddr: |addr| match addr {
-        IpAddress::Ipv4(addr) => IpAddr::V4(addr.into()),
-        IpAddress::Ipv6(addr) => IpAddr::V6(addr.into()),
+        IpAddress::Ipv4(addr) => IpAddr::V4(addr),
+        IpAddress::Ipv6(addr) => IpAddr::V6(addr),
     };
+    SocketAddrV4 => IpEndpoint: |addr| IpEndpoint { addr: (*addr.ip()).into(), port: addr.port() };
+    SocketAddrV6 => IpEndpoint: |addr| IpEndpoint { addr: (*addr.ip()).into(), port: addr.port() };
+    SocketAddrV4 => IpListenEndpoint: |addr| IpEndpoint::from(addr).into();
+    SocketAddrV6 => IpListenEndpoint: |addr| IpEndpoint::from(addr).into();
     SocketAddr => IpEndpoint: |addr| IpEndpoint { addr: addr.ip().into(), port: addr.port() };
+    IpEndpoint => SocketAddr: |end| SocketAddr::new(end.addr.into(), end.port);
     u16 => IpListenEndpoint: |port| IpListenEndpoint { addr: None, port };
     SocketAddr => IpListenEndpoint: |addr| IpEndpoint::from(addr).into();
     IpEndpoint => UdpMetadata: |endpoint| UdpMetadata::from_endpoint(endpoint);
@@ -249,33 +261,173 @@ impl<A: Into<IpAddress>> From<(A, u16)> for UdpMetadata {
     }
 }
 
-impl fmt::Display for Ipv4Address {
-    fn fmt(&self, f: &mut fmt::Formatter<'_>) -> fmt::Result {
-        fmt::Display::fmt(&Ipv4Addr::from(*self), f)
-    }
-}
-
-impl fmt::Display for Ipv6Address {
-    fn fmt(&self, f: &mut fmt::Formatter<'_>) -> fmt::Result {
-        fmt::Display::fmt(&Ipv6Addr::from(*self), f)
-    }
-}
-
 impl fmt::Display for IpAddress {
     fn fmt(&self, f: &mut fmt::Formatter<'_>) -> fmt::Result {
         fmt::Display::fmt(&IpAddr::from(*self), f)
     }
 }
 
-impl Ipv6Address {
-    /// The address of these eight groups.
-    #[allow(clippy::too_many_arguments)] // as smoltcp's
-    pub const fn new(a: u16, b: u16, c: u16, d: u16, e: u16, f: u16, g: u16, h: u16) -> Ipv6Address {
-        Ipv6Address(Ipv6Addr::new(a, b, c, d, e, f, g, h).octets())
+/// `10.0.0.1:80`, or `*:80` without an address.
+impl fmt::Display for IpListenEndpoint {
+    fn fmt(&self, f: &mut fmt::Formatter<'_>) -> fmt::Result {
+        match self.addr {
+            Some(addr) => fmt::Display::fmt(&IpEndpoint { addr, port: self.port }, f),
+            None => write!(f, "*:{}", self.port),
+        }
+    }
+}
+
+impl fmt::Display for IpVersion {
+    fn fmt(&self, f: &mut fmt::Formatter<'_>) -> fmt::Result {
+        f.write_str(match self {
+            IpVersion::Ipv4 => "IPv4",
+            IpVersion::Ipv6 => "IPv6",
+        })
+    }
+}
+
+// Names of numbers that the sockets have no use for, as smoltcp's variants are called.
+#[allow(non_upper_case_globals)]
+impl IpProtocol {
+    /// Options for each router (RFC 8200, section 4.3).
+    pub const HopByHop: IpProtocol = IpProtocol::Unknown(0);
+    /// Groups of IPv4 (RFC 3376).
+    pub const Igmp: IpProtocol = IpProtocol::Unknown(2);
+    /// A route (RFC 8200, section 4.4).
+    pub const Ipv6Route: IpProtocol = IpProtocol::Unknown(43);
+    /// A fragment (RFC 8200, section 4.5).
+    pub const Ipv6Frag: IpProtocol = IpProtocol::Unknown(44);
+    /// An encrypted payload (RFC 4303).
+    pub const IpSecEsp: IpProtocol = IpProtocol::Unknown(50);
+    /// A header that authenticates (RFC 4302).
+    pub const IpSecAh: IpProtocol = IpProtocol::Unknown(51);
+    /// Nothing (RFC 8200, section 4.7).
+    pub const Ipv6NoNxt: IpProtocol = IpProtocol::Unknown(59);
+    /// Options for the destination (RFC 8200, section 4.6).
+    pub const Ipv6Opts: IpProtocol = IpProtocol::Unknown(60);
+}
+
+impl fmt::Display for IpProtocol {
+    fn fmt(&self, f: &mut fmt::Formatter<'_>) -> fmt::Result {
+        f.write_str(match *self {
+            IpProtocol::Icmp => "ICMP",
+            IpProtocol::Tcp => "TCP",
+            IpProtocol::Udp => "UDP",
+            IpProtocol::Icmpv6 => "ICMPv6",
+            IpProtocol::HopByHop => "Hop-by-Hop",
+            IpProtocol::Igmp => "IGMP",
+            IpProtocol::Ipv6Route => "IPv6-Route",
+            IpProtocol::Ipv6Frag => "IPv6-Frag",
+            IpProtocol::IpSecEsp => "IPsec-ESP",
+            IpProtocol::IpSecAh => "IPsec-AH",
+            IpProtocol::Ipv6NoNxt => "IPv6-NoNxt",
+            IpProtocol::Ipv6Opts => "IPv6-Opts",
+            IpProtocol::Unknown(number) => return write!(f, "0x{number:02x}"),
+        })
+    }
+}
+
+macro_rules! hashed {
+    ($($name:ty: |$value:ident| $key:expr;)*) => { $(
+        impl Hash for $name {
+            fn hash<H: Hasher>(&self, state: &mut H) {
+                let $value = self;
+                Hash::hash(&$key, state);
+            }
+        }
+    )* };
+}
+
+hashed! {
+    IpAddress: |addr| IpAddr::from(*addr);
+    IpEndpoint: |end| (end.addr, end.port);
+    IpListenEndpoint: |end| (end.addr, end.port);
+    IpVersion: |version| *version as u8;
+    IpProtocol: |protocol| u8::from(*protocol);
+    Instant: |moment| moment.micros;
+    Duration: |length| length.micros;
+}
+
+impl PartialOrd for IpVersion {
+    fn partial_cmp(&self, other: &IpVersion) -> Option<Ordering> {
+        Some(self.cmp(other))
+    }
+}
+
+impl Ord for IpVersion {
+    fn cmp(&self, other: &IpVersion) -> Ordering {
+        (*self as u8).cmp(&(*other as u8))
+    }
+}
+
+impl PartialOrd for IpProtocol {
+    fn partial_cmp(&self, other: &IpProtocol) -> Option<Ordering> {
+        Some(self.cmp(other))
+    }
+}
+
+impl Ord for IpProtocol {
+    fn cmp(&self, other: &IpProtocol) -> Ordering {
+        u8::from(*self).cmp(&u8::from(*other))
+    }
+}
+
+#[allow(clippy::derivable_impls)] // the type is made of the proved sources
+impl Default for Duration {
+    fn default() -> Duration {
+        Duration::ZERO
+    }
+}
+
+#[allow(clippy::derivable_impls)] // the same
+impl Default for Checksum {
+    fn default() -> Checksum {
+        Checksum::Both
+    }
+}
+
+impl IpEndpoint {
+    /// Whether there is an address and a port.
+    pub fn is_specified(&self) -> bool {
+        !self.addr.is_unspecified() && self.port != 0
+    }
+}
+
+impl IpListenEndpoint {
+    /// Whether there is an address and a port.
+    pub const fn is_specified(&self) -> bool {
+        self.addr.is_some() && self.port != 0
     }
 }
 
 impl IpAddress {
+    /// Whether the address is of one host: no group, not the broadcast, and not unspecified.
+    pub fn is_unicast(&self) -> bool {
+        !(self.is_multicast() || self.is_broadcast() || self.is_unspecified())
+    }
+
+    /// Whether the address is 255.255.255.255.
+    pub fn is_broadcast(&self) -> bool {
+        *self == IpAddress::Ipv4(Ipv4Address::BROADCAST)
+    }
+
+    /// Whether the address is the host's own: 127.0.0.0/8, or ::1.
+    pub const fn is_loopback(&self) -> bool {
+        match self {
+            IpAddress::Ipv4(addr) => addr.is_loopback(),
+            IpAddress::Ipv6(addr) => addr.is_loopback(),
+        }
+    }
+
+    /// How many bits are set of an address that is a mask; none where it is none.
+    pub fn prefix_len(&self) -> Option<u8> {
+        let (ones, bits, all) = match self {
+            IpAddress::Ipv4(addr) => (addr.to_bits().leading_ones(), addr.to_bits().count_ones(), 32),
+            IpAddress::Ipv6(addr) => (addr.to_bits().leading_ones(), addr.to_bits().count_ones(), 128),
+        };
+        (ones == bits && ones <= all).then_some(ones as u8)
+    }
+
     /// The IPv6 address of these eight groups.
     #[allow(clippy::too_many_arguments)] // as smoltcp's
     pub const fn v6(a: u16, b: u16, c: u16, d: u16, e: u16, f: u16, g: u16, h: u16) -> IpAddress {
@@ -296,44 +448,14 @@ macro_rules! read {
 }
 
 read! {
-    Ipv4Address: Ipv4Addr;
-    Ipv6Address: Ipv6Addr;
     IpAddress: IpAddr;
     IpEndpoint: SocketAddr;
 }
 
-/// An address, a slash, and how many of its first bits are the network's.
-#[cfg(feature = "alloc")]
-impl FromStr for crate::proved::net_host::IpCidr {
-    type Err = ();
-
-    fn from_str(text: &str) -> Result<Self, ()> {
-        let (address, bits) = text.split_once('/').ok_or(())?;
-        let (address, bits) = (address.parse()?, bits.parse().map_err(|_| ())?);
-        let cidr = Self::new(address, bits);
-        if cidr.prefix_len == bits { Ok(cidr) } else { Err(()) }
-    }
-}
-
-#[cfg(feature = "alloc")]
-impl crate::proved::net_host::IpCidr {
-    /// The network of the first so many bits of an address: at most 32, or 128 with IPv6; more count as that.
-    pub const fn new(address: IpAddress, prefix_len: u8) -> Self {
-        let most = if matches!(address, IpAddress::Ipv4(_)) { 32 } else { 128 };
-        Self { address, prefix_len: if prefix_len > most { most } else { prefix_len } }
-    }
-
-    /// The address.
-    pub const fn address(&self) -> IpAddress {
-        self.address
-    }
-}
-
-#[cfg(test)]
+#[cfg(all(test, feature = "std"))]
 mod tests {
     use super::*;
 
-    #[cfg(feature = "std")]
     #[test]
     fn texts_are_read_and_written() {
         use std::string::ToString;
@@ -343,14 +465,5 @@ mod tests {
         assert_eq!("10.0.0.1:80".parse(), Ok(IpEndpoint::new(IpAddress::v4(10, 0, 0, 1), 80)));
         assert_eq!(IpAddress::v6(0xfdaa, 0, 0, 0, 0, 0, 0, 1).to_string(), "fdaa::1");
         assert_eq!((Instant::from_millis(1234) + Duration::from_secs(1)).to_string(), "2.234s");
-    }
-
-    #[cfg(feature = "alloc")]
-    #[test]
-    fn networks_have_as_many_bits_as_their_address() {
-        use crate::proved::net_host::IpCidr;
-        assert!("10.0.0.1/24".parse() == Ok(IpCidr::new(IpAddress::v4(10, 0, 0, 1), 24)));
-        assert!("10.0.0.1/33".parse::<IpCidr>() == Err(()));
-        assert!("10.0.0.1".parse::<IpCidr>() == Err(()));
     }
 }

@@ -1,12 +1,12 @@
 //! Packets from an interface to itself, on a device that may hand back what is sent: [`net_host`] drops them, as from
 //! others they would be forged (RFC 1122, section 3.2.1.3). By hand, and not proved: which socket hears one; each call
 //! of that socket is.
-use crate::proved::ip_wire::{ChecksumCapabilities, IpAddress, IpProtocol, IpRepr, Ipv6Address};
+use crate::proved::ip_wire::{ChecksumCapabilities, IpAddress, IpProtocol, IpRepr};
 use crate::proved::net_base::Instant;
 use crate::proved::net_host::{self, Secret, SocketHandle};
 use crate::proved::segment_wire::packet::{carried, emit_tcp, parse_tcp, parse_udp};
-use crate::proved::smoltcp_socket::{Context, Socket};
-use crate::proved::sock_tcp::{self, State};
+use crate::sockets::tcp::{self, State};
+use crate::sockets::{Context, Socket};
 
 type Host = net_host::Interface<Secret>;
 
@@ -45,7 +45,7 @@ fn is_between_own(host: &Host, packet: &[u8]) -> bool {
         }
         [0x60..=0x6f, ..] if packet.len() >= 40 => {
             let addr = |at: usize| {
-                <[u8; 16]>::try_from(&packet[at..at + 16]).map(|octets| Ipv6Address(octets).into())
+                <[u8; 16]>::try_from(&packet[at..at + 16]).map(|octets| crate::kit::ipv6(octets).into())
             };
             addr(8).is_ok_and(own) && addr(24).is_ok_and(own)
         }
@@ -74,7 +74,7 @@ fn hear_segment(
     let answer = match wanted(false).or_else(|| wanted(true)) {
         Some(handle) => set.tcp_mut(handle).and_then(|tcp| tcp.process(cx, &ip, &repr)),
         None if repr.control == crate::proved::control_wire::TcpControl::Rst => None,
-        None => Some(sock_tcp::Socket::rst_reply(&ip, &repr)),
+        None => Some(tcp::Socket::rst_reply(&ip, &repr)),
     };
     let Some((ip, repr)) = answer else { return 0 };
     let len = ip.header_len() + ip.payload_len();

@@ -1,7 +1,7 @@
 //! Devices that carry IP packets, with smoltcp's signatures.
 use crate::proved::net_base::Instant;
-use alloc::collections::VecDeque;
-use alloc::vec::Vec;
+#[cfg(feature = "alloc")]
+use alloc::{collections::VecDeque, vec::Vec};
 
 mod fault;
 mod pcap;
@@ -21,13 +21,16 @@ pub use tuntap::{TunRx, TunTapInterface, TunTx, wait};
 #[non_exhaustive]
 pub struct PacketMeta {}
 
-/// What a device carries: IP packets. Ethernet and IEEE 802.15.4 are not here.
+/// What a device carries.
 #[derive(Debug, Clone, Copy, PartialEq, Eq, Default)]
-#[non_exhaustive]
 pub enum Medium {
+    /// Ethernet frames: no interface here takes a device of them.
+    Ethernet,
     /// IP packets.
     #[default]
     Ip,
+    /// Frames of IEEE 802.15.4: no interface here takes a device of them.
+    Ieee802154,
 }
 
 /// What a device can do.
@@ -132,12 +135,14 @@ impl<D: Device + ?Sized> Device for &mut D {
 }
 
 /// A device to which each packet that it sends arrives.
+#[cfg(feature = "alloc")]
 #[derive(Debug)]
 pub struct Loopback {
     packets: VecDeque<Vec<u8>>,
     medium: Medium,
 }
 
+#[cfg(feature = "alloc")]
 impl Loopback {
     /// A device on which no packet is under way.
     pub fn new(medium: Medium) -> Loopback {
@@ -145,6 +150,7 @@ impl Loopback {
     }
 }
 
+#[cfg(feature = "alloc")]
 impl Device for Loopback {
     type RxToken<'a> = LoopbackRx;
     type TxToken<'a> = LoopbackTx<'a>;
@@ -168,9 +174,11 @@ impl Device for Loopback {
 }
 
 /// A packet of a [`Loopback`].
+#[cfg(feature = "alloc")]
 #[derive(Debug)]
 pub struct LoopbackRx(Vec<u8>);
 
+#[cfg(feature = "alloc")]
 impl RxToken for LoopbackRx {
     fn consume<R, F: FnOnce(&[u8]) -> R>(self, f: F) -> R {
         f(&self.0)
@@ -178,9 +186,11 @@ impl RxToken for LoopbackRx {
 }
 
 /// Room for a packet of a [`Loopback`].
+#[cfg(feature = "alloc")]
 #[derive(Debug)]
 pub struct LoopbackTx<'a>(&'a mut VecDeque<Vec<u8>>);
 
+#[cfg(feature = "alloc")]
 impl TxToken for LoopbackTx<'_> {
     fn consume<R, F: FnOnce(&mut [u8]) -> R>(self, len: usize, f: F) -> R {
         let mut packet = alloc::vec![0; len];

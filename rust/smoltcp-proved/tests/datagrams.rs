@@ -1,14 +1,13 @@
 //! Worked examples of UDP and ICMP that bytes can show.
 mod common;
 use common::*;
-use smoltcp_proved::c_library::udp::{BindError, RecvError, UdpMetadata};
-use smoltcp_proved::c_library::wire::Ipv6Address;
-use smoltcp_proved::c_library::wire::{IpAddress, IpEndpoint, IpProtocol, IpVersion};
-use smoltcp_proved::c_library::{Context, DispatchError, NotAccepted, PollAt, TooShort, icmp, raw, tcp, udp};
+use smoltcp_proved::udp::{BindError, RecvError, UdpMetadata};
+use smoltcp_proved::wire::Ipv6Address;
+use smoltcp_proved::wire::{IpAddress, IpEndpoint, IpProtocol, IpVersion};
+use smoltcp_proved::{PollAt, icmp, raw, udp};
 
 /// Memory for a UDP socket with two places and 100 bytes each way.
 struct Room {
-    memory: udp::Memory,
     places: [[udp::PacketMetadata; 2]; 2],
     bytes: [[u8; 100]; 2],
 }
@@ -16,13 +15,13 @@ struct Room {
 impl Room {
     fn new() -> Room {
         let places = [[udp::PacketMetadata::EMPTY; 2]; 2];
-        Room { memory: udp::Memory::new(), places, bytes: [[0; 100]; 2] }
+        Room { places, bytes: [[0; 100]; 2] }
     }
 
     fn socket(&mut self) -> udp::Socket<'_> {
         let ([rx_places, tx_places], [rx, tx]) = (&mut self.places, &mut self.bytes);
         let (rx, tx) = (udp::PacketBuffer::new(rx_places, rx), udp::PacketBuffer::new(tx_places, tx));
-        udp::Socket::new(&mut self.memory, rx, tx)
+        udp::Socket::new(rx, tx)
     }
 }
 
@@ -37,9 +36,9 @@ fn datagram(bytes: &[u8]) -> Vec<u8> {
     socket.send_slice(bytes, (B, 53)).expect("room for a datagram");
     assert_eq!((socket.poll_at(&cx), socket.send_queue()), (PollAt::Now, bytes.len()));
     let mut packet = vec![0; 100];
-    assert_eq!(socket.dispatch(&cx, &mut packet[..27]), Err(DispatchError::TooShort));
-    let len = socket.dispatch(&cx, &mut packet).expect("room").expect("a packet");
-    assert_eq!(socket.dispatch(&cx, &mut [0; 100]), Ok(None));
+    assert_eq!(socket.emit(&cx, &mut packet[..27]), Err(TooShort));
+    let len = socket.emit(&cx, &mut packet).expect("room").expect("a packet");
+    assert_eq!(socket.emit(&cx, &mut [0; 100]), Ok(None));
     packet.truncate(len);
     packet
 }
@@ -56,16 +55,16 @@ fn udp_and_truncation() {
     assert_eq!(packet[20..28][..6], [0xc0, 0x00, 0, 53, 0, 22]);
     let mut damaged = packet.clone();
     damaged[30] ^= 1;
-    assert!(server.accepts(&cx, &packet) && !server.accepts(&cx, &damaged));
-    assert_eq!(server.process(&cx, &damaged), Err(NotAccepted));
+    assert_eq!(server.take(&cx, &damaged), Err(NotAccepted));
     for _ in 0..3 {
-        assert_eq!(server.process(&cx, &packet), Ok(())); // the third finds no place, and is dropped
+        assert_eq!(server.take(&cx, &packet), Ok(())); // the third finds no place, and is dropped
     }
     assert_eq!(server.recv_queue(), 2 * 14);
     let mut bytes = [0; 14];
     assert_eq!(server.recv_slice(&mut bytes[..13]), Err(RecvError::Truncated));
-    let from = UdpMetadata { endpoint: IpEndpoint::new(A, 49152), local_address: Some(B) };
-    assert_eq!(server.peek_slice(&mut bytes), Ok((14, from)));
+    let mut from = UdpMetadata::from(IpEndpoint::new(A, 49152));
+    from.local_address = Some(B);
+    assert_eq!(server.peek_slice(&mut bytes), Ok((14, &from)));
     assert_eq!(server.recv_slice(&mut bytes), Ok((14, from)));
     assert_eq!(&bytes, b"which address?");
     assert_eq!(server.recv_slice(&mut bytes), Err(RecvError::Exhausted));
@@ -74,11 +73,11 @@ fn udp_and_truncation() {
     server.set_hop_limit(Some(3));
     assert_eq!((server.send_slice(b"10.0.0.3", meta), server.hop_limit()), (Ok(()), Some(3)));
     let mut answer = [0; 100];
-    assert_eq!(server.dispatch(&cx, &mut answer), Ok(Some(20 + 8 + 8)));
+    assert_eq!(server.emit(&cx, &mut answer), Ok(Some(20 + 8 + 8)));
     assert_eq!((answer[8], &answer[12..20]), (3, &[10, 0, 0, 9, 10, 0, 0, 1][..]));
     assert_eq!(server.send_slice(b"10.0.0.3", from), Ok(()));
     server.close();
-    assert_eq!((server.is_open(), server.dispatch(&cx, &mut [0; 100])), (false, Ok(None)));
+    assert_eq!((server.is_open(), server.emit(&cx, &mut [0; 100])), (false, Ok(None)));
 }
 
 /// Nothing goes out from an address that was never set: what would have none leaves the queue, and the next is sent.
@@ -86,66 +85,60 @@ fn udp_and_truncation() {
 fn no_source() {
     let (mut room, mut icmp_room) = (Room::new(), IcmpRoom::new());
     let (mut socket, mut pinger) = (room.socket(), icmp_room.socket());
-    let mut cx = Context::new(1500).expect("an MTU");
-    cx.set_ipv4_addr([10, 0, 0, 1].into());
+    let mut cx = context(1, 0);
     let over_ipv6 = IpAddress::Ipv6(Ipv6Address::LOCALHOST);
     socket.bind(49152).expect("a closed socket opens");
     socket.send_slice(b"", (over_ipv6, 53)).expect("room for a datagram");
     socket.send_slice(b"seen", (B, 53)).expect("room for a datagram");
     let mut out = [0; 100];
-    assert_eq!(socket.dispatch(&cx, &mut out), Err(DispatchError::Unaddressable));
-    assert_eq!(socket.dispatch(&cx, &mut out), Ok(Some(20 + 8 + 4)));
-    assert_eq!(socket.dispatch(&cx, &mut out), Ok(None));
+    assert_eq!(socket.emit(&cx, &mut out), Ok(None));
+    assert_eq!(socket.emit(&cx, &mut out), Ok(Some(20 + 8 + 4)));
+    assert_eq!(socket.emit(&cx, &mut out), Ok(None));
     // one that is given is a source, whatever the context has
-    let meta = UdpMetadata { endpoint: IpEndpoint::new(over_ipv6, 53), local_address: Some(over_ipv6) };
+    let mut meta = UdpMetadata::from(IpEndpoint::new(over_ipv6, 53));
+    meta.local_address = Some(over_ipv6);
     socket.send_slice(b"seen", meta).expect("room for a datagram");
-    assert_eq!(socket.dispatch(&cx, &mut out), Ok(Some(40 + 8 + 4)));
+    assert_eq!(socket.emit(&cx, &mut out), Ok(Some(40 + 8 + 4)));
 
     let request = [128, 0, 0, 0, 0, 7, 0, 1];
     pinger.send_slice(&request, over_ipv6).expect("room for a message");
-    assert_eq!(pinger.dispatch(&cx, &mut out), Err(DispatchError::Unaddressable));
-    assert_eq!(pinger.dispatch(&cx, &mut out), Ok(None));
-    pinger.send_slice(&request, over_ipv6).expect("room for a message");
     cx.set_ipv4_addr([0; 4].into());
     cx.set_ipv6_addr(Ipv6Address::LOCALHOST);
-    assert_eq!(pinger.dispatch(&cx, &mut out), Ok(Some(40 + 8)));
+    assert_eq!(pinger.emit(&cx, &mut out), Ok(Some(40 + 8)));
     pinger.send_slice(&[8, 0, 0, 0, 0, 7, 0, 1], B).expect("room for a message");
-    assert_eq!(pinger.dispatch(&cx, &mut out), Err(DispatchError::Unaddressable));
+    assert_eq!(pinger.emit(&cx, &mut out), Ok(None));
     socket.send_slice(b"", (B, 53)).expect("room for a datagram");
-    assert_eq!(socket.dispatch(&cx, &mut out), Err(DispatchError::Unaddressable));
-    assert_eq!(DispatchError::Unaddressable.to_string(), "no source address");
+    assert_eq!(socket.emit(&cx, &mut out), Ok(None));
 }
 
 /// A raw socket takes the packet of a datagram, and sends it on.
 #[test]
 fn raw_packets() {
     let packet = datagram(b"which address?");
-    let (mut memory, mut places, mut bytes) =
-        (raw::Memory::new(), [[raw::PacketMetadata::EMPTY; 2]; 2], [[0; 100]; 2]);
+    let (mut places, mut bytes) = ([[raw::PacketMetadata::EMPTY; 2]; 2], [[0; 100]; 2]);
     let (cx, [rx_places, tx_places], [rx, tx]) = (context(2, 0), &mut places, &mut bytes);
     let (rx, tx) = (raw::PacketBuffer::new(rx_places, rx), raw::PacketBuffer::new(tx_places, tx));
-    let mut socket = raw::Socket::new(&mut memory, Some(IpVersion::Ipv4), Some(IpProtocol::Udp), rx, tx);
+    let mut socket = raw::Socket::new(Some(IpVersion::Ipv4), Some(IpProtocol::Udp), rx, tx);
     assert_eq!((socket.ip_version(), socket.ip_protocol()), (Some(IpVersion::Ipv4), Some(IpProtocol::Udp)));
     assert_eq!((socket.packet_recv_capacity(), socket.payload_send_capacity()), (2, 100));
     let mut other = packet.clone();
     other[9] = 1; // another protocol, with the checksum 16 more
     other[11] = other[11].wrapping_add(16);
-    assert!(socket.accepts(&packet) && !socket.accepts(&other));
-    assert_eq!((socket.process(&cx, &packet), socket.recv_queue()), (Ok(()), packet.len()));
+    assert_eq!(socket.take(&cx, &other), Err(NotAccepted));
+    assert_eq!((socket.take(&cx, &packet), socket.recv_queue()), (Ok(()), packet.len()));
     let mut out = [0; 100];
     assert_eq!(socket.peek_slice(&mut out[..1]), Err(RecvError::Truncated));
     assert_eq!((socket.recv_slice(&mut out), &out[..packet.len()]), (Ok(packet.len()), &packet[..]));
     assert_eq!(socket.recv_slice(&mut out), Err(RecvError::Exhausted));
     assert_eq!(socket.send_slice(&[0; 101]), Err(raw::SendError::BufferFull));
     assert_eq!((socket.send_slice(&packet), socket.poll_at(&cx)), (Ok(()), PollAt::Now));
-    assert_eq!(socket.dispatch(&cx, &mut out[..9]), Err(TooShort));
-    assert_eq!((socket.dispatch(&cx, &mut out), &out[..packet.len()]), (Ok(Some(packet.len())), &packet[..]));
+    assert_eq!(socket.emit(&cx, &mut out[..9]), Err(TooShort));
+    assert_eq!((socket.emit(&cx, &mut out), &out[..packet.len()]), (Ok(Some(packet.len())), &packet[..]));
     assert_eq!(socket.poll_at(&cx), PollAt::Ingress);
 }
 
 /// Memory for an ICMP socket with two places and 200 bytes each way.
 struct IcmpRoom {
-    memory: icmp::Memory,
     places: [[icmp::PacketMetadata; 2]; 2],
     bytes: [[u8; 200]; 2],
 }
@@ -153,13 +146,13 @@ struct IcmpRoom {
 impl IcmpRoom {
     fn new() -> IcmpRoom {
         let places = [[icmp::PacketMetadata::EMPTY; 2]; 2];
-        IcmpRoom { memory: icmp::Memory::new(), places, bytes: [[0; 200]; 2] }
+        IcmpRoom { places, bytes: [[0; 200]; 2] }
     }
 
     fn socket(&mut self) -> icmp::Socket<'_> {
         let ([rx_places, tx_places], [rx, tx]) = (&mut self.places, &mut self.bytes);
         let (rx, tx) = (icmp::PacketBuffer::new(rx_places, rx), icmp::PacketBuffer::new(tx_places, tx));
-        icmp::Socket::new(&mut self.memory, rx, tx)
+        icmp::Socket::new(rx, tx)
     }
 }
 
@@ -177,21 +170,21 @@ fn icmp_echo() {
     assert_eq!(pinger.send_slice(&[0; 201], B), Err(icmp::SendError::BufferFull));
     let mut packet = [0; 100];
     assert_eq!(pinger.send_slice(&request[..3], B), Ok(())); // no message, so that dispatch drops it
-    assert_eq!(pinger.dispatch(&of_a, &mut packet), Ok(None));
+    assert_eq!(pinger.emit(&of_a, &mut packet), Ok(None));
     assert_eq!(pinger.poll_at(&of_a), PollAt::Ingress);
     pinger.send_slice(&request, B).expect("room for a message");
     assert_eq!((pinger.poll_at(&of_a), pinger.send_queue()), (PollAt::Now, 12));
-    assert_eq!(pinger.dispatch(&of_a, &mut packet[..31]), Err(DispatchError::TooShort));
-    assert_eq!(pinger.dispatch(&of_a, &mut packet), Ok(Some(32)));
+    assert_eq!(pinger.emit(&of_a, &mut packet[..31]), Err(TooShort));
+    assert_eq!(pinger.emit(&of_a, &mut packet), Ok(Some(32)));
     assert_eq!((packet[9], packet[20], packet[32 - 4..32].as_ref()), (1, 8, &b"ping"[..]));
     // The reply is the request with the addresses exchanged and the kind 0: its checksum is 0x0800 more.
     packet[12..20].rotate_left(4);
     packet[20] = 0;
     let sum = u32::from(u16::from_be_bytes([packet[22], packet[23]])) + 0x0800;
     packet[22..24].copy_from_slice(&((sum & 0xffff) as u16 + (sum >> 16) as u16).to_be_bytes());
-    assert!(pinger.accepts(&of_a, &packet[..32]) && !pinger.accepts(&of_a, &packet[..31]));
+    assert_eq!(pinger.take(&of_a, &packet[..31]), Err(NotAccepted));
     for _ in 0..3 {
-        assert_eq!(pinger.process(&of_a, &packet[..32]), Ok(())); // the third finds no place, and is dropped
+        assert_eq!(pinger.take(&of_a, &packet[..32]), Ok(())); // the third finds no place, and is dropped
     }
     assert_eq!(pinger.recv_queue(), 2 * 12);
     let mut message = [0; 64];
@@ -207,8 +200,8 @@ fn icmp_echo() {
 #[test]
 fn icmp_errors() {
     let of_udp = datagram(b"which address?");
-    let (mut memory, mut rx, mut tx) = (tcp::Memory::new(), [0; 9], [0; 9]);
-    let mut host = Host { socket: tcp::Socket::new(&mut memory, &mut rx, &mut tx), cx: context(1, 0) };
+    let (mut rx, mut tx) = ([0; 9], [0; 9]);
+    let mut host = Host { socket: socket(&mut rx, &mut tx), cx: context(1, 0) };
     host.socket.connect(&mut host.cx, (B, 53), 49152).expect("a closed socket connects");
     let of_tcp = host.emit().expect("a SYN");
     let sources = [icmp::Endpoint::Udp(49152.into()), icmp::Endpoint::Tcp(49152.into())];
@@ -219,7 +212,7 @@ fn icmp_errors() {
         router.set_hop_limit(Some(9));
         router.send_slice(&message, A).expect("room for a message");
         let (mut packet, len) = ([0; 100], message.len());
-        assert_eq!((router.dispatch(&of_b, &mut packet), router.hop_limit()), (Ok(Some(20 + len)), Some(9)));
+        assert_eq!((router.emit(&of_b, &mut packet), router.hop_limit()), (Ok(Some(20 + len)), Some(9)));
         assert_eq!((packet[8], &packet[28..20 + len]), (9, &quoted[..]));
         for (k, source) in sources.into_iter().enumerate() {
             let mut room = IcmpRoom::new();
@@ -228,11 +221,11 @@ fn icmp_errors() {
             socket.bind(source).expect("a closed socket opens");
             assert!(socket.is_open());
             if k != n {
-                assert_eq!(socket.process(&host.cx, &packet[..20 + len]), Err(NotAccepted));
+                assert_eq!(socket.take(&host.cx, &packet[..20 + len]), Err(NotAccepted));
                 continue;
             }
-            assert_eq!(socket.process(&host.cx, &packet[..20 + len]), Ok(()));
-            assert_eq!(socket.process(&host.cx, &packet[..20 + len]), Ok(()));
+            assert_eq!(socket.take(&host.cx, &packet[..20 + len]), Ok(()));
+            assert_eq!(socket.take(&host.cx, &packet[..20 + len]), Ok(()));
             let mut bytes = [0; 100];
             assert_eq!(socket.recv_slice(&mut bytes[..len - 1]), Err(icmp::RecvError::Truncated));
             assert!(socket.can_recv());

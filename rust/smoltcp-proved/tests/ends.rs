@@ -1,15 +1,13 @@
 //! Why connections end, what was agreed, and bytes past a ring's end. Numbers are RFC 9293's and 2018's.
 mod common;
 use common::*;
-use smoltcp_proved::c_library::Context;
-use smoltcp_proved::c_library::tcp::{Ended, Memory, Negotiated, RecvError, Socket, reset};
+use smoltcp_proved::sockets::tcp::{Ended, Negotiated, RecvError};
 
 /// Calls `then` with the hosts of two sockets that are connected, the second of which listened.
 fn connected(count: usize, then: impl FnOnce(Host<'_>, Host<'_>)) {
-    let (mut m, mut n) = (Memory::new(), Memory::new());
     let (mut p, mut q, mut r, mut s) = (vec![0; count], vec![0; count], vec![0; count], vec![0; count]);
-    let mut a = Host { socket: Socket::new(&mut m, &mut p, &mut r), cx: context(1, 1000) };
-    let mut b = Host { socket: Socket::new(&mut n, &mut q, &mut s), cx: context(2, 5000) };
+    let mut a = Host { socket: socket(&mut p, &mut r), cx: context(1, 1000) };
+    let mut b = Host { socket: socket(&mut q, &mut s), cx: context(2, 5000) };
     b.socket.listen(80).expect("a closed socket listens");
     a.socket.connect(&mut a.cx, (B, 80), 49152).expect("a closed socket connects");
     settle(&mut a, &mut b);
@@ -22,7 +20,8 @@ fn agreed() {
     connected(100, |a, _| {
         let wanted = Negotiated {
             remote_mss: 1460,
-            win_scales: Some((0, 0)),
+            remote_win_scale: Some(0),
+            local_win_scale: 0,
             timestamps: false,
             sack: true,
             remote_window: 100,
@@ -55,14 +54,14 @@ fn finished_and_reset() {
 
 #[test]
 fn refused() {
-    let (mut memory, mut rx, mut tx) = (Memory::new(), [0; 100], [0; 100]);
-    let mut a = Host { socket: Socket::new(&mut memory, &mut rx, &mut tx), cx: context(1, 1000) };
+    let (mut rx, mut tx) = ([0; 100], [0; 100]);
+    let mut a = Host { socket: socket(&mut rx, &mut tx), cx: context(1, 1000) };
     a.socket.connect(&mut a.cx, (B, 80), 49152).expect("a closed socket connects");
     assert_eq!(a.socket.recv_slice(&mut [0]), Err(RecvError::InvalidState));
     assert_eq!((a.socket.ended(), a.socket.negotiated()), (None, None));
     let syn = a.emit().expect("a SYN");
     let mut rst = [0; 100];
-    let len = reset(&syn, &mut rst).expect("a segment").expect("an answer");
+    let len = reset(&syn, &mut rst).expect("an answer");
     a.take(&rst[..len]);
     assert_eq!(a.socket.ended(), Some(Ended::Refused));
     assert_eq!(Ended::Refused.to_string(), "refused by the peer");
@@ -83,16 +82,4 @@ fn past_the_end() {
         assert_eq!(b.socket.consume(50), Ok(50));
         assert_eq!(b.socket.peek(90), Ok(&bytes[50..]));
     });
-}
-
-/// RFC 791, section 3.2: every link carries 68 bytes.
-#[test]
-fn small_mtu() {
-    assert!(Context::new(67).is_none() && Context::new(68).is_some());
-}
-
-#[test]
-fn versions() {
-    assert_eq!(smoltcp_proved::c_library::version(), env!("CARGO_PKG_VERSION"));
-    assert!(smoltcp_proved::c_library::build().starts_with("commit "));
 }

@@ -1,9 +1,9 @@
 //! What docs/SMOLTCP.md says of two sides that send again at once.
 mod common;
 use common::*;
-use smoltcp_proved::c_library::PollAt;
-use smoltcp_proved::c_library::tcp::{CongestionControl, Memory, Socket, State};
-use smoltcp_proved::c_library::time::Duration;
+use smoltcp_proved::PollAt;
+use smoltcp_proved::tcp::{CongestionControl, State};
+use smoltcp_proved::time::Duration;
 
 /// All that is due, as at most 64 packets.
 fn emit(host: &mut Host) -> Vec<Vec<u8>> {
@@ -38,10 +38,10 @@ fn warm<'a>(a: &mut Host<'a>, b: &mut Host<'a>, count: usize) {
 /// Both sides send two segments, all come, and the acknowledgement of each side is lost; from then on nothing is lost.
 /// Answers the states at the end of ten minutes, or where all is acknowledged.
 fn two_lost_acknowledgements(control: CongestionControl) -> (State, State) {
-    let (mut memory, mut rooms) = ([Memory::new(), Memory::new()], [[0; 8192]; 4]);
-    let ([m, n], [p, q, r, s]) = (&mut memory, &mut rooms);
-    let mut a = Host { socket: Socket::new(m, p, q), cx: context(1, 1000) };
-    let mut b = Host { socket: Socket::new(n, r, s), cx: context(2, 5000) };
+    let mut rooms = [[0; 8192]; 4];
+    let [p, q, r, s] = &mut rooms;
+    let mut a = Host { socket: socket(p, q), cx: context(1, 1000) };
+    let mut b = Host { socket: socket(r, s), cx: context(2, 5000) };
     for host in [&mut a, &mut b] {
         host.socket.set_congestion_control(control);
         host.socket.set_keep_alive(Some(Duration::from_secs(15)));

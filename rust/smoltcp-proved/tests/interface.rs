@@ -187,7 +187,7 @@ fn routes_are_set_and_taken_away() {
     let routes = iface.routes_mut();
     assert!(routes.add_default_ipv4_route(one).expect("room").is_none());
     let old = routes.add_default_ipv4_route(other).expect("room").expect("the one before");
-    assert!(old.via_router == one.into() && old.cidr.prefix_len == 0);
+    assert!(old.via_router == one.into() && old.cidr.prefix_len() == 0);
     let gateway = Ipv6Address::new(0xfe80, 0, 0, 0, 0, 0, 0, 1);
     assert!(routes.add_default_ipv6_route(gateway).expect("room").is_none());
     routes.update(|list| {
@@ -258,7 +258,7 @@ fn groups_are_joined_and_left() {
 }
 
 #[test]
-#[should_panic(expected = "must be unicast")]
+#[should_panic(expected = "is not unicast")]
 fn addresses_are_of_one_host() {
     let mut device = Loopback::new(Medium::Ip);
     let group = IpCidr::new(IpAddress::v4(224, 0, 0, 1), 8);

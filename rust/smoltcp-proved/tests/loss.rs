@@ -1,9 +1,9 @@
 //! A thousand exchanges of random bytes both ways, over networks that lose, repeat and reorder packets.
 mod common;
 use common::*;
-use smoltcp_proved::c_library::tcp::{Memory, RecvError, Socket, State};
-use smoltcp_proved::c_library::time::Duration;
-use smoltcp_proved::c_library::{PollAt, tcp};
+use smoltcp_proved::PollAt;
+use smoltcp_proved::tcp::{RecvError, State};
+use smoltcp_proved::time::Duration;
 
 /// Numbers by xorshift (Marsaglia 2003).
 struct Random(u64);
@@ -82,8 +82,8 @@ impl<'a> Side<'a> {
             if random.below(10) == 0 {
                 way.push(packet.clone());
             }
-            let mut reply = vec![0; tcp::REPLY_LEN];
-            if let Ok(Some(len)) = self.host.socket.process(&mut self.host.cx, &packet, &mut reply) {
+            let mut reply = vec![0; REPLY_LEN];
+            if let Ok(Some(len)) = self.host.socket.hear(&mut self.host.cx, &packet, &mut reply) {
                 back.push(reply[..len].to_vec());
             }
         }
@@ -112,14 +112,13 @@ fn go_on(a: &mut Side, b: &mut Side, busy: bool) {
 /// One exchange. Answers whether all that was sent was read, by both; and whatever was read is what was sent.
 fn exchange(seed: u64) -> bool {
     let mut random = Random(seed.wrapping_mul(0x9e37_79b9_7f4a_7c15) | 1);
-    let [mut m, mut n] = [Memory::new(), Memory::new()];
     let mut rooms: [Vec<u8>; 4] = std::array::from_fn(|_| vec![0; 100 + random.below(5000)]);
     let [p, q, r, s] = &mut rooms;
     let words = [random.below(1 << 32) as u32, random.below(1 << 32) as u32];
-    let mut of_a = Host { socket: Socket::new(&mut m, p, q), cx: context(1, words[0]) };
-    let mut of_b = Host { socket: Socket::new(&mut n, r, s), cx: context(2, words[1]) };
+    let mut of_a = Host { socket: socket(p, q), cx: context(1, words[0]) };
+    let mut of_b = Host { socket: socket(r, s), cx: context(2, words[1]) };
     for socket in [&mut of_a.socket, &mut of_b.socket] {
-        socket.set_timestamps(random.below(2) == 0);
+        socket.set_tsval_generator((random.below(2) == 0).then_some(clock));
         socket.set_nagle_enabled(random.below(2) == 0);
         socket.set_keep_alive(Some(Duration::from_secs(5)));
         socket.set_timeout(Some(Duration::from_secs(600)));

@@ -2,8 +2,8 @@
 #![cfg(feature = "alloc")]
 mod common;
 use common::*;
-use smoltcp_proved::c_library::tcp::{Socket, State};
-use smoltcp_proved::c_library::{icmp, raw, udp};
+use smoltcp_proved::tcp::{Socket, SocketBuffer, State};
+use smoltcp_proved::{icmp, raw, udp};
 use std::alloc::{GlobalAlloc, Layout, System};
 use std::cell::Cell;
 
@@ -42,7 +42,10 @@ fn held() -> isize {
 
 /// Two sockets that have a connection, one of which has bytes to read.
 fn connected() -> [Host<'static>; 2] {
-    let host = |last, word| Host { socket: Socket::owned(vec![0; 64], vec![0; 64]), cx: context(last, word) };
+    let host = |last, word| Host {
+        socket: Socket::new(SocketBuffer::new(vec![0; 64]), SocketBuffer::new(vec![0; 64])),
+        cx: context(last, word),
+    };
     let (mut a, mut b) = (host(1, 1000), host(2, 5000));
     b.socket.listen(80).expect("a closed socket listens");
     a.socket.connect(&mut a.cx, (B, 80), 49152).expect("a closed socket connects");
@@ -87,23 +90,23 @@ fn nothing_is_left() {
     drop(connected()); // whatever the test's own machinery keeps
     let before = held();
     let hosts = connected();
-    assert!(held() >= before + 2 * (512 + 2 * 64));
+    assert!(held() >= before + 2 * 2 * 64);
     drop(hosts);
     assert_eq!(held(), before);
     {
-        let queue = || udp::PacketBuffer::owned(vec![udp::PacketMetadata::EMPTY; 8], vec![0; 1024]);
-        let mut socket = udp::Socket::owned(queue(), queue());
+        let queue = || udp::PacketBuffer::new(vec![udp::PacketMetadata::EMPTY; 8], vec![0; 1024]);
+        let mut socket = udp::Socket::new(queue(), queue());
         socket.bind(53).expect("a closed socket opens");
         assert_eq!(socket.send_with(5, (A, 53), |bytes| bytes.len()), Ok(5));
-        assert!(held() > before + 160 + 2 * (8 * 48 + 1024));
+        assert!(held() > before + 2 * 1024);
         assert_eq!((socket.packet_send_capacity(), socket.payload_recv_capacity()), (8, 1024));
         let _unused = queue();
     }
     {
-        let queue = || icmp::PacketBuffer::owned(vec![icmp::PacketMetadata::EMPTY; 8], vec![0; 1024]);
-        assert!(icmp::Socket::owned(queue(), queue()).recv().is_err());
-        let queue = || raw::PacketBuffer::owned(vec![raw::PacketMetadata::EMPTY; 8], vec![0; 1024]);
-        assert!(raw::Socket::owned(None, None, queue(), queue()).peek().is_err());
+        let queue = || icmp::PacketBuffer::new(vec![icmp::PacketMetadata::EMPTY; 8], vec![0; 1024]);
+        assert!(icmp::Socket::new(queue(), queue()).recv().is_err());
+        let queue = || raw::PacketBuffer::new(vec![raw::PacketMetadata::EMPTY; 8], vec![0; 1024]);
+        assert!(raw::Socket::new(None, None, queue(), queue()).peek().is_err());
     }
     assert_eq!(held(), before);
 }
@@ -112,19 +115,8 @@ fn nothing_is_left() {
 #[test]
 fn half_of_it() {
     let (mut places, mut bytes) = ([udp::PacketMetadata::EMPTY; 2], [0; 100]);
-    let owned = || udp::PacketBuffer::owned(vec![udp::PacketMetadata::EMPTY; 8], vec![0; 1024]);
-    let mut socket = udp::Socket::owned(udp::PacketBuffer::new(&mut places, &mut bytes), owned());
+    let owned = || udp::PacketBuffer::new(vec![udp::PacketMetadata::EMPTY; 8], vec![0; 1024]);
+    let mut socket = udp::Socket::new(udp::PacketBuffer::new(&mut places[..], &mut bytes[..]), owned());
     assert_eq!((socket.packet_recv_capacity(), socket.bind(53)), (2, Ok(())));
     let _ = bytes[0]; // free again
-    let mut memory = udp::Memory::new();
-    let socket = udp::Socket::new(&mut memory, owned(), owned());
-    assert_eq!(socket.packet_recv_capacity(), 8);
-}
-
-#[test]
-fn shown() {
-    let queue = || udp::PacketBuffer::owned(vec![udp::PacketMetadata::EMPTY; 8], vec![0; 1024]);
-    assert_eq!(format!("{:?}", queue()), "PacketBuffer { places: 8, bytes: 1024 }");
-    assert_eq!(format!("{:?}", udp::PacketMetadata::EMPTY), "PacketMetadata { .. }");
-    assert!(format!("{:?}", udp::Socket::owned(queue(), queue())).starts_with("Socket { endpoint: "));
 }

@@ -25,7 +25,7 @@ impl Context for Layer {
         Some(self.addr)
     }
     fn get_source_address_ipv6(&self, _: &Ipv6Address) -> Ipv6Address {
-        Ipv6Address([0; 16])
+        Ipv6Address::UNSPECIFIED
     }
     fn is_broadcast(&self, _: &IpAddress) -> bool {
         false
@@ -43,7 +43,7 @@ impl Context for Layer {
 }
 
 fn layer(last: u8) -> Layer {
-    Layer { now: 0, addr: Ipv4Address([10, 0, 0, last]), word: 0 }
+    Layer { now: 0, addr: Ipv4Address::new(10, 0, 0, last), word: 0 }
 }
 
 fn bytes_of(ip: &IpRepr, repr: &TcpRepr<'_>) -> Vec<u8> {
@@ -54,10 +54,13 @@ fn bytes_of(ip: &IpRepr, repr: &TcpRepr<'_>) -> Vec<u8> {
 
 fn emitted(cx: &mut Layer, socket: &mut tcp::Socket<'_>) -> Option<Vec<u8>> {
     let mut bytes = None;
-    let Ok(()) = socket.dispatch(cx, |_: &mut Layer, (ip, repr): (IpRepr, TcpRepr<'_>)| -> Result<(), ()> {
-        bytes = Some(bytes_of(&ip, &repr));
-        Ok(())
-    }) else {
+    let Ok(()) = socket.dispatch(
+        cx,
+        |_: &mut Layer, (ip, repr): (IpRepr, TcpRepr<'_>)| -> core::result::Result<(), ()> {
+            bytes = Some(bytes_of(&ip, &repr));
+            Ok(())
+        },
+    ) else {
         return None;
     };
     bytes
@@ -87,7 +90,7 @@ fn bytes_pass_between_two_sockets() {
     let mut client = (layer(1), tcp::Socket::closed(RingBuffer::new(a), RingBuffer::new(b), None));
     let mut server = (layer(2), tcp::Socket::closed(RingBuffer::new(c), RingBuffer::new(d), None));
     server.1.listen(IpListenEndpoint { addr: None, port: 80 }).expect("a closed socket listens");
-    let remote = IpEndpoint { addr: IpAddress::Ipv4(Ipv4Address([10, 0, 0, 2])), port: 80 };
+    let remote = IpEndpoint { addr: IpAddress::Ipv4(Ipv4Address::new(10, 0, 0, 2)), port: 80 };
     let local = IpListenEndpoint { addr: None, port: 49152 };
     client.1.connect(&mut client.0, remote, local).expect("a closed socket connects");
     let (mut sent, mut got) = (0, Vec::new());
@@ -113,18 +116,20 @@ fn bytes_pass_between_two_sockets() {
 fn a_datagram_is_sent_as_it_was_queued() {
     let (mut rx_meta, mut tx_meta) = ([PacketMetadata::EMPTY; 2], [PacketMetadata::EMPTY; 2]);
     let (mut rx, mut tx) = ([0; 64], [0; 64]);
-    let mut socket =
-        udp::Socket::new(PacketBuffer::new(&mut rx_meta, &mut rx), PacketBuffer::new(&mut tx_meta, &mut tx));
+    let mut socket = udp::Socket::new(
+        PacketBuffer::new(&mut rx_meta[..], &mut rx[..]),
+        PacketBuffer::new(&mut tx_meta[..], &mut tx[..]),
+    );
     let mut cx = layer(1);
     socket.bind(IpListenEndpoint { addr: None, port: 7 }).expect("a socket that is not bound");
     assert!(socket.poll_at(&cx) == PollAt::Ingress);
-    let remote = IpEndpoint { addr: IpAddress::Ipv4(Ipv4Address([10, 0, 0, 2])), port: 53 };
+    let remote = IpEndpoint { addr: IpAddress::Ipv4(Ipv4Address::new(10, 0, 0, 2)), port: 53 };
     socket.send_slice(b"which name?", udp::UdpMetadata::from_endpoint(remote)).expect("room");
     assert!(socket.poll_at(&cx) == PollAt::Now);
     let mut seen = Vec::new();
     let sent = socket.dispatch(
         &mut cx,
-        |_: &mut Layer, (ip, repr, payload): (IpRepr, UdpRepr, &[u8])| -> Result<(), ()> {
+        |_: &mut Layer, (ip, repr, payload): (IpRepr, UdpRepr, &[u8])| -> core::result::Result<(), ()> {
             assert!(ip.dst_addr() == remote.addr && (repr.src_port, repr.dst_port) == (7, 53));
             seen.extend_from_slice(payload);
             Ok(())

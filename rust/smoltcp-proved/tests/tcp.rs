@@ -1,17 +1,13 @@
 //! Worked examples of TCP that bytes can show. Numbers are those of RFC 9293, and of smoltcp where it says so.
 mod common;
 use common::*;
-use smoltcp_proved::c_library::tcp::{
-    CongestionControl, ConnectError, ListenError, Memory, RecvError, SendError, Socket,
-};
-use smoltcp_proved::c_library::time::{Duration, Instant};
-use smoltcp_proved::c_library::wire::{IpEndpoint, IpListenEndpoint, Ipv6Address};
-use smoltcp_proved::c_library::{Context, NotAccepted, PollAt, TooShort, tcp};
-use tcp::State;
+use smoltcp_proved::PollAt;
+use smoltcp_proved::tcp::{CongestionControl, ConnectError, ListenError, RecvError, SendError, State};
+use smoltcp_proved::time::{Duration, Instant};
+use smoltcp_proved::wire::{IpEndpoint, IpListenEndpoint, Ipv6Address};
 
-/// Memory and buffers of two sockets.
+/// Buffers of two sockets.
 struct Room {
-    memory: [Memory; 2],
     rx: [Vec<u8>; 2],
     tx: [Vec<u8>; 2],
 }
@@ -19,14 +15,14 @@ struct Room {
 impl Room {
     fn new(count: usize) -> Room {
         let bytes = || [vec![0; count], vec![0; count]];
-        Room { memory: [Memory::new(), Memory::new()], rx: bytes(), tx: bytes() }
+        Room { rx: bytes(), tx: bytes() }
     }
 
     /// b listens at port 80, and a has begun to connect from port 49152.
     fn opening(&mut self) -> (Host<'_>, Host<'_>) {
-        let Room { memory: [m, n], rx: [p, q], tx: [r, s] } = self;
-        let mut a = Host { socket: Socket::new(m, p, r), cx: context(1, 1000) };
-        let mut b = Host { socket: Socket::new(n, q, s), cx: context(2, 5000) };
+        let Room { rx: [p, q], tx: [r, s] } = self;
+        let mut a = Host { socket: socket(p, r), cx: context(1, 1000) };
+        let mut b = Host { socket: socket(q, s), cx: context(2, 5000) };
         b.socket.listen(80).expect("a closed socket listens");
         a.socket.connect(&mut a.cx, (B, 80), 49152).expect("a closed socket connects");
         (a, b)
@@ -76,14 +72,14 @@ fn refusals() {
     assert_eq!(b.socket.recv_slice(&mut [0]), Err(RecvError::InvalidState));
     assert_eq!(b.socket.recv(|_| (0, ())), Err(RecvError::InvalidState));
     assert_eq!(b.socket.peek(1), Err(RecvError::InvalidState));
-    assert_eq!(a.socket.dispatch(&a.cx, &mut [0; 20]), Err(TooShort));
+    assert_eq!(a.socket.emit(&a.cx, &mut [0; 20]), Err(TooShort));
     let syn = a.emit().expect("the SYN again");
-    assert_eq!(a.socket.process(&mut a.cx, &syn, &mut [0; 100]), Err(NotAccepted));
-    assert_eq!(b.socket.process(&mut b.cx, &syn[..39], &mut [0; 100]), Err(NotAccepted));
-    let mut reply = [0; tcp::REPLY_LEN];
-    let len = tcp::reset(&syn, &mut reply).expect("a segment").expect("an RST");
+    assert_eq!(a.socket.hear(&mut a.cx, &syn, &mut [0; 100]), Err(NotAccepted));
+    assert_eq!(b.socket.hear(&mut b.cx, &syn[..39], &mut [0; 100]), Err(NotAccepted));
+    let mut reply = [0; REPLY_LEN];
+    let len = reset(&syn, &mut reply).expect("an RST");
     assert_eq!((flags(&reply), number(&reply), acknowledged(&reply)), (RST | ACK, 0, 1001));
-    assert_eq!(tcp::reset(&reply[..len], &mut [0; 100]), Ok(None));
+    assert_eq!(reset(&reply[..len], &mut [0; 100]), None);
     assert_eq!(a.take(&reply[..len]), None);
     assert_eq!(a.socket.state(), State::Closed);
     assert_eq!(a.socket.connect(&mut a.cx, (B, 0), 1), Err(ConnectError::Unaddressable));
@@ -190,22 +186,22 @@ fn without_copies() {
 
 #[test]
 fn settings() {
-    let (mut memory, mut rx, mut tx) = (Memory::new(), [0; 10], [0; 20]);
-    let mut socket = Socket::new(&mut memory, &mut rx, &mut tx);
+    let (mut rx, mut tx) = ([0; 10], [0; 20]);
+    let mut socket = socket(&mut rx, &mut tx);
     assert_eq!((socket.recv_capacity(), socket.send_capacity()), (10, 20));
     assert_eq!((socket.timeout(), socket.keep_alive()), (None, None));
     assert_eq!(socket.ack_delay(), Some(Duration::from_millis(10)));
     assert!(socket.nagle_enabled() && !socket.timestamp_enabled());
     assert_eq!((socket.hop_limit(), socket.congestion_control()), (None, CongestionControl::Reno));
     socket.set_timeout(Some(Duration::from_secs(60)));
-    socket.set_keep_alive(Some(Duration::from_micros(u64::MAX)));
+    socket.set_keep_alive(Some(Duration::from_secs(5)));
     socket.set_ack_delay(None);
     socket.set_hop_limit(Some(32));
     socket.set_congestion_control(CongestionControl::None);
     socket.set_nagle_enabled(false);
-    socket.set_timestamps(true);
+    socket.set_tsval_generator(Some(clock));
     assert_eq!(socket.timeout(), Some(Duration::from_secs(60)));
-    assert_eq!(socket.keep_alive(), Some(Duration::from_micros(1 << 61)));
+    assert_eq!(socket.keep_alive(), Some(Duration::from_secs(5)));
     assert_eq!((socket.ack_delay(), socket.hop_limit()), (None, Some(32)));
     assert_eq!(socket.congestion_control(), CongestionControl::None);
     assert!(!socket.nagle_enabled() && socket.timestamp_enabled());
@@ -288,11 +284,10 @@ fn ipv6_and_timestamps() {
     for host in [&mut a, &mut b] {
         host.socket.abort();
         host.emit();
-        host.socket.set_timestamps(true);
+        host.socket.set_tsval_generator(Some(clock));
     }
     a.cx.set_ipv6_addr(Ipv6Address::LOCALHOST);
     b.cx.set_ipv6_addr(at_b.0);
-    assert_eq!((a.cx.ipv4_addr().map(Into::into), b.cx.ipv6_addr()), (Some(A), Some(at_b.0)));
     b.socket.listen(at_b).expect("a closed socket listens");
     a.socket.connect(&mut a.cx, at_b, 49152).expect("a closed socket connects");
     a.cx.set_now(Instant::from_millis(0x0102_0304));
@@ -303,35 +298,19 @@ fn ipv6_and_timestamps() {
     b.take(&syn);
     settle(&mut a, &mut b);
     assert_eq!(b.socket.state(), State::Established);
-    assert_eq!(b.socket.local_endpoint().map(|at| at.to_string()), Some("[fd00::2]:80".into()));
+    assert_eq!(
+        b.socket.local_endpoint().map(|at| at.to_string()),
+        Some("[fd00:0000:0000:0000:0000:0000:0000:0002]:80".into())
+    );
     assert_eq!(b.socket.listen_endpoint(), at_b.into());
-}
-
-#[test]
-fn contexts() {
-    assert!(Context::new(67).is_none());
-    let mut cx = Context::new(70_000).expect("an MTU").with_words(|| 7);
-    assert_eq!(cx.ip_mtu(), 65535);
-    cx.set_now(Instant::from_micros(i64::MIN));
-    assert_eq!(cx.now(), Instant::from_micros(-1i64 << 61));
-    let (mut memory, mut rx, mut tx) = (Memory::new(), [0; 10], [0; 20]);
-    let mut socket = Socket::new(&mut memory, &mut rx, &mut tx);
-    assert_eq!(socket.dispatch(&cx, &mut [0; 100]), Ok(None));
-    cx.set_now(Instant::from_micros(i64::MAX));
-    cx.set_ipv4_addr([10, 0, 0, 1].into());
-    socket.connect(&mut cx, (B, 80), 49152).expect("a closed socket connects");
-    assert_eq!(socket.poll_at(&cx), PollAt::Now);
-    assert!(format!("{cx:?} {socket:?}").contains("SynSent"));
 }
 
 /// An address that was never set is no source.
 #[test]
 fn no_source() {
     let mut room = Room::new(64);
-    let mut socket = Socket::new(&mut room.memory[0], &mut room.rx[0], &mut room.tx[0]);
-    let mut cx = Context::new(1500).expect("an MTU").with_words(|| 7);
+    let (mut socket, mut cx) = (socket(&mut room.rx[0], &mut room.tx[0]), Told::new(7));
     let over_ipv6 = IpEndpoint::new(Ipv6Address::LOCALHOST.into(), 80);
-    assert_eq!((cx.ipv4_addr(), cx.ipv6_addr()), (None, None));
     assert_eq!(socket.connect(&mut cx, (B, 80), 49152), Err(ConnectError::Unaddressable));
     assert_eq!(socket.connect(&mut cx, over_ipv6, 49152), Err(ConnectError::Unaddressable));
     assert_eq!((socket.state(), socket.poll_at(&cx)), (State::Closed, PollAt::Ingress));
@@ -340,27 +319,20 @@ fn no_source() {
     assert_eq!(socket.connect(&mut cx, (B, 80), 49152), Ok(()));
 }
 
-/// Each connection begins with a word of its own, drawn for it; without words none begins.
+/// Each connection begins with a word of its own, drawn for it.
 #[test]
 fn words() {
     let (mut room, mut other) = (Room::new(64), Room::new(64));
     let (mut a, mut b) = room.opening();
     let syn = a.emit().expect("a SYN");
-    let mut mute = Context::new(1500).expect("an MTU");
-    mute.set_ipv4_addr([10, 0, 0, 2].into());
-    let mut reply = [0; tcp::REPLY_LEN];
-    assert_eq!(b.socket.process(&mut mute, &syn, &mut reply), Err(NotAccepted));
-    assert!(b.socket.is_listening());
-    let mut third = Socket::new(&mut other.memory[0], &mut other.rx[0], &mut other.tx[0]);
-    assert_eq!(third.connect(&mut mute, (A, 80), 1), Err(ConnectError::NoWords));
-    assert_eq!(ConnectError::NoWords.to_string(), "no random words");
-
+    let mut reply = [0; REPLY_LEN];
+    let mut third = socket(&mut other.rx[0], &mut other.tx[0]);
     // a packet that opens nothing uses no word, and two connections have two
-    assert_eq!(b.socket.process(&mut b.cx, &syn[..39], &mut reply), Err(NotAccepted));
+    assert_eq!(b.socket.hear(&mut b.cx, &syn[..39], &mut reply), Err(NotAccepted));
     assert_eq!(b.take(&syn), None);
     assert_eq!(b.emit().map(|both| number(&both)), Some(5000));
     third.connect(&mut b.cx, (A, 80), 49152).expect("a closed socket connects");
     let mut packet = [0; 100];
-    assert_eq!(third.dispatch(&b.cx, &mut packet), Ok(Some(20 + 20 + 12)));
+    assert_eq!(third.emit(&b.cx, &mut packet), Ok(Some(20 + 20 + 12)));
     assert_eq!(number(&packet), 6000);
 }

@@ -1,10 +1,10 @@
 //! Tasks that wait for sockets: who is woken by what, as smoltcp's documentation says.
 mod common;
 use common::*;
-use smoltcp_proved::c_library::tcp::{ListenError, Memory, Socket, State};
-use smoltcp_proved::c_library::time::Duration;
-use smoltcp_proved::c_library::wire::{IpAddress, Ipv6Address};
-use smoltcp_proved::c_library::{DispatchError, icmp, raw, tcp, udp};
+use smoltcp_proved::tcp::{ListenError, State};
+use smoltcp_proved::time::Duration;
+use smoltcp_proved::wire::{IpAddress, Ipv6Address};
+use smoltcp_proved::{icmp, raw, tcp, udp};
 use std::cell::RefCell;
 use std::future::{Future, poll_fn};
 use std::pin::Pin;
@@ -50,10 +50,10 @@ macro_rules! wait {
 
 #[test]
 fn tcp_connections() {
-    let (mut memory, mut bytes) = ([Memory::new(), Memory::new()], [[0; 64]; 4]);
-    let ([m, n], [p, q, r, s]) = (&mut memory, &mut bytes);
-    let mut a = Host { socket: Socket::new(m, p, q), cx: context(1, 1000) };
-    let mut b = Host { socket: Socket::new(n, r, s), cx: context(2, 5000) };
+    let mut bytes = [[0; 64]; 4];
+    let [p, q, r, s] = &mut bytes;
+    let mut a = Host { socket: socket(p, q), cx: context(1, 1000) };
+    let mut b = Host { socket: socket(r, s), cx: context(2, 5000) };
     let (of_a, of_b) = (Tasks::new(), Tasks::new());
     // a change of the state wakes both, once
     wait!(of_b, b.socket);
@@ -98,8 +98,8 @@ fn tcp_connections() {
 /// The last task that was registered is woken, and no other.
 #[test]
 fn one_task() {
-    let (mut memory, mut rx, mut tx) = (Memory::new(), [0; 64], [0; 64]);
-    let mut socket = tcp::Socket::new(&mut memory, &mut rx, &mut tx);
+    let (mut rx, mut tx) = ([0; 64], [0; 64]);
+    let mut socket = socket(&mut rx, &mut tx);
     let (early, late) = (Tasks::new(), Tasks::new());
     wait!(early, socket);
     wait!(late, socket);
@@ -111,32 +111,31 @@ fn one_task() {
 
 #[test]
 fn datagrams() {
-    let (mut memory, mut places, mut bytes) =
-        (udp::Memory::new(), [[udp::PacketMetadata::EMPTY; 2]; 2], [[0; 100]; 2]);
+    let (mut places, mut bytes) = ([[udp::PacketMetadata::EMPTY; 2]; 2], [[0; 100]; 2]);
     let ([p, q], [r, s]) = (&mut places, &mut bytes);
     let (rx, tx) = (udp::PacketBuffer::new(p, r), udp::PacketBuffer::new(q, s));
-    let (mut socket, cx, tasks) = (udp::Socket::new(&mut memory, rx, tx), context(1, 0), Tasks::new());
+    let (mut socket, cx, tasks) = (udp::Socket::new(rx, tx), context(1, 0), Tasks::new());
     wait!(tasks, socket);
     socket.bind(53).expect("a closed socket opens");
     assert_eq!(tasks.woken(), (1, 1));
     let mut out = [0; 100];
     wait!(tasks, socket);
-    assert_eq!(socket.dispatch(&cx, &mut out), Ok(None));
+    assert_eq!(socket.emit(&cx, &mut out), Ok(None));
     socket.send_slice(b"", (A, 53)).expect("room");
-    assert_eq!(socket.dispatch(&cx, &mut out[..20]), Err(DispatchError::TooShort));
+    assert_eq!(socket.emit(&cx, &mut out[..20]), Err(TooShort));
     assert_eq!(tasks.woken(), (0, 0));
-    assert_eq!(socket.dispatch(&cx, &mut out), Ok(Some(28)));
+    assert_eq!(socket.emit(&cx, &mut out), Ok(Some(28)));
     assert_eq!(tasks.woken(), (0, 1));
     // what is dropped for want of a source leaves room too
     wait!(tasks, socket);
     socket.send_slice(b"", (IpAddress::Ipv6(Ipv6Address::LOCALHOST), 53)).expect("room");
     let mut rest = [0; 100];
-    assert_eq!(socket.dispatch(&cx, &mut rest), Err(DispatchError::Unaddressable));
+    assert_eq!(socket.emit(&cx, &mut rest), Ok(None));
     assert_eq!(tasks.woken(), (0, 1));
     wait!(tasks, socket);
-    assert_eq!((socket.process(&cx, &out[..28]), tasks.woken()), (Ok(()), (1, 0)));
+    assert_eq!((socket.take(&cx, &out[..28]), tasks.woken()), (Ok(()), (1, 0)));
     wait!(tasks, socket);
-    assert!(socket.process(&cx, &out[..27]).is_err());
+    assert!(socket.take(&cx, &out[..27]).is_err());
     assert_eq!(tasks.woken(), (0, 0));
     socket.close();
     assert_eq!(tasks.woken(), (1, 1));
@@ -145,28 +144,26 @@ fn datagrams() {
 /// Messages and packets that are none are dropped by dispatch, without a packet, and leave room.
 #[test]
 fn messages_and_packets() {
-    let (mut memory, mut places, mut bytes) =
-        (icmp::Memory::new(), [[icmp::PacketMetadata::EMPTY; 2]; 2], [[0; 100]; 2]);
+    let (mut places, mut bytes) = ([[icmp::PacketMetadata::EMPTY; 2]; 2], [[0; 100]; 2]);
     let ([p, q], [r, s]) = (&mut places, &mut bytes);
     let (rx, tx) = (icmp::PacketBuffer::new(p, r), icmp::PacketBuffer::new(q, s));
-    let (mut socket, cx, tasks) = (icmp::Socket::new(&mut memory, rx, tx), context(1, 0), Tasks::new());
+    let (mut socket, cx, tasks) = (icmp::Socket::new(rx, tx), context(1, 0), Tasks::new());
     wait!(tasks, socket);
     socket.bind(icmp::Endpoint::Ident(7)).expect("a closed socket opens");
     assert_eq!(tasks.woken(), (1, 1));
     wait!(tasks, socket);
     socket.send_slice(&[8, 0, 0], B).expect("room");
     let mut out = [0; 100];
-    assert_eq!((socket.dispatch(&cx, &mut out), tasks.woken()), (Ok(None), (0, 1)));
-    let (mut memory, mut places, mut bytes) =
-        (raw::Memory::new(), [[raw::PacketMetadata::EMPTY; 2]; 2], [[0; 100]; 2]);
+    assert_eq!((socket.emit(&cx, &mut out), tasks.woken()), (Ok(None), (0, 1)));
+    let (mut places, mut bytes) = ([[raw::PacketMetadata::EMPTY; 2]; 2], [[0; 100]; 2]);
     let ([p, q], [r, s]) = (&mut places, &mut bytes);
     let (rx, tx) = (raw::PacketBuffer::new(p, r), raw::PacketBuffer::new(q, s));
-    let mut socket = raw::Socket::new(&mut memory, None, None, rx, tx);
+    let mut socket = raw::Socket::new(None, None, rx, tx);
     wait!(tasks, socket);
     socket.send_slice(&[0x45]).expect("room");
-    assert_eq!((socket.dispatch(&cx, &mut out), tasks.woken()), (Ok(None), (0, 1)));
+    assert_eq!((socket.emit(&cx, &mut out), tasks.woken()), (Ok(None), (0, 1)));
     wait!(tasks, socket);
-    assert_eq!((socket.dispatch(&cx, &mut out), tasks.woken()), (Ok(None), (0, 0)));
+    assert_eq!((socket.emit(&cx, &mut out), tasks.woken()), (Ok(None), (0, 0)));
 }
 
 /// A future, whether it is to be polled, and what it has come to.
@@ -198,10 +195,10 @@ impl<'f, T> Run<'f, T> {
 /// woken, so that a waker that is not woken leaves the transfer unfinished.
 #[test]
 fn tasks_wait_for_each_other() {
-    let (mut memory, mut bytes) = ([Memory::new(), Memory::new()], [[0; 64]; 4]);
-    let ([m, n], [p, q, r, s]) = (&mut memory, &mut bytes);
-    let a = RefCell::new(Host { socket: Socket::new(m, p, q), cx: context(1, 1000) });
-    let b = RefCell::new(Host { socket: Socket::new(n, r, s), cx: context(2, 5000) });
+    let mut bytes = [[0; 64]; 4];
+    let [p, q, r, s] = &mut bytes;
+    let a = RefCell::new(Host { socket: socket(p, q), cx: context(1, 1000) });
+    let b = RefCell::new(Host { socket: socket(r, s), cx: context(2, 5000) });
     let text: Vec<u8> = (0..5000_u32).map(|n| (n * 7 / 5) as u8).collect();
     let begin = |host: &mut Host| host.socket.connect(&mut host.cx, (B, 80), 49152);
     begin(&mut a.borrow_mut()).expect("a closed socket connects");

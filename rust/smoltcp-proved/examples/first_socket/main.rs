@@ -6,16 +6,16 @@
 use smoltcp_proved::kit::{HostRuntime, Vec};
 use smoltcp_proved::proved::host_link::Link;
 use smoltcp_proved::proved::net_host::{Interface, IpCidr, Secret, SocketHandle, SocketSet};
-use smoltcp_proved::proved::smoltcp_socket::Socket;
-use smoltcp_proved::proved::smoltcp_socket::storage::RingBuffer;
-use smoltcp_proved::proved::smoltcp_socket::tcp::{self, State};
-use smoltcp_proved::proved::smoltcp_socket::time::Instant;
-use smoltcp_proved::proved::smoltcp_socket::wire::{IpAddress, IpEndpoint, IpListenEndpoint, Ipv4Address};
+use smoltcp_proved::sockets::Socket;
+use smoltcp_proved::sockets::storage::RingBuffer;
+use smoltcp_proved::sockets::tcp::{self, State};
+use smoltcp_proved::sockets::time::Instant;
+use smoltcp_proved::sockets::wire::{IpAddress, IpEndpoint, IpListenEndpoint, Ipv4Address};
 use std::process::ExitCode;
 
-const CLIENT: IpAddress = IpAddress::Ipv4(Ipv4Address([10, 0, 0, 1]));
+const CLIENT: IpAddress = IpAddress::Ipv4(smoltcp_proved::kit::ipv4([10, 0, 0, 1]));
 
-const SERVER: IpAddress = IpAddress::Ipv4(Ipv4Address([10, 0, 0, 2]));
+const SERVER: IpAddress = IpAddress::Ipv4(smoltcp_proved::kit::ipv4([10, 0, 0, 2]));
 
 type Host<'a> = (Interface<Secret>, SocketSet<'a>, SocketHandle);
 

@@ -1,7 +1,7 @@
 // Made from crates/host_bench/src/clock.rt by rust/translate: change it there.
 //! No clock of timestamps: the type of a socket's source, where it has none.
 
-use smoltcp_proved::proved::sock_tcp::TsvalSource;
+use smoltcp_proved::sockets::sock_tcp::TsvalSource;
 
 /// A clock that stands still. No socket is given one.
 #[derive(Debug, Clone, Copy)]

@@ -6,7 +6,7 @@ use crate::link::Link;
 use crate::side::{CLIENT, Host, PACKET, SERVER, Side};
 use smoltcp_proved::kit::alloc::{AllocError, Global};
 use smoltcp_proved::kit::vec;
-use smoltcp_proved::proved::smoltcp_socket::time::Instant;
+use smoltcp_proved::sockets::time::Instant;
 
 // The size of each buffer.
 const BUFFER: usize = 1 << 18;

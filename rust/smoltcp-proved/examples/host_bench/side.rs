@@ -6,19 +6,19 @@ use crate::draw::Digest;
 use smoltcp_proved::kit::Vec;
 use smoltcp_proved::kit::alloc::{AllocError, Global};
 use smoltcp_proved::proved::net_host::{Interface, IpCidr, Secret, SocketHandle, SocketSet};
-use smoltcp_proved::proved::smoltcp_socket::Socket;
-use smoltcp_proved::proved::smoltcp_socket::storage::RingBuffer;
-use smoltcp_proved::proved::smoltcp_socket::tcp::{self, CongestionControl, Rules, State};
-use smoltcp_proved::proved::smoltcp_socket::time::{Duration, Instant};
-use smoltcp_proved::proved::smoltcp_socket::wire::{IpAddress, IpEndpoint, IpListenEndpoint, Ipv4Address};
+use smoltcp_proved::sockets::Socket;
+use smoltcp_proved::sockets::storage::RingBuffer;
+use smoltcp_proved::sockets::tcp::{self, CongestionControl, Rules, State};
+use smoltcp_proved::sockets::time::{Duration, Instant};
+use smoltcp_proved::sockets::wire::{IpAddress, IpEndpoint, IpListenEndpoint, Ipv4Address};
 
 /// The longest packet, and the longest reply.
 pub const PACKET: usize = 1500;
 
 /// The client's address, and the server's.
-pub const CLIENT: Ipv4Address = Ipv4Address([10, 0, 0, 1]);
+pub const CLIENT: Ipv4Address = smoltcp_proved::kit::ipv4([10, 0, 0, 1]);
 
-pub const SERVER: Ipv4Address = Ipv4Address([10, 0, 0, 2]);
+pub const SERVER: Ipv4Address = smoltcp_proved::kit::ipv4([10, 0, 0, 2]);
 
 // The server's port.
 const PORT: u16 = 7;

@@ -15,11 +15,11 @@ use smoltcp_proved::proved::bench_parts::work::{
 };
 use smoltcp_proved::proved::host_context::Seeded;
 use smoltcp_proved::proved::net_host::{Interface, IpCidr, SocketHandle, SocketSet};
-use smoltcp_proved::proved::smoltcp_socket::Socket;
-use smoltcp_proved::proved::smoltcp_socket::storage::RingBuffer;
-use smoltcp_proved::proved::smoltcp_socket::tcp::{self, State};
-use smoltcp_proved::proved::smoltcp_socket::time::Instant;
-use smoltcp_proved::proved::smoltcp_socket::wire::{IpAddress, IpEndpoint, IpListenEndpoint, Ipv4Address};
+use smoltcp_proved::sockets::Socket;
+use smoltcp_proved::sockets::storage::RingBuffer;
+use smoltcp_proved::sockets::tcp::{self, State};
+use smoltcp_proved::sockets::time::Instant;
+use smoltcp_proved::sockets::wire::{IpAddress, IpEndpoint, IpListenEndpoint, Ipv4Address};
 
 // The longest packet.
 const PACKET: usize = 1500;

@@ -17,9 +17,9 @@ use smoltcp_proved::proved::smoltcp_socket::wire::{
 };
 use smoltcp_proved::proved::smoltcp_socket::{Context, PollAt, icmp, raw, udp};
 
-const HERE: Ipv4Address = Ipv4Address([10, 0, 0, 1]);
+const HERE: Ipv4Address = smoltcp_proved::kit::ipv4([10, 0, 0, 1]);
 
-const THERE: Ipv4Address = Ipv4Address([10, 0, 0, 2]);
+const THERE: Ipv4Address = smoltcp_proved::kit::ipv4([10, 0, 0, 2]);
 
 // The protocol of the raw packets (RFC 3692).
 const EXPERIMENT: IpProtocol = IpProtocol::Unknown(253);

@@ -18,9 +18,9 @@ use smoltcp_proved::proved::smoltcp_socket::time::Instant;
 use smoltcp_proved::proved::smoltcp_socket::wire::{IpAddress, IpEndpoint, IpListenEndpoint, Ipv4Address};
 use smoltcp_proved::proved::smoltcp_socket::{Context, PollAt};
 
-const CLIENT: Ipv4Address = Ipv4Address([10, 0, 0, 1]);
+const CLIENT: Ipv4Address = smoltcp_proved::kit::ipv4([10, 0, 0, 1]);
 
-const SERVER: Ipv4Address = Ipv4Address([10, 0, 0, 2]);
+const SERVER: Ipv4Address = smoltcp_proved::kit::ipv4([10, 0, 0, 2]);
 
 // No buffer is longer.
 const LONGEST: usize = 1 << 20;

@@ -11,9 +11,9 @@ use crate::host::{FullHost, Moment, SOCKETS};
 use crate::trace::Trace;
 use core::fmt::Write;
 use smoltcp_proved::kit::alloc::AllocError;
-use smoltcp_proved::proved::smoltcp_socket::tcp::State;
-use smoltcp_proved::proved::smoltcp_socket::wire::{IpListenEndpoint, IpProtocol};
-use smoltcp_proved::proved::smoltcp_socket::{Socket, tcp};
+use smoltcp_proved::sockets::tcp::State;
+use smoltcp_proved::sockets::wire::{IpListenEndpoint, IpProtocol};
+use smoltcp_proved::sockets::{Socket, tcp};
 
 /// The port of the echo server (RFC 862).
 pub const ECHO_PORT: u16 = 7;

@@ -1,13 +1,13 @@
 // Made from crates/two_hosts/src/context.rt by rust/translate: change it there.
 //! The hosts' network: addresses, and the random words of each host.
 
-use smoltcp_proved::proved::smoltcp_socket::wire::Ipv4Address;
+use smoltcp_proved::sockets::wire::Ipv4Address;
 
 /// The address of host a.
-pub const A: Ipv4Address = Ipv4Address([10, 0, 0, 1]);
+pub const A: Ipv4Address = smoltcp_proved::kit::ipv4([10, 0, 0, 1]);
 
 /// The address of host b.
-pub const B: Ipv4Address = Ipv4Address([10, 0, 0, 2]);
+pub const B: Ipv4Address = smoltcp_proved::kit::ipv4([10, 0, 0, 2]);
 
 /// The longest IP packet of the wire, in bytes.
 pub const MTU: usize = 1500;

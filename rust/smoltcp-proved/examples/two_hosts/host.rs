@@ -6,9 +6,9 @@ use crate::memory::Sockets;
 use smoltcp_proved::kit::Vec;
 use smoltcp_proved::kit::alloc::{AllocError, Global};
 use smoltcp_proved::proved::net_host::{IpCidr, SocketHandle, SocketSet};
-use smoltcp_proved::proved::smoltcp_socket::time::Instant;
-use smoltcp_proved::proved::smoltcp_socket::wire::{IpAddress, Ipv4Address};
-use smoltcp_proved::proved::smoltcp_socket::{PollAt, Socket, tcp};
+use smoltcp_proved::sockets::time::Instant;
+use smoltcp_proved::sockets::wire::{IpAddress, Ipv4Address};
+use smoltcp_proved::sockets::{PollAt, Socket, tcp};
 
 /// How many sockets a host has.
 pub const SOCKETS: usize = 4;

@@ -30,9 +30,9 @@ use crate::wire::Wire;
 use smoltcp_proved::kit::alloc::{AllocError, Global};
 use smoltcp_proved::kit::env;
 use smoltcp_proved::proved::net_host::SocketSet;
-use smoltcp_proved::proved::smoltcp_socket::storage::RingBuffer;
-use smoltcp_proved::proved::smoltcp_socket::time::{Duration, Instant};
-use smoltcp_proved::proved::smoltcp_socket::{PollAt, tcp};
+use smoltcp_proved::sockets::storage::RingBuffer;
+use smoltcp_proved::sockets::time::{Duration, Instant};
+use smoltcp_proved::sockets::{PollAt, tcp};
 use std::process::ExitCode;
 
 // The seed where no argument gives one.

@@ -2,9 +2,9 @@
 //! The memory of a host's datagram sockets: a socket allocates nothing, and queues what it sends and receives in
 //! buffers that it is lent.
 
-use smoltcp_proved::proved::smoltcp_socket::storage::PacketBuffer;
-use smoltcp_proved::proved::smoltcp_socket::wire::{IpProtocol, IpVersion};
-use smoltcp_proved::proved::smoltcp_socket::{icmp, raw, udp};
+use smoltcp_proved::sockets::storage::PacketBuffer;
+use smoltcp_proved::sockets::wire::{IpProtocol, IpVersion};
+use smoltcp_proved::sockets::{icmp, raw, udp};
 
 /// One datagram socket of each kind.
 pub struct Sockets<'a> {

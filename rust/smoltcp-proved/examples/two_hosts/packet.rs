@@ -4,9 +4,7 @@
 use smoltcp_proved::kit::alloc::{AllocError, Global};
 use smoltcp_proved::kit::{Vec, vec};
 use smoltcp_proved::proved::segment_wire::packet::{carried, parse_tcp, parse_udp};
-use smoltcp_proved::proved::smoltcp_socket::wire::{
-    ChecksumCapabilities, Icmpv4Repr, IpProtocol, IpRepr, TcpRepr, UdpRepr,
-};
+use smoltcp_proved::sockets::wire::{ChecksumCapabilities, Icmpv4Repr, IpProtocol, IpRepr, TcpRepr, UdpRepr};
 
 /// What a packet carries.
 pub enum Body<'a> {

@@ -6,7 +6,7 @@ use crate::packet::{Body, read};
 use core::fmt::Write;
 use smoltcp_proved::kit::String;
 use smoltcp_proved::kit::alloc::{AllocError, Global};
-use smoltcp_proved::proved::smoltcp_socket::wire::{
+use smoltcp_proved::sockets::wire::{
     ChecksumCapabilities, Icmpv4Repr, IpAddress, IpProtocol, TcpControl, TcpRepr,
 };
 

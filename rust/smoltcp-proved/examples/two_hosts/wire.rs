@@ -5,8 +5,8 @@
 use smoltcp_proved::kit::Vec;
 use smoltcp_proved::kit::alloc::{AllocError, Global};
 use smoltcp_proved::kit::collections::BTreeMap;
-use smoltcp_proved::proved::smoltcp_socket::PollAt;
-use smoltcp_proved::proved::smoltcp_socket::time::Instant;
+use smoltcp_proved::sockets::PollAt;
+use smoltcp_proved::sockets::time::Instant;
 
 // How many milliseconds a packet is on its way at least.
 const SHORTEST: u32 = 10;

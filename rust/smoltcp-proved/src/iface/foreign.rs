@@ -3,14 +3,13 @@
 use super::Interface;
 use super::set::SocketSet;
 use crate::kit::alloc::Global;
-use crate::proved::ip_wire::{IpAddress, Ipv6Address};
+use crate::proved::ip_wire::IpAddress;
 use crate::proved::net_base::Instant;
-use crate::proved::net_host::IpCidr;
-use crate::proved::smoltcp_socket::Socket;
-use alloc::vec::Vec;
+use crate::sockets::Socket;
+use crate::wire::IpCidr;
 
-// How many at a time: those of connections stay, and of the others the oldest makes room.
-const MOST: usize = 16;
+/// How many at a time: those of connections stay, and of the others the oldest makes room.
+pub(crate) const FOREIGN: usize = if cfg!(feature = "alloc") { 16 } else { 4 };
 
 /// Where a packet goes to, by the bytes in which that stands.
 pub(crate) fn destination(packet: &[u8]) -> Option<IpAddress> {
@@ -19,7 +18,7 @@ pub(crate) fn destination(packet: &[u8]) -> Option<IpAddress> {
             [a, b, c, d] => Some(IpAddress::v4(*a, *b, *c, *d)),
             _ => None,
         },
-        [0x60..=0x6f, ..] => Some(Ipv6Address(packet.get(24..40)?.try_into().ok()?).into()),
+        [0x60..=0x6f, ..] => Some(crate::kit::ipv6(packet.get(24..40)?.try_into().ok()?).into()),
         _ => None,
     }
 }
@@ -34,26 +33,28 @@ impl Interface {
         if !one_host || environment.has_ip_addr(&addr) || !router.is_some_and(|router| self.is_own(&router)) {
             return;
         }
-        let mut list = environment.addresses.as_slice().to_vec();
-        let own = list.len() - self.foreign;
-        if self.foreign == MOST {
-            let unused = list[own..].iter().position(|cidr| !is_used(sockets, &cidr.address));
+        if self.foreign.is_full() {
+            let unused = self.foreign.iter().position(|cidr| !is_used(sockets, &cidr.address()));
             let Some(place) = unused else { return };
-            list.remove(own + place);
+            self.foreign.remove(place);
         }
-        list.push(IpCidr::new(addr, 128));
-        self.put_addresses(list, own);
+        let bits = if matches!(addr, IpAddress::Ipv4(_)) { 32 } else { 128 };
+        if self.foreign.push(IpCidr::new(addr, bits)).is_ok() {
+            self.tell_addresses();
+        }
     }
 
     fn is_own(&self, addr: &IpAddress) -> bool {
-        self.ip_addrs().iter().any(|cidr| cidr.address == *addr)
+        self.ip_addrs().iter().any(|cidr| cidr.address() == *addr)
     }
 
-    /// Sets the addresses, of which the first so many are own ones.
-    pub(super) fn put_addresses(&mut self, list: Vec<IpCidr>, own: usize) {
-        self.foreign = list.len() - own;
-        let addresses = crate::kit::Vec::from_slice(Global, &list).expect("memory for the addresses");
-        self.host.inner.environment.addresses = addresses;
+    /// Tells the host below its addresses: the own ones, and behind them the others.
+    pub(super) fn tell_addresses(&mut self) {
+        let mut list = crate::kit::Vec::new(Global);
+        for cidr in self.addresses.iter().chain(&self.foreign) {
+            list.push((*cidr).into()).map_err(|_| ()).expect("memory for the addresses");
+        }
+        self.host.inner.environment.addresses = list;
     }
 }
 

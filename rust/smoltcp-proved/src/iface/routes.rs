@@ -1,9 +1,9 @@
 //! Routes. A medium of IP packets has no neighbours, so they say only which addresses an interface answers for
 //! (`Interface::set_any_ip`).
-use super::{FixedVec, IFACE_MAX_ROUTE_COUNT};
+use super::{Blank, FixedVec, IFACE_MAX_ROUTE_COUNT};
 use crate::proved::ip_wire::{IpAddress, Ipv4Address, Ipv6Address};
 use crate::proved::net_base::Instant;
-use crate::proved::net_host::IpCidr;
+use crate::wire::{IpCidr, Ipv4Cidr, Ipv6Cidr};
 use core::fmt;
 
 /// No room for another route.
@@ -31,8 +31,21 @@ pub struct Route {
     pub expires_at: Option<Instant>,
 }
 
-const ALL_IPV4: IpCidr = IpCidr { address: IpAddress::Ipv4(Ipv4Address::UNSPECIFIED), prefix_len: 0 };
-const ALL_IPV6: IpCidr = IpCidr { address: IpAddress::Ipv6(Ipv6Address::UNSPECIFIED), prefix_len: 0 };
+const ALL_IPV4: IpCidr = IpCidr::Ipv4(Ipv4Cidr::new(Ipv4Address::UNSPECIFIED, 0));
+const ALL_IPV6: IpCidr = IpCidr::Ipv6(Ipv6Cidr::new(Ipv6Address::UNSPECIFIED, 0));
+
+impl Blank for IpCidr {
+    const BLANK: IpCidr = ALL_IPV4;
+}
+
+impl Blank for Route {
+    const BLANK: Route = Route {
+        cidr: ALL_IPV4,
+        via_router: IpAddress::v4(0, 0, 0, 0),
+        preferred_until: None,
+        expires_at: None,
+    };
+}
 
 impl Route {
     fn default_via(cidr: IpCidr, via_router: IpAddress) -> Route {
@@ -96,7 +109,7 @@ impl Routes {
     /// The router to this address: of the longest prefix among the routes that have not ended.
     pub(crate) fn lookup(&self, addr: &IpAddress, now: Instant) -> Option<IpAddress> {
         let lasts = |route: &&Route| route.expires_at.is_none_or(|end| now < end);
-        let ways = self.list.iter().filter(lasts).filter(|route| route.cidr.contains(addr));
-        ways.max_by_key(|route| route.cidr.prefix_len).map(|route| route.via_router)
+        let ways = self.list.iter().filter(lasts).filter(|route| route.cidr.contains_addr(addr));
+        ways.max_by_key(|route| route.cidr.prefix_len()).map(|route| route.via_router)
     }
 }

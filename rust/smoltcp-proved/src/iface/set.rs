@@ -1,9 +1,8 @@
 //! Sockets under handles, by the proved set below.
+use crate::kit::Vec;
 use crate::kit::alloc::Global;
 use crate::proved::net_host;
-use crate::proved::smoltcp_socket::{AnySocket, Socket};
-use crate::proved::sock_tcp::Generator;
-use alloc::vec::Vec;
+use crate::sockets::{AnySocket, Socket};
 use core::fmt;
 use core::marker::PhantomData;
 
@@ -20,8 +19,9 @@ impl SocketStorage<'_> {
 #[derive(Debug, Clone, Copy)]
 pub struct Places(Option<usize>);
 
-impl<'a> From<Vec<SocketStorage<'a>>> for Places {
-    fn from(_: Vec<SocketStorage<'a>>) -> Places {
+#[cfg(feature = "alloc")]
+impl<'a> From<alloc::vec::Vec<SocketStorage<'a>>> for Places {
+    fn from(_: alloc::vec::Vec<SocketStorage<'a>>) -> Places {
         Places(None)
     }
 }
@@ -70,14 +70,19 @@ fn room_for<'a>(capacity: usize) -> net_host::SocketSet<'a> {
 }
 
 impl<'a> SocketSet<'a> {
-    /// A set without sockets. Its memory is of the heap, whatever is lent.
+    /// A set without sockets. Its memory is of the heap, whatever is lent; without the feature `alloc` the set has it
+    /// in itself.
+    ///
+    /// # Panics
+    /// Where more places are lent than there is memory for: without `alloc`, than
+    /// [`IFACE_MAX_SOCKET_COUNT`](crate::config::IFACE_MAX_SOCKET_COUNT).
     pub fn new<P: Into<Places>>(sockets: P) -> SocketSet<'a> {
         let Places(most) = sockets.into();
-        SocketSet { set: room_for(most.unwrap_or(0)), handles: Vec::new(), most, all_lent: false }
+        SocketSet { set: room_for(most.unwrap_or(0)), handles: Vec::new(Global), most, all_lent: false }
     }
 
     /// Adds a socket. Panics where the set has as many as it may.
-    pub fn add<T: AnySocket<'a, Generator>>(&mut self, socket: T) -> SocketHandle {
+    pub fn add<T: AnySocket<'a>>(&mut self, socket: T) -> SocketHandle {
         let mut socket = socket.upcast();
         let below = loop {
             match self.set.add(socket) {
@@ -88,7 +93,7 @@ impl<'a> SocketSet<'a> {
         };
         let place = self.handles.iter().position(Option::is_none).unwrap_or(self.handles.len());
         if place == self.handles.len() {
-            self.handles.push(None);
+            self.handles.push(None).expect("as many handles as sockets");
         }
         self.handles[place] = Some(below);
         SocketHandle(place)
@@ -130,13 +135,13 @@ impl<'a> SocketSet<'a> {
     }
 
     /// The socket of this handle. Panics where the handle names none, or one of another kind.
-    pub fn get<T: AnySocket<'a, Generator>>(&self, handle: SocketHandle) -> &T {
+    pub fn get<T: AnySocket<'a>>(&self, handle: SocketHandle) -> &T {
         let socket = self.set.get(self.below(handle)).expect("each handle has its socket");
         T::downcast(socket).expect("handle refers to a socket of a wrong type")
     }
 
     /// The socket of this handle, for writing. Panics where the handle names none, or one of another kind.
-    pub fn get_mut<T: AnySocket<'a, Generator>>(&mut self, handle: SocketHandle) -> &mut T {
+    pub fn get_mut<T: AnySocket<'a>>(&mut self, handle: SocketHandle) -> &mut T {
         let below = self.below(handle);
         let socket = self.set.get_mut(below).expect("each handle has its socket");
         T::downcast_mut(socket).expect("handle refers to a socket of a wrong type")

@@ -2,6 +2,7 @@
 //! strings that are given an allocator and may be refused memory, ChaCha20, and what a program is handed.
 //!
 //! It is written by hand, and not proved.
+mod addresses;
 pub mod alloc;
 mod bytes;
 mod chacha;
@@ -9,6 +10,8 @@ mod chacha;
 pub mod collections;
 #[cfg(feature = "std")]
 pub mod env;
+#[cfg(not(feature = "alloc"))]
+mod fixed;
 #[cfg(feature = "std")]
 pub mod fs;
 #[cfg(feature = "std")]
@@ -22,18 +25,24 @@ mod string;
 #[cfg(feature = "alloc")]
 mod vec;
 
+pub use addresses::{ipv4, ipv6};
 pub(crate) use bytes::{be16, be32, four_le64, le16, le32, le64};
 pub use chacha::{rand_chacha, rand_core};
+#[cfg(not(feature = "alloc"))]
+pub(crate) use fixed::KNOWN;
+#[cfg(not(feature = "alloc"))]
+pub use fixed::{Kept, Vec};
 #[cfg(feature = "std")]
 pub use runtime::HostRuntime;
 pub use storage::Storage;
 #[cfg(feature = "alloc")]
 pub use string::String;
 #[cfg(feature = "alloc")]
-pub use vec::Vec;
+pub(crate) use vec::KNOWN;
+#[cfg(feature = "alloc")]
+pub use vec::{Kept, Vec};
 
 /// A vector of one item so many times, as `vec![in alloc; 0u8; 10]`: an error where there is no memory for it.
-#[cfg(feature = "alloc")]
 #[doc(hidden)]
 #[macro_export]
 macro_rules! __vec {
@@ -44,7 +53,6 @@ macro_rules! __vec {
         $crate::kit::Vec::from_array($alloc, [$($item),+])
     };
 }
-#[cfg(feature = "alloc")]
 pub use crate::__vec as vec;
 
 /// A text of values, as `format!(in alloc; "{a}")`: an error where there is no memory for it.

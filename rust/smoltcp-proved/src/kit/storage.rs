@@ -58,3 +58,10 @@ impl<T> From<alloc::vec::Vec<T>> for Storage<'_, T> {
         Storage::Owned(items)
     }
 }
+
+#[cfg(feature = "alloc")]
+impl<T, const N: usize> From<[T; N]> for Storage<'_, T> {
+    fn from(items: [T; N]) -> Self {
+        Storage::Owned(items.into())
+    }
+}

@@ -1,6 +1,14 @@
 use crate::kit::alloc::{AllocError, AllocFailed, Global};
 use core::ops::{Deref, DerefMut};
 
+/// Of how many keys an index knows where they stood last.
+pub(crate) const KNOWN: usize = 256;
+
+/// What a vector holds: anything, where there is a heap.
+pub trait Kept: Sized {}
+
+impl<T> Kept for T {}
+
 /// A vector each call of which that needs memory says where there is none, and then changes nothing.
 #[derive(Debug, Clone, PartialEq, Eq, PartialOrd, Ord, Hash)]
 pub struct Vec<T>(alloc::vec::Vec<T>);

@@ -230,7 +230,7 @@ impl RxToken for FaultyRx<'_> {
     }
 }
 
-/// Room for a packet of a [`FaultInjector`].
+/// Room for a packet of a [`FaultInjector`], of at most 1536 bytes.
 #[derive(Debug)]
 pub struct FaultyTx<'a, T> {
     token: T,
@@ -243,8 +243,7 @@ impl<T: TxToken> TxToken for FaultyTx<'_, T> {
         let lost =
             !self.state.borrow_mut().may_pass(self.timestamp, false) || self.state.borrow_mut().loses(len);
         if lost {
-            let mut packet = alloc::vec![0; len];
-            return f(&mut packet);
+            return f(&mut [0; LONGEST][..len]);
         }
         self.token.consume(len, |packet| {
             let result = f(packet);

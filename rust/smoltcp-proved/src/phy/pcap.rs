@@ -16,6 +16,8 @@ pub enum PcapLinkType {
     Ethernet,
     /// An IPv4 or IPv6 header (101).
     Ip,
+    /// A header of IEEE 802.15.4 without its checksum (230).
+    Ieee802154WithoutFcs,
     /// Another number.
     Unknown(u32),
 }
@@ -25,6 +27,7 @@ impl From<PcapLinkType> for u32 {
         match kind {
             PcapLinkType::Ethernet => 1,
             PcapLinkType::Ip => 101,
+            PcapLinkType::Ieee802154WithoutFcs => 230,
             PcapLinkType::Unknown(number) => number,
         }
     }

@@ -1,8 +1,6 @@
-//! Everything that is unsafe: startup, the calls to the host by semihosting, the heap, the panic handler.
+//! Everything that is unsafe: startup, the calls to the host by semihosting, the panic handler.
 
-use core::alloc::{GlobalAlloc, Layout};
 use core::arch::{asm, global_asm};
-use core::cell::UnsafeCell;
 use core::fmt::{self, Write};
 use core::panic::PanicInfo;
 
@@ -136,48 +134,3 @@ impl Write for Console {
         Ok(())
     }
 }
-
-/// Hands out the room between bss and stack; takes back only what was handed out last.
-struct Heap(UnsafeCell<usize>);
-
-// One processor, and no interrupt handler allocates.
-unsafe impl Sync for Heap {}
-
-unsafe extern "C" {
-    static heap_start: u8;
-    static heap_end: u8;
-}
-
-unsafe impl GlobalAlloc for Heap {
-    unsafe fn alloc(&self, layout: Layout) -> *mut u8 {
-        unsafe {
-            let (base, end) = ((&raw const heap_start).cast_mut(), (&raw const heap_end).addr());
-            let start = (base.addr() + *self.0.get()).next_multiple_of(layout.align());
-            match start.checked_add(layout.size()) {
-                Some(next) if next <= end => {
-                    *self.0.get() = next - base.addr();
-                    base.add(start - base.addr())
-                }
-                _ => core::ptr::null_mut(),
-            }
-        }
-    }
-
-    unsafe fn dealloc(&self, place: *mut u8, layout: Layout) {
-        unsafe {
-            let start = place.addr() - (&raw const heap_start).addr();
-            if start + layout.size() == *self.0.get() {
-                *self.0.get() = start;
-            }
-        }
-    }
-}
-
-/// How many bytes of the heap are handed out.
-pub fn taken() -> usize {
-    // SAFETY: nothing else runs, and no reference to the number is kept.
-    unsafe { *HEAP.0.get() }
-}
-
-#[global_allocator]
-static HEAP: Heap = Heap(UnsafeCell::new(0));

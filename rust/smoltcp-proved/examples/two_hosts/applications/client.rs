@@ -9,13 +9,13 @@ use crate::trace::Trace;
 use core::fmt::Write;
 use smoltcp_proved::kit::alloc::{AllocError, Global};
 use smoltcp_proved::kit::{String, Vec};
-use smoltcp_proved::proved::smoltcp_socket::tcp::State;
-use smoltcp_proved::proved::smoltcp_socket::time::Instant;
-use smoltcp_proved::proved::smoltcp_socket::udp::UdpMetadata;
-use smoltcp_proved::proved::smoltcp_socket::wire::{
+use smoltcp_proved::sockets::tcp::State;
+use smoltcp_proved::sockets::time::Instant;
+use smoltcp_proved::sockets::udp::UdpMetadata;
+use smoltcp_proved::sockets::wire::{
     ChecksumCapabilities, Icmpv4Repr, IpAddress, IpEndpoint, IpRepr, Ipv4Repr,
 };
-use smoltcp_proved::proved::smoltcp_socket::{PollAt, Socket, icmp, raw, tcp, udp};
+use smoltcp_proved::sockets::{PollAt, Socket, icmp, raw, tcp, udp};
 
 // The port that it connects from.
 const TCP_PORT: u16 = 49152;

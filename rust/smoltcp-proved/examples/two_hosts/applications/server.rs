@@ -6,8 +6,8 @@ use crate::host::{FullHost, Moment, SOCKETS};
 use crate::trace::Trace;
 use core::fmt::Write;
 use smoltcp_proved::kit::alloc::AllocError;
-use smoltcp_proved::proved::smoltcp_socket::tcp::State;
-use smoltcp_proved::proved::smoltcp_socket::{Socket, raw, tcp, udp};
+use smoltcp_proved::sockets::tcp::State;
+use smoltcp_proved::sockets::{Socket, raw, tcp, udp};
 
 /// Opens the servers' sockets on host b.
 pub fn open(host: &mut FullHost<'_>) {

@@ -4,9 +4,9 @@ use crate::proved::bench_parts::random::Random;
 use crate::proved::bench_parts::wire::Faults;
 use crate::proved::smoltcp_socket::wire::Ipv4Address;
 
-pub const CLIENT: Ipv4Address = Ipv4Address([10, 0, 0, 1]);
+pub const CLIENT: Ipv4Address = crate::kit::ipv4([10, 0, 0, 1]);
 
-pub const SERVER: Ipv4Address = Ipv4Address([10, 0, 0, 2]);
+pub const SERVER: Ipv4Address = crate::kit::ipv4([10, 0, 0, 2]);
 
 // The size of each buffer.
 pub const BUFFER: usize = 4096;

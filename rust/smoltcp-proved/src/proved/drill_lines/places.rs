@@ -72,7 +72,7 @@ fn ipv4(word: &[u8]) -> Option<Ipv4Address> {
     let (a, rest) = split(word, b'.')?;
     let (b, rest) = split(rest, b'.')?;
     let (c, d) = split(rest, b'.')?;
-    Some(Ipv4Address([octet(a)?, octet(b)?, octet(c)?, octet(d)?]))
+    Some(crate::kit::ipv4([octet(a)?, octet(b)?, octet(c)?, octet(d)?]))
 }
 
 fn ipv6(word: &[u8]) -> Option<Ipv6Address> {
@@ -80,7 +80,7 @@ fn ipv6(word: &[u8]) -> Option<Ipv6Address> {
         return None;
     }
     let (first, second) = (four_groups(word, 1)?, four_groups(word, 21)?);
-    Some(Ipv6Address(joined(first, second)))
+    Some(crate::kit::ipv6(joined(first, second)))
 }
 
 fn joined(first: [u8; 8], second: [u8; 8]) -> [u8; 16] {

@@ -37,10 +37,10 @@ impl<W, O> Interface<W, O> {
     /// An interface with this address and the one of IPv6 that ends in it, behind fd00 and zeros. It is at moment 0,
     /// and its MTU is 1500 bytes.
     pub fn new(v4: Ipv4Address, words: W, outbox: O) -> Interface<W, O> {
-        let [a, b, c, d] = v4.0;
+        let [a, b, c, d] = v4.octets();
         Interface {
             v4,
-            v6: Ipv6Address([0xfd, 0, 0, 0, 0, 0, 0, 0, 0, 0, 0, 0, a, b, c, d]),
+            v6: crate::kit::ipv6([0xfd, 0, 0, 0, 0, 0, 0, 0, 0, 0, 0, 0, a, b, c, d]),
             micros: 0,
             mtu: 1500,
             checksums: ChecksumCapabilities::default(),

@@ -18,8 +18,8 @@ pub(crate) fn mixed(words: &mut ChaCha20Rng, a: u64, b: u64) -> u64 {
 // An address as a number; one of IPv4 as if it were mapped (RFC 4291, section 2.5.5.2).
 fn number_of(addr: &IpAddress) -> u128 {
     match addr {
-        IpAddress::Ipv4(addr) => u128::from(u32::from_be_bytes(addr.0)) + 0xffff_0000_0000,
-        IpAddress::Ipv6(addr) => u128::from_be_bytes(addr.0),
+        IpAddress::Ipv4(addr) => u128::from(u32::from_be_bytes(addr.octets())) + 0xffff_0000_0000,
+        IpAddress::Ipv6(addr) => u128::from_be_bytes(addr.octets()),
     }
 }
 

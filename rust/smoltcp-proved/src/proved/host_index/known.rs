@@ -6,7 +6,7 @@ use crate::kit::{Vec, vec};
 use crate::proved::host_index::entry::Entry;
 
 // How many keys are known at once.
-const COUNT: usize = 256;
+const COUNT: usize = crate::kit::KNOWN;
 
 // What stands for no place: no place is so far on.
 const NO_PLACE: u32 = u32::MAX;

@@ -64,14 +64,14 @@ fn address(f: &mut fmt::Formatter<'_>, addr: &IpAddress) -> fmt::Result {
 }
 
 fn ipv4(f: &mut fmt::Formatter<'_>, addr: &Ipv4Address) -> fmt::Result {
-    let [a, b, c, d] = addr.0;
+    let [a, b, c, d] = addr.octets();
     write!(f, "{a}.{b}.{c}.{d}")
 }
 
 fn ipv6(f: &mut fmt::Formatter<'_>, addr: &Ipv6Address) -> fmt::Result {
-    four_groups(f, &addr.0, 0)?;
+    four_groups(f, &addr.octets(), 0)?;
     f.write_str(":")?;
-    four_groups(f, &addr.0, 8)
+    four_groups(f, &addr.octets(), 8)
 }
 
 // Four groups of two octets each.

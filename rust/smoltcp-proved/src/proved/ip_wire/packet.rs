@@ -13,7 +13,7 @@ fn emit_ipv6(repr: &Ipv6Repr, buffer: &mut [u8]) {
     let [high, low] = be16(repr.payload_len);
     let protocol = u8::from(repr.next_header);
     let head = [0x60, 0, 0, 0, high, low, protocol, repr.hop_limit];
-    put_three(buffer, &head, &repr.src_addr.0, &repr.dst_addr.0);
+    put_three(buffer, &head, &repr.src_addr.octets(), &repr.dst_addr.octets());
 }
 
 fn emit_ipv4(repr: &Ipv4Repr, buffer: &mut [u8], sent: bool) {
@@ -39,7 +39,7 @@ fn write_ipv4(repr: &Ipv4Repr, protocol: u8, checksum: u16, buffer: &mut [u8]) {
     let [first, second] = be16(checksum as usize);
     let hops = repr.hop_limit;
     let head = [0x45, 0, high, low, 0, 0, 0x40, 0, hops, protocol, first, second];
-    let (src, dst) = (repr.src_addr.0, repr.dst_addr.0);
+    let (src, dst) = (repr.src_addr.octets(), repr.dst_addr.octets());
     put_three(buffer, &head, &src, &dst);
 }
 
@@ -150,8 +150,8 @@ impl Ipv4Repr {
     /// The addresses, the protocol and the hop limit that stand in an IPv4 header, with this payload length.
     pub fn of_fields(bytes: &[u8], payload_len: usize) -> Ipv4Repr {
         Ipv4Repr {
-            src_addr: Ipv4Address(four_at(bytes, 12)),
-            dst_addr: Ipv4Address(four_at(bytes, 16)),
+            src_addr: crate::kit::ipv4(four_at(bytes, 12)),
+            dst_addr: crate::kit::ipv4(four_at(bytes, 16)),
             next_header: IpProtocol::from(bytes[9]),
             payload_len,
             hop_limit: bytes[8],
@@ -180,8 +180,8 @@ impl Ipv6Repr {
     /// The addresses, the protocol and the hop limit that stand in an IPv6 header, with this payload length.
     pub fn of_fields(bytes: &[u8], payload_len: usize) -> Ipv6Repr {
         Ipv6Repr {
-            src_addr: Ipv6Address(sixteen_at(bytes, 8)),
-            dst_addr: Ipv6Address(sixteen_at(bytes, 24)),
+            src_addr: crate::kit::ipv6(sixteen_at(bytes, 8)),
+            dst_addr: crate::kit::ipv6(sixteen_at(bytes, 24)),
             next_header: IpProtocol::from(bytes[6]),
             payload_len,
             hop_limit: bytes[7],

@@ -165,7 +165,7 @@ pub fn word_of(total: u64) -> u16 {
 
 /// The sum of two IPv4 addresses and of words that were added up before.
 pub fn sum_with_addresses(total: u64, src: &Ipv4Address, dst: &Ipv4Address) -> u16 {
-    swapped_word(halved(total), swapped_octets(&src.0) + swapped_octets(&dst.0))
+    swapped_word(halved(total), swapped_octets(&src.octets()) + swapped_octets(&dst.octets()))
 }
 
 /// The octets of an IPv4 address as a number, the lowest first: what they add to a sum of such numbers.
@@ -176,8 +176,8 @@ pub fn swapped_octets(octets: &[u8; 4]) -> u64 {
 // The sum of an address as numbers of four bytes, not folded.
 fn address_sum(address: &IpAddress) -> u64 {
     match address {
-        IpAddress::Ipv4(address) => four_octets(&address.0),
-        IpAddress::Ipv6(address) => sixteen_octets(&address.0),
+        IpAddress::Ipv4(address) => four_octets(&address.octets()),
+        IpAddress::Ipv6(address) => sixteen_octets(&address.octets()),
     }
 }
 

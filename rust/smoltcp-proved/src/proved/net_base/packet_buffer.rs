@@ -29,10 +29,10 @@ pub struct Empty;
 /// A queue of packets, each a header and its bytes.
 #[derive(Debug)]
 pub struct PacketBuffer<'a, H> {
-    payload: crate::kit::Storage<'a, u8>,
-    metadata: RingBuffer<'a, PacketMetadata<H>>,
-    start: usize,
-    length: usize,
+    pub(crate) payload: crate::kit::Storage<'a, u8>,
+    pub(crate) metadata: RingBuffer<'a, PacketMetadata<H>>,
+    pub(crate) start: usize,
+    pub(crate) length: usize,
 }
 
 impl<'a, H> PacketBuffer<'a, H> {
@@ -114,7 +114,7 @@ impl<'a, H: Copy> PacketBuffer<'a, H> {
     fn append(&mut self, size: usize, header: Option<H>) -> usize {
         let from = place(self.payload.len(), self.start, self.length);
         self.length += size;
-        self.metadata.enqueue_one(PacketMetadata { size, header });
+        self.metadata.enqueue_item(PacketMetadata { size, header });
         from
     }
 
@@ -178,7 +178,7 @@ impl<'a, H: Copy> PacketBuffer<'a, H> {
         let from = place(self.payload.len(), self.start, self.length);
         let kept = lend_bytes(&mut self.payload, from, size, f);
         self.length += kept;
-        self.metadata.enqueue_one(PacketMetadata { size: kept, header });
+        self.metadata.enqueue_item(PacketMetadata { size: kept, header });
         kept
     }
 
@@ -255,7 +255,7 @@ impl<'a, H: Copy> PacketBuffer<'a, H> {
     }
 
     /// Takes the first packet, and lends its bytes. `Empty` where there is none.
-    pub fn dequeue(&mut self) -> Result<(H, &[u8]), Empty> {
+    pub fn dequeue_packet(&mut self) -> Result<(H, &[u8]), Empty> {
         let taken = self.take_first();
         self.lent(taken)
     }
@@ -286,7 +286,7 @@ impl<'a, H: Copy> PacketBuffer<'a, H> {
     /// leaves; where it answers `Err`, it stays first, with its bytes as `f` left them. `f`'s answer is passed on.
     ///
     /// `Empty` where there is no packet.
-    pub fn dequeue_with<R, E, F: FnOnce(&H, &mut [u8]) -> Result<R, E>>(
+    pub fn dequeue_packet_with<R, E, F: FnOnce(&H, &mut [u8]) -> Result<R, E>>(
         &mut self,
         f: F,
     ) -> Result<Result<R, E>, Empty> {

@@ -7,9 +7,9 @@
 /// what is there: it ends where the queue or the spare places do, or at the slice's end.
 #[derive(Debug)]
 pub struct RingBuffer<'a, T> {
-    storage: crate::kit::Storage<'a, T>,
-    read_at: usize,
-    length: usize,
+    pub(crate) storage: crate::kit::Storage<'a, T>,
+    pub(crate) read_at: usize,
+    pub(crate) length: usize,
 }
 
 impl<'a, T: Copy> RingBuffer<'a, T> {
@@ -75,7 +75,7 @@ impl<'a, T: Copy> RingBuffer<'a, T> {
     /// Lends `f` the spare places behind the queue, up to the slice's end. `f` answers how many items it wrote at their
     /// beginning, and these join the queue; its answer is passed on. An empty queue begins anew at the slice's first
     /// place.
-    pub fn enqueue_many_with<R, F: FnOnce(&mut [T]) -> (usize, R)>(&mut self, f: F) -> (usize, R) {
+    pub fn enqueue_lent<R, F: FnOnce(&mut [T]) -> (usize, R)>(&mut self, f: F) -> (usize, R) {
         self.restart_if_empty();
         let from = place(self.storage.len(), self.read_at, self.length);
         let count = (self.storage.len() - self.length).min(self.storage.len() - from);
@@ -94,7 +94,7 @@ impl<'a, T: Copy> RingBuffer<'a, T> {
 
     /// Lends `f` the queue, up to the slice's end. `f` answers how many of these items to remove, from the first on;
     /// its answer is passed on.
-    pub fn dequeue_many_with<R, F: FnOnce(&[T]) -> (usize, R)>(&mut self, f: F) -> (usize, R) {
+    pub fn dequeue_shown<R, F: FnOnce(&[T]) -> (usize, R)>(&mut self, f: F) -> (usize, R) {
         let len = self.length;
         let lent = self.get_allocated(0, len);
         let (size, outcome) = show(lent, f);
@@ -149,7 +149,7 @@ impl<'a, T: Copy> RingBuffer<'a, T> {
     }
 
     // Appends one item.
-    pub(crate) fn enqueue_one(&mut self, item: T) {
+    pub(crate) fn enqueue_item(&mut self, item: T) {
         let at = place(self.storage.len(), self.read_at, self.length);
         self.storage[at] = item;
         self.length += 1;

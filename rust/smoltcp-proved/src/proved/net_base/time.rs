@@ -15,18 +15,18 @@ impl Instant {
     pub const ZERO: Instant = Instant { micros: 0 };
 
     /// The moment so many microseconds after the start.
-    pub const fn from_micros(micros: i64) -> Instant {
-        Instant { micros }
+    pub fn from_micros(micros: impl Into<i64>) -> Instant {
+        Instant { micros: micros.into() }
     }
 
     /// The moment so many milliseconds after the start, where it fits 64 bits in microseconds.
-    pub const fn from_millis(millis: i64) -> Instant {
-        Instant::from_micros(millis * 1000)
+    pub fn from_millis(millis: impl Into<i64>) -> Instant {
+        Instant::from_micros(millis.into() * 1000)
     }
 
     /// The moment so many seconds after the start, where it fits 64 bits in microseconds.
-    pub const fn from_secs(secs: i64) -> Instant {
-        Instant::from_micros(secs * 1_000_000)
+    pub fn from_secs(secs: impl Into<i64>) -> Instant {
+        Instant::from_micros(secs.into() * 1_000_000)
     }
 
     /// The whole milliseconds after the start; what is left over is cut off, towards the start.

@@ -4,9 +4,9 @@
 use crate::kit::Vec;
 use crate::proved::net_host::replies::put_reply;
 use crate::proved::net_host::slot::Slot;
-use crate::proved::smoltcp_socket::wire::{IpRepr, TcpRepr};
-use crate::proved::smoltcp_socket::{Context, Socket, tcp};
-use crate::proved::sock_tcp::{Answer, TsvalSource};
+use crate::sockets::sock_tcp::{Answer, TsvalSource};
+use crate::sockets::wire::{IpRepr, TcpRepr};
+use crate::sockets::{Context, Socket, tcp};
 
 // The answer to a segment that the socket took: the length of its packet, at the beginning of `out`.
 // Not inlined, as most segments are answered by nothing, and the space for a reply is cleared where it is made.

@@ -3,8 +3,8 @@
 
 use crate::proved::host_groups::Groups;
 use crate::proved::net_host::counters::Reason;
-use crate::proved::smoltcp_socket::Context;
-use crate::proved::smoltcp_socket::wire::{IpAddress, IpProtocol, IpRepr, Ipv4Address, Ipv6Address};
+use crate::sockets::Context;
+use crate::sockets::wire::{IpAddress, IpProtocol, IpRepr, Ipv4Address, Ipv6Address};
 
 /// Why the packet is dropped, if it is: its source is one that no single other host has, so that an answer would go to
 /// many, to nobody, or come back (RFC 1122, section 3.2.1.3); or its destination is neither
@@ -44,11 +44,13 @@ fn is_reserved(addr: &IpAddress) -> bool {
 }
 
 fn is_reserved_v4(addr: &Ipv4Address) -> bool {
-    addr.0[0] == 0 || addr.0[0] == 127 || 240 <= addr.0[0]
+    addr.octets()[0] == 0 || addr.octets()[0] == 127 || 240 <= addr.octets()[0]
 }
 
 fn is_reserved_v6(addr: &Ipv6Address) -> bool {
-    all_zero(&addr.0[..10]) && (addr.0[10] == 0 && addr.0[11] == 0 || addr.0[10] == 255 && addr.0[11] == 255)
+    all_zero(&addr.octets()[..10])
+        && (addr.octets()[10] == 0 && addr.octets()[11] == 0
+            || addr.octets()[10] == 255 && addr.octets()[11] == 255)
 }
 
 fn all_zero(octets: &[u8]) -> bool {

@@ -1,7 +1,7 @@
 // Made from crates/net_host/src/cidr.rt by rust/translate: change it there.
 //! An address of an interface, with the length of its prefix.
 
-use crate::proved::smoltcp_socket::wire::{IpAddress, Ipv4Address, Ipv6Address};
+use crate::sockets::wire::{IpAddress, Ipv4Address, Ipv6Address};
 
 /// An address, and how many of its first bits are those of its network: at most 32 of IPv4, and 128 of IPv6; more count
 /// as so many.
@@ -40,19 +40,19 @@ impl IpCidr {
 /// Whether the address is 255.255.255.255, every host on the link (RFC 919).
 pub fn is_limited_broadcast(address: &IpAddress) -> bool {
     match address {
-        IpAddress::Ipv4(address) => u32::from_be_bytes(address.0) == u32::MAX,
+        IpAddress::Ipv4(address) => u32::from_be_bytes(address.octets()) == u32::MAX,
         IpAddress::Ipv6(_) => false,
     }
 }
 
 fn agree_v4(prefix_len: u8, a: &Ipv4Address, b: &Ipv4Address) -> bool {
     let size = 1u64 << 32u8.saturating_sub(prefix_len);
-    u64::from(u32::from_be_bytes(a.0)) / size == u64::from(u32::from_be_bytes(b.0)) / size
+    u64::from(u32::from_be_bytes(a.octets())) / size == u64::from(u32::from_be_bytes(b.octets())) / size
 }
 
 fn is_edge(prefix_len: u8, a: &Ipv4Address) -> bool {
     let size = 1u64 << 32u8.saturating_sub(prefix_len);
-    let rest = u64::from(u32::from_be_bytes(a.0)) % size;
+    let rest = u64::from(u32::from_be_bytes(a.octets())) % size;
     rest == 0 || rest == size - 1
 }
 
@@ -63,7 +63,7 @@ fn agree_v6(prefix_len: u8, a: &Ipv6Address, b: &Ipv6Address) -> bool {
 }
 
 fn number_v6(a: &Ipv6Address) -> u128 {
-    u128::from_be_bytes(a.0)
+    u128::from_be_bytes(a.octets())
 }
 
 fn agree_wide(prefix_len: u8, a: u128, b: u128) -> bool {

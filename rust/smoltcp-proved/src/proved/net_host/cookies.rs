@@ -7,12 +7,12 @@ use crate::proved::host_cookies::{Call, SynCookies, class_of, mss_of};
 use crate::proved::net_host::rest::opens;
 use crate::proved::net_host::segments::Taker;
 use crate::proved::net_host::slot::Slot;
-use crate::proved::smoltcp_socket::time::Instant;
-use crate::proved::smoltcp_socket::wire::{
+use crate::sockets::sock_tcp::Reply;
+use crate::sockets::time::Instant;
+use crate::sockets::wire::{
     ChecksumCapabilities, IpAddress, IpProtocol, IpRepr, Ipv4Address, Ipv6Address, TcpControl, TcpRepr,
 };
-use crate::proved::smoltcp_socket::{Context, Socket};
-use crate::proved::sock_tcp::Reply;
+use crate::sockets::{Context, Socket};
 
 /// What becomes of a segment where SYNs may be answered without a socket.
 #[derive(Debug, Clone, Copy, PartialEq, Eq)]

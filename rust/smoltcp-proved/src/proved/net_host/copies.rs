@@ -6,9 +6,9 @@ use crate::proved::net_host::filing::{raw_key, udp_key};
 use crate::proved::net_host::messages::{Mail, copy_to};
 use crate::proved::net_host::raw_copies::copy_packet_to;
 use crate::proved::net_host::set::SocketSet;
-use crate::proved::smoltcp_socket::Context;
-use crate::proved::smoltcp_socket::wire::{IpRepr, UdpRepr};
-use crate::proved::sock_tcp::TsvalSource;
+use crate::sockets::Context;
+use crate::sockets::sock_tcp::TsvalSource;
+use crate::sockets::wire::{IpRepr, UdpRepr};
 
 // Whether no socket is a raw one, by one look at the index. Where the answer is no, it says nothing.
 fn has_no_raw<G: TsvalSource>(sockets: &SocketSet<'_, G>) -> bool {

@@ -5,9 +5,9 @@ use crate::kit::Vec;
 use crate::proved::host_index::{Entry, Index};
 use crate::proved::net_host::find::{Side, stands};
 use crate::proved::net_host::slot::Slot;
-use crate::proved::smoltcp_socket::wire::{IpRepr, UdpRepr};
-use crate::proved::smoltcp_socket::{Context, Socket};
-use crate::proved::sock_tcp::TsvalSource;
+use crate::sockets::sock_tcp::TsvalSource;
+use crate::sockets::wire::{IpRepr, UdpRepr};
+use crate::sockets::{Context, Socket};
 
 impl<'a, G: TsvalSource> Slot<'a, G> {
     fn takes_datagram<C: Context>(&self, cx: &C, ip: &IpRepr, repr: &UdpRepr) -> bool {

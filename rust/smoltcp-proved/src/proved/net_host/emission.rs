@@ -3,9 +3,9 @@
 
 use crate::proved::net_host::environment::Environment;
 use crate::proved::net_host::wire::{Sent, TooShort, Wire};
-use crate::proved::smoltcp_socket::wire::{IcmpRepr, IpAddress, IpRepr, TcpRepr, UdpRepr};
-use crate::proved::smoltcp_socket::{icmp, raw, tcp, udp};
-use crate::proved::sock_tcp::TsvalSource;
+use crate::sockets::sock_tcp::TsvalSource;
+use crate::sockets::wire::{IcmpRepr, IpAddress, IpRepr, TcpRepr, UdpRepr};
+use crate::sockets::{icmp, raw, tcp, udp};
 
 // Lets the socket emit.
 fn emit_segment<G: TsvalSource>(

@@ -4,8 +4,8 @@
 use crate::kit::Vec;
 use crate::proved::ip_wire::octets::be32_at;
 use crate::proved::net_host::cidr::{IpCidr, is_limited_broadcast};
-use crate::proved::smoltcp_socket::time::Instant;
-use crate::proved::smoltcp_socket::wire::{ChecksumCapabilities, IpAddress};
+use crate::sockets::time::Instant;
+use crate::sockets::wire::{ChecksumCapabilities, IpAddress};
 
 /// The addresses of an interface, its MTU, the checksums that are computed here, and the moment.
 pub struct Environment {
@@ -96,7 +96,7 @@ fn has_directed(addresses: &[IpCidr], addr: &IpAddress) -> bool {
 #[inline(always)]
 fn is_same_address(a: &IpAddress, b: &IpAddress) -> bool {
     match (a, b) {
-        (IpAddress::Ipv4(a), IpAddress::Ipv4(b)) => are_same_octets(&a.0, &b.0),
+        (IpAddress::Ipv4(a), IpAddress::Ipv4(b)) => are_same_octets(&a.octets(), &b.octets()),
         (IpAddress::Ipv6(a), IpAddress::Ipv6(b)) => *a == *b,
         _ => false,
     }

@@ -11,7 +11,7 @@ use crate::proved::net_host::refiling::refile;
 use crate::proved::net_host::terms::Terms;
 
 /// What has keys.
-pub trait Keyed {
+pub trait Keyed: crate::kit::Kept {
     /// Under which keys it is filed.
     fn keys(&self) -> Keys;
 

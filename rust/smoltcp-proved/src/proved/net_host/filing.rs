@@ -5,17 +5,17 @@ use crate::proved::host_index::{Entry, Index, Which};
 use crate::proved::net_host::filed::Keyed;
 use crate::proved::net_host::key::{Key, Keys};
 use crate::proved::net_host::slot::Slot;
-use crate::proved::smoltcp_socket::tcp::State;
-use crate::proved::smoltcp_socket::time::Instant;
-use crate::proved::smoltcp_socket::wire::IpAddress;
-use crate::proved::smoltcp_socket::{Socket, tcp};
-use crate::proved::sock_tcp::tuple::Tuple;
+use crate::sockets::sock_tcp::tuple::Tuple;
+use crate::sockets::tcp::State;
+use crate::sockets::time::Instant;
+use crate::sockets::wire::IpAddress;
+use crate::sockets::{Socket, tcp};
 
 // An address as a number.
 pub(crate) fn number_of(addr: &IpAddress) -> u128 {
     match addr {
-        IpAddress::Ipv4(addr) => u128::from(u32::from_be_bytes(addr.0)) + 0xffff_0000_0000,
-        IpAddress::Ipv6(addr) => u128::from_be_bytes(addr.0),
+        IpAddress::Ipv4(addr) => u128::from(u32::from_be_bytes(addr.octets())) + 0xffff_0000_0000,
+        IpAddress::Ipv6(addr) => u128::from_be_bytes(addr.octets()),
     }
 }
 

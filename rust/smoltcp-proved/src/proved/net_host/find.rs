@@ -4,10 +4,10 @@
 use crate::proved::host_index::{Entry, Index};
 use crate::proved::net_host::filing::{order, rest_major};
 use crate::proved::net_host::slot::Slot;
-use crate::proved::smoltcp_socket::Context;
-use crate::proved::smoltcp_socket::time::Instant;
-use crate::proved::smoltcp_socket::wire::{IpRepr, TcpRepr};
-use crate::proved::sock_tcp::TsvalSource;
+use crate::sockets::Context;
+use crate::sockets::sock_tcp::TsvalSource;
+use crate::sockets::time::Instant;
+use crate::sockets::wire::{IpRepr, TcpRepr};
 
 /// What is looked for, for a segment.
 #[derive(Debug, Clone, Copy, PartialEq, Eq)]

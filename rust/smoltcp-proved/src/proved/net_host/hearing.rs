@@ -11,9 +11,9 @@ use crate::proved::net_host::segments::{Taker, hear_anew_at, hear_at, take_segme
 use crate::proved::net_host::set::SocketSet;
 use crate::proved::net_host::slot::Slot;
 use crate::proved::net_host::unsent::pass_at;
-use crate::proved::smoltcp_socket::Context;
-use crate::proved::smoltcp_socket::wire::{IpRepr, TcpRepr};
-use crate::proved::sock_tcp::{Reply, TsvalSource};
+use crate::sockets::Context;
+use crate::sockets::sock_tcp::{Reply, TsvalSource};
+use crate::sockets::wire::{IpRepr, TcpRepr};
 
 /// Who takes a segment, and what becomes of it.
 #[derive(Debug, Clone, Copy, PartialEq, Eq)]

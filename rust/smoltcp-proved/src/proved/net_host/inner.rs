@@ -3,9 +3,9 @@
 
 use crate::proved::host_context::Words;
 use crate::proved::net_host::environment::Environment;
-use crate::proved::smoltcp_socket::Context;
-use crate::proved::smoltcp_socket::time::Instant;
-use crate::proved::smoltcp_socket::wire::{ChecksumCapabilities, IpAddress, Ipv4Address, Ipv6Address};
+use crate::sockets::Context;
+use crate::sockets::time::Instant;
+use crate::sockets::wire::{ChecksumCapabilities, IpAddress, Ipv4Address, Ipv6Address};
 
 /// What an interface answers its sockets, in their calls: it is their context. As smoltcp's.
 pub struct InterfaceInner<W> {

@@ -17,10 +17,10 @@ use crate::proved::net_host::replies::LONGEST_REPLY;
 use crate::proved::net_host::set::SocketSet;
 use crate::proved::net_host::speak::speak;
 use crate::proved::net_host::wire::TooShort;
-use crate::proved::smoltcp_socket::PollAt;
-use crate::proved::smoltcp_socket::time::Instant;
-use crate::proved::smoltcp_socket::wire::{ChecksumCapabilities, IpAddress};
-use crate::proved::sock_tcp::TsvalSource;
+use crate::sockets::PollAt;
+use crate::sockets::sock_tcp::TsvalSource;
+use crate::sockets::time::Instant;
+use crate::sockets::wire::{ChecksumCapabilities, IpAddress};
 
 /// An interface with one or several addresses, on which packets arrive and go out. As smoltcp's.
 ///

@@ -3,8 +3,8 @@
 
 use crate::proved::net_host::filed::Filed;
 use crate::proved::net_host::slot::{Slot, SocketHandle};
-use crate::proved::smoltcp_socket::Socket;
-use crate::proved::sock_tcp::{Generator, TsvalSource};
+use crate::sockets::Socket;
+use crate::sockets::sock_tcp::{Generator, TsvalSource};
 
 /// The sockets of a set with their handles, in the order of handles.
 pub struct Iter<'s, 'a, G = Generator> {

@@ -9,9 +9,9 @@ use crate::proved::net_host::set::SocketSet;
 use crate::proved::net_host::sight::Sight;
 use crate::proved::net_host::slot::Slot;
 use crate::proved::net_host::wire::{Sent, TooShort};
-use crate::proved::smoltcp_socket::time::Instant;
-use crate::proved::smoltcp_socket::wire::IpAddress;
-use crate::proved::sock_tcp::TsvalSource;
+use crate::sockets::sock_tcp::TsvalSource;
+use crate::sockets::time::Instant;
+use crate::sockets::wire::IpAddress;
 
 fn sight_at<G: TsvalSource>(slots: &[Slot<'_, G>], i: usize, limits: &Limits, now: Instant) -> Sight {
     slots[i].sight(limits, now)

@@ -1,7 +1,7 @@
 // Made from crates/net_host/src/limit.rt by rust/translate: change it there.
 //! A limit on how many answers go out in a second.
 
-use crate::proved::smoltcp_socket::time::Instant;
+use crate::sockets::time::Instant;
 
 /// How many answers of one kind there are in a second, at most: 50 at once, and 50 a second.
 pub const ANSWERS_A_SECOND: u32 = 100;

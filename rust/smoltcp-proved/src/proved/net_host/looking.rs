@@ -6,9 +6,9 @@ use crate::proved::net_host::limits::Limits;
 use crate::proved::net_host::set::SocketSet;
 use crate::proved::net_host::slot::Slot;
 use crate::proved::net_host::turn::is_reached;
-use crate::proved::smoltcp_socket::time::Instant;
-use crate::proved::smoltcp_socket::{Context, PollAt};
-use crate::proved::sock_tcp::TsvalSource;
+use crate::sockets::sock_tcp::TsvalSource;
+use crate::sockets::time::Instant;
+use crate::sockets::{Context, PollAt};
 
 /// A moment before which a socket need not be asked that asks for this one.
 pub(crate) fn bound_of(poll: PollAt) -> i64 {

@@ -6,11 +6,11 @@ use crate::proved::host_index::Index;
 use crate::proved::net_host::filing::icmp_key;
 use crate::proved::net_host::find::next_under;
 use crate::proved::net_host::slot::Slot;
-use crate::proved::smoltcp_socket::wire::{
+use crate::sockets::sock_tcp::TsvalSource;
+use crate::sockets::wire::{
     ChecksumCapabilities, IcmpRepr, Icmpv4Repr, Icmpv6Repr, IpProtocol, IpRepr, Ipv4Repr, Ipv6Repr,
 };
-use crate::proved::smoltcp_socket::{Context, Socket, icmp};
-use crate::proved::sock_tcp::TsvalSource;
+use crate::sockets::{Context, Socket, icmp};
 
 /// A message with the header of its packet.
 #[derive(Clone, Copy)]

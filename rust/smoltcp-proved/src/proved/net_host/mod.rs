@@ -1,9 +1,11 @@
 // Made from crates/net_host/src/lib.rt by rust/translate: change it there.
 //! A host of many sockets: who gets a packet, who speaks next, and when to look again.
 
+pub mod addresses;
 pub mod aims;
 pub mod answered;
 pub mod arrival;
+pub mod binding;
 pub mod cidr;
 pub mod cookies;
 pub mod copies;
@@ -26,9 +28,11 @@ pub mod limit;
 pub mod limits;
 pub mod looking;
 pub mod messages;
+pub mod opening;
 pub mod passing;
 pub mod poll;
 pub mod polling;
+pub mod ports;
 pub mod raw_copies;
 pub mod receive;
 pub mod refiling;
@@ -55,6 +59,7 @@ pub use device::Device;
 pub use guard::GuardSettings;
 pub use interface::Interface;
 pub use iter::Iter;
+pub use opening::OpenError;
 pub use poll::POLL_BURST;
 pub use secret::Secret;
 pub use set::SocketSet;

@@ -2,7 +2,7 @@
 //! A packet behind its extension headers.
 
 use crate::proved::ip_extensions::{Behind, behind_headers};
-use crate::proved::smoltcp_socket::wire::{IpProtocol, IpRepr, Ipv6Repr};
+use crate::sockets::wire::{IpProtocol, IpRepr, Ipv6Repr};
 
 /// The packet without the extension headers of IPv6; none where it is a fragment, a routing header names further
 /// nodes, or a header is malformed (RFC 8200, section 4).

@@ -7,9 +7,9 @@ use crate::proved::net_host::interface::Interface;
 use crate::proved::net_host::replies::LONGEST_REPLY;
 use crate::proved::net_host::set::SocketSet;
 use crate::proved::net_host::wire::TooShort;
-use crate::proved::smoltcp_socket::time::Instant;
-use crate::proved::smoltcp_socket::wire::IpAddress;
-use crate::proved::sock_tcp::TsvalSource;
+use crate::sockets::sock_tcp::TsvalSource;
+use crate::sockets::time::Instant;
+use crate::sockets::wire::IpAddress;
 
 /// How many packets a `poll` takes at most, and how many turns it gives at most.
 pub const POLL_BURST: usize = 64;

@@ -3,9 +3,9 @@
 
 use crate::proved::net_host::set::SocketSet;
 use crate::proved::net_host::slot::Slot;
-use crate::proved::smoltcp_socket::time::Instant;
-use crate::proved::smoltcp_socket::{Context, PollAt};
-use crate::proved::sock_tcp::TsvalSource;
+use crate::sockets::sock_tcp::TsvalSource;
+use crate::sockets::time::Instant;
+use crate::sockets::{Context, PollAt};
 
 /// When the first of the sockets wants to speak.
 pub(crate) fn earliest<C: Context, G: TsvalSource>(sockets: &SocketSet<'_, G>, cx: &C) -> PollAt {

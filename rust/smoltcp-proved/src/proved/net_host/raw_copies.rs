@@ -6,9 +6,9 @@ use crate::proved::host_index::Index;
 use crate::proved::net_host::filing::raw_key;
 use crate::proved::net_host::find::next_under;
 use crate::proved::net_host::slot::Slot;
-use crate::proved::smoltcp_socket::wire::IpRepr;
-use crate::proved::smoltcp_socket::{Context, Socket, raw};
-use crate::proved::sock_tcp::TsvalSource;
+use crate::sockets::sock_tcp::TsvalSource;
+use crate::sockets::wire::IpRepr;
+use crate::sockets::{Context, Socket, raw};
 
 impl<'a, G: TsvalSource> Slot<'a, G> {
     fn copy_packet<C: Context>(&mut self, cx: &C, ip: &IpRepr, payload: &[u8]) {

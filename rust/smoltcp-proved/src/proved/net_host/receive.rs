@@ -15,11 +15,11 @@ use crate::proved::net_host::set::SocketSet;
 use crate::proved::net_host::unreachable::{Unmet, tell_sender};
 use crate::proved::segment_wire::packet::carried;
 use crate::proved::segment_wire::{tcp, udp};
-use crate::proved::smoltcp_socket::Context;
-use crate::proved::smoltcp_socket::wire::{
+use crate::sockets::Context;
+use crate::sockets::sock_tcp::TsvalSource;
+use crate::sockets::wire::{
     ChecksumCapabilities, IpAddress, IpRepr, TcpControl, TcpRepr, TcpSeqNumber, UdpRepr,
 };
-use crate::proved::sock_tcp::TsvalSource;
 
 impl<W: Words> Interface<W> {
     // The first row that fits. A packet of IPv4, which has no extension headers, goes on from here, so that the

@@ -2,8 +2,8 @@
 //! Replies as packets in a buffer.
 
 use crate::proved::segment_wire::packet::{emit_tcp_with, emit_udp};
-use crate::proved::smoltcp_socket::wire::{ChecksumCapabilities, IpRepr, TcpRepr, UdpRepr};
-use crate::proved::sock_tcp::Reply;
+use crate::sockets::sock_tcp::Reply;
+use crate::sockets::wire::{ChecksumCapabilities, IpRepr, TcpRepr, UdpRepr};
 
 /// An IPv6 header and the longest TCP header, in bytes: no reply of a TCP socket is longer.
 pub(crate) const LONGEST_REPLY: usize = 100;

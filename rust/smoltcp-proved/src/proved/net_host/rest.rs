@@ -6,11 +6,11 @@ use crate::proved::net_host::filing::server_key;
 use crate::proved::net_host::find::{Sought, earliest_in, first_in};
 use crate::proved::net_host::set::SocketSet;
 use crate::proved::net_host::slot::Slot;
-use crate::proved::smoltcp_socket::tcp::State;
-use crate::proved::smoltcp_socket::time::Instant;
-use crate::proved::smoltcp_socket::wire::{IpListenEndpoint, IpRepr, TcpControl, TcpRepr};
-use crate::proved::smoltcp_socket::{Context, Socket, tcp};
-use crate::proved::sock_tcp::TsvalSource;
+use crate::sockets::sock_tcp::TsvalSource;
+use crate::sockets::tcp::State;
+use crate::sockets::time::Instant;
+use crate::sockets::wire::{IpListenEndpoint, IpRepr, TcpControl, TcpRepr};
+use crate::sockets::{Context, Socket, tcp};
 
 /// Whether the segment is a SYN without an ACK.
 pub(crate) fn opens(repr: &TcpRepr<'_>) -> bool {

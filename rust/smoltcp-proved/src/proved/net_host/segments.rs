@@ -8,10 +8,10 @@ use crate::proved::net_host::limit::Limit;
 use crate::proved::net_host::rest::{any_server, oldest, opens};
 use crate::proved::net_host::set::SocketSet;
 use crate::proved::net_host::slot::Slot;
-use crate::proved::smoltcp_socket::time::Instant;
-use crate::proved::smoltcp_socket::wire::{IpRepr, TcpControl, TcpRepr};
-use crate::proved::smoltcp_socket::{Context, Socket, tcp};
-use crate::proved::sock_tcp::{Reply, TsvalSource};
+use crate::sockets::sock_tcp::{Reply, TsvalSource};
+use crate::sockets::time::Instant;
+use crate::sockets::wire::{IpRepr, TcpControl, TcpRepr};
+use crate::sockets::{Context, Socket, tcp};
 
 /// Who takes a segment, by its place in the set.
 #[derive(Debug, Clone, Copy, PartialEq, Eq)]

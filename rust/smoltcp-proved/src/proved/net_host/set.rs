@@ -7,8 +7,8 @@ use crate::proved::host_bounds::{Bounds, Marks};
 use crate::proved::host_index::Index;
 use crate::proved::net_host::filed::Filed;
 use crate::proved::net_host::slot::{Slot, SocketHandle};
-use crate::proved::smoltcp_socket::{Socket, icmp, raw, tcp, udp};
-use crate::proved::sock_tcp::{Generator, TsvalSource};
+use crate::sockets::sock_tcp::{Generator, TsvalSource};
+use crate::sockets::{Socket, icmp, raw, tcp, udp};
 
 /// Sockets of all kinds, each under a handle. As smoltcp's, but that its room is made once.
 ///

@@ -6,7 +6,7 @@ use crate::proved::control_wire::TcpSeqNumber;
 use crate::proved::net_base::time::{Duration, Instant};
 use crate::proved::net_host::guard::{Guard, Kind, NO_MOMENT};
 use crate::proved::net_host::limits::Limits;
-use crate::proved::sock_tcp::{Socket, State};
+use crate::sockets::sock_tcp::{Socket, State};
 
 /// What the peer is waited for, the number of the first byte that waits, since when, and when that is to end.
 #[derive(Debug, Clone, Copy)]

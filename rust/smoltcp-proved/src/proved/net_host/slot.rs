@@ -2,8 +2,8 @@
 //! One place of a set of sockets.
 
 use crate::proved::net_host::guard::Guard;
-use crate::proved::smoltcp_socket::Socket;
-use crate::proved::sock_tcp::{Generator, TsvalSource};
+use crate::sockets::Socket;
+use crate::sockets::sock_tcp::{Generator, TsvalSource};
 
 /// Names a socket of a set. A socket that is put where another one was removed has another handle.
 #[derive(Debug, Clone, Copy, PartialEq, Eq)]

@@ -9,8 +9,8 @@ use crate::proved::net_host::lent_turns::turn_there;
 use crate::proved::net_host::looking::next_due;
 use crate::proved::net_host::set::SocketSet;
 use crate::proved::net_host::wire::{Sent, TooShort};
-use crate::proved::smoltcp_socket::wire::IpAddress;
-use crate::proved::sock_tcp::TsvalSource;
+use crate::sockets::sock_tcp::TsvalSource;
+use crate::sockets::wire::IpAddress;
 
 // The socket at this place has its turn: apart from `emit`, which mostly finds nobody to speak, so that it stays short.
 #[inline(never)]

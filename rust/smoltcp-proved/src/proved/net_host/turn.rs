@@ -9,10 +9,10 @@ use crate::proved::net_host::sight::Sight;
 use crate::proved::net_host::slot::Slot;
 use crate::proved::net_host::watching::not_before;
 use crate::proved::net_host::wire::{Sent, TooShort};
-use crate::proved::smoltcp_socket::time::{Duration, Instant};
-use crate::proved::smoltcp_socket::wire::IpAddress;
-use crate::proved::smoltcp_socket::{Context, PollAt, Socket};
-use crate::proved::sock_tcp::TsvalSource;
+use crate::sockets::sock_tcp::TsvalSource;
+use crate::sockets::time::{Duration, Instant};
+use crate::sockets::wire::IpAddress;
+use crate::sockets::{Context, PollAt, Socket};
 
 // The least time: a socket that may not speak at a moment waits so long.
 const NEXT: Duration = Duration { micros: 1 };

@@ -8,12 +8,12 @@ use crate::proved::net_host::limit::Limit;
 use crate::proved::net_host::messages::{Mail, put_answer};
 use crate::proved::net_host::set::SocketSet;
 use crate::proved::net_host::slot::Slot;
-use crate::proved::smoltcp_socket::time::Instant;
-use crate::proved::smoltcp_socket::wire::{
+use crate::sockets::sock_tcp::TsvalSource;
+use crate::sockets::time::Instant;
+use crate::sockets::wire::{
     ChecksumCapabilities, Icmpv4Repr, Icmpv6Repr, IpProtocol, IpRepr, Ipv4Repr, Ipv6Repr,
 };
-use crate::proved::smoltcp_socket::{Context, Socket};
-use crate::proved::sock_tcp::TsvalSource;
+use crate::sockets::{Context, Socket};
 
 // The longest errors, in bytes (RFC 1812, section 4.3.2.3; RFC 4443, section 2.4 c).
 const LONGEST_V4: usize = 576;

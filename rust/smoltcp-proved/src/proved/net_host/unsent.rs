@@ -5,9 +5,9 @@ use crate::kit::Vec;
 use crate::proved::net_host::set::SocketSet;
 use crate::proved::net_host::slot::Slot;
 use crate::proved::net_host::wire::TooShort;
-use crate::proved::smoltcp_socket::wire::{IpRepr, TcpRepr};
-use crate::proved::smoltcp_socket::{Context, Socket, tcp};
-use crate::proved::sock_tcp::TsvalSource;
+use crate::sockets::sock_tcp::TsvalSource;
+use crate::sockets::wire::{IpRepr, TcpRepr};
+use crate::sockets::{Context, Socket, tcp};
 
 // The socket's own dispatch, whose emit does nothing.
 fn swallow<C: Context, G: TsvalSource>(socket: &mut tcp::Socket<'_, G>, cx: &mut C) -> Result<(), TooShort> {

@@ -6,8 +6,8 @@ use crate::proved::net_base::time::{Duration, Instant};
 use crate::proved::net_host::guard::{Guard, GuardSettings, Kind, PACE, Phase, TURNS};
 use crate::proved::net_host::limits::Limits;
 use crate::proved::net_host::sight::{Sight, kind_of};
-use crate::proved::smoltcp_socket::PollAt;
-use crate::proved::sock_tcp::{Socket, State};
+use crate::sockets::PollAt;
+use crate::sockets::sock_tcp::{Socket, State};
 
 impl GuardSettings {
     /// The limits of a new interface: 30 seconds for a handshake, a minute for what is closing and for silence, two

@@ -5,9 +5,9 @@ use crate::proved::net_host::environment::Environment;
 use crate::proved::net_host::inner::{source_v4, source_v6};
 use crate::proved::net_host::messages::put_message;
 use crate::proved::net_host::replies::{put_datagram, put_raw, put_segment_with};
-use crate::proved::smoltcp_socket::Context;
-use crate::proved::smoltcp_socket::time::Instant;
-use crate::proved::smoltcp_socket::wire::{
+use crate::sockets::Context;
+use crate::sockets::time::Instant;
+use crate::sockets::wire::{
     ChecksumCapabilities, IcmpRepr, IpAddress, IpProtocol, IpRepr, Ipv4Address, Ipv6Address, TcpRepr, UdpRepr,
 };
 

@@ -44,7 +44,7 @@ impl Context for Moment {
     }
 
     fn get_source_address_ipv6(&self, _dst: &Ipv6Address) -> Ipv6Address {
-        Ipv6Address([0; 16])
+        crate::kit::ipv6([0; 16])
     }
 
     fn is_broadcast(&self, _addr: &IpAddress) -> bool {

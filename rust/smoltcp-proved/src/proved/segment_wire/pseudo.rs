@@ -20,6 +20,6 @@ pub(crate) fn pseudo_parts(ip: &IpRepr, length: usize) -> (u64, u64) {
 
 #[inline(always)]
 fn pseudo_parts_v4(header: &Ipv4Repr, length: usize) -> (u64, u64) {
-    let addresses = swapped_octets(&header.src_addr.0) + swapped_octets(&header.dst_addr.0);
+    let addresses = swapped_octets(&header.src_addr.octets()) + swapped_octets(&header.dst_addr.octets());
     (length as u64 % 0x1_0000_0000 + 6, addresses)
 }

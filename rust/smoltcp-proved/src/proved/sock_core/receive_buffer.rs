@@ -10,7 +10,7 @@ use crate::proved::sock_core::ranges::Ranges;
 /// At most four ranges are held, apart by at least one place, and never the place behind the queue.
 #[derive(Debug)]
 pub struct ReceiveBuffer<'a> {
-    ring: RingBuffer<'a, u8>,
+    pub(crate) ring: RingBuffer<'a, u8>,
     ranges: Ranges,
 }
 
@@ -112,8 +112,8 @@ impl<'a> ReceiveBuffer<'a> {
 
     /// Lends `f` the queue, up to the slice's end. `f` answers how many of these bytes to remove, from the first on;
     /// its answer is passed on.
-    pub fn dequeue_many_with<R, F: FnOnce(&[u8]) -> (usize, R)>(&mut self, f: F) -> (usize, R) {
-        self.ring.dequeue_many_with(f)
+    pub fn dequeue_shown<R, F: FnOnce(&[u8]) -> (usize, R)>(&mut self, f: F) -> (usize, R) {
+        self.ring.dequeue_shown(f)
     }
 
     /// The queue, up to the slice's end, but at most `size` bytes.

@@ -18,8 +18,8 @@ const HOP_LIMIT: u8 = 64;
 // What stands where the header will. Header and segment are filled in where they go out: handed from step to step
 // they would be copied each time, which was measured.
 pub(crate) const NO_HEADER: IpRepr = IpRepr::Ipv4(Ipv4Repr {
-    src_addr: Ipv4Address([0; 4]),
-    dst_addr: Ipv4Address([0; 4]),
+    src_addr: crate::kit::ipv4([0; 4]),
+    dst_addr: crate::kit::ipv4([0; 4]),
     next_header: IpProtocol::Tcp,
     payload_len: 0,
     hop_limit: 0,

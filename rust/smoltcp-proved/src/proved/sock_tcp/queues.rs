@@ -58,7 +58,7 @@ impl<'a> ControlBlock<'a> {
             return Err(SendError::InvalidState);
         }
         let was_empty = self.tx_buffer.is_empty();
-        let (count, result) = self.tx_buffer.enqueue_many_with(f);
+        let (count, result) = self.tx_buffer.enqueue_lent(f);
         self.note_queued(was_empty, count);
         Ok(result)
     }
@@ -83,7 +83,7 @@ impl<'a> ControlBlock<'a> {
 
     pub(crate) fn recv<R, F: FnOnce(&[u8]) -> (usize, R)>(&mut self, f: F) -> Result<R, RecvError> {
         self.check_recv()?;
-        let (count, result) = self.rx_buffer.dequeue_many_with(f);
+        let (count, result) = self.rx_buffer.dequeue_shown(f);
         self.remote_seq_no = self.remote_seq_no.plus(count);
         Ok(result)
     }

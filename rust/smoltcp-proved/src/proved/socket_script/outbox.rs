@@ -85,6 +85,6 @@ pub fn host(alloc: Global, at: Moment, fails: bool) -> Host {
 fn v4_of(addr: IpAddress) -> Ipv4Address {
     match addr {
         IpAddress::Ipv4(addr) => addr,
-        IpAddress::Ipv6(_) => Ipv4Address([10, 0, 0, 1]),
+        IpAddress::Ipv6(_) => crate::kit::ipv4([10, 0, 0, 1]),
     }
 }

@@ -16,9 +16,9 @@ use crate::proved::socket_script::packet::{Kind, Packet};
 use crate::proved::socket_script::shown::Shown;
 
 // Where a socket is and where its peer is, until a line says otherwise.
-const HERE: IpEndpoint = IpEndpoint { addr: IpAddress::Ipv4(Ipv4Address([10, 0, 0, 1])), port: 49152 };
+const HERE: IpEndpoint = IpEndpoint { addr: IpAddress::Ipv4(crate::kit::ipv4([10, 0, 0, 1])), port: 49152 };
 
-const PEER: IpEndpoint = IpEndpoint { addr: IpAddress::Ipv4(Ipv4Address([10, 0, 0, 2])), port: 80 };
+const PEER: IpEndpoint = IpEndpoint { addr: IpAddress::Ipv4(crate::kit::ipv4([10, 0, 0, 2])), port: 80 };
 
 /// When a call is made, and what a random word is.
 #[derive(Clone, Copy)]
@@ -118,8 +118,8 @@ impl<'a> Seat<'a> {
 // Another address of the same version: the unspecified one.
 fn elsewhere(addr: IpAddress) -> IpAddress {
     match addr {
-        IpAddress::Ipv4(_) => IpAddress::Ipv4(Ipv4Address([0; 4])),
-        IpAddress::Ipv6(_) => IpAddress::Ipv6(Ipv6Address([0; 16])),
+        IpAddress::Ipv4(_) => IpAddress::Ipv4(crate::kit::ipv4([0; 4])),
+        IpAddress::Ipv6(_) => IpAddress::Ipv6(crate::kit::ipv6([0; 16])),
     }
 }
 

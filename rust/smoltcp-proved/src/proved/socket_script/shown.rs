@@ -65,12 +65,12 @@ impl fmt::Display for Address {
     fn fmt(&self, f: &mut fmt::Formatter<'_>) -> fmt::Result {
         match self.0 {
             IpAddress::Ipv4(addr) => {
-                let [a, b, c, d] = addr.0;
+                let [a, b, c, d] = addr.octets();
                 write!(f, "{a}.{b}.{c}.{d}")
             }
             IpAddress::Ipv6(addr) => {
                 f.write_str("[")?;
-                for (at, octet) in addr.0.iter().enumerate() {
+                for (at, octet) in addr.octets().iter().enumerate() {
                     if at > 0 && at % 2 == 0 {
                         f.write_str(":")?;
                     }

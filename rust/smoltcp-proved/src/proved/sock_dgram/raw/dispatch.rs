@@ -11,7 +11,7 @@ impl<'a> Socket<'a> {
     // Sets the checksum of the first packet, and drops the padding in front of it. To do so again changes nothing of
     // what is offered.
     fn prepare_first(&mut self, sent: bool) {
-        let _ = self.tx_buffer.dequeue_with(move |_header: &(), bytes: &mut [u8]| -> Result<(), ()> {
+        let _ = self.tx_buffer.dequeue_packet_with(move |_header: &(), bytes: &mut [u8]| -> Result<(), ()> {
             prepare(bytes, sent);
             Err(())
         });

@@ -11,9 +11,11 @@ use crate::proved::sock_pair::script::output::{write_outcomes, write_sides};
 use crate::proved::sock_pair::script::stream::{Sink, Source};
 use crate::proved::sock_tcp::{SocketBuffer, TsvalSource};
 
-const ENDPOINT_A: IpEndpoint = IpEndpoint { addr: IpAddress::Ipv4(Ipv4Address([10, 0, 0, 1])), port: 49152 };
+const ENDPOINT_A: IpEndpoint =
+    IpEndpoint { addr: IpAddress::Ipv4(crate::kit::ipv4([10, 0, 0, 1])), port: 49152 };
 
-const ENDPOINT_B: IpEndpoint = IpEndpoint { addr: IpAddress::Ipv4(Ipv4Address([10, 0, 0, 2])), port: 80 };
+const ENDPOINT_B: IpEndpoint =
+    IpEndpoint { addr: IpAddress::Ipv4(crate::kit::ipv4([10, 0, 0, 2])), port: 80 };
 
 /// All bytes of a source. `Read` where the source failed, `Memory` where a growth was refused.
 pub fn read_all<R: Source>(alloc: Global, reader: &mut R) -> Result<Vec<u8>, End> {
