@@ -1,6 +1,7 @@
 /* The calls of smoltcp_host.h as symbols of the library: their bodies are those that a program may inline. */
 #define SMOLTCP_NO_INLINE
 #define SMOLTCP_LIBRARY
+#undef SMOLTCP_CHECK
 #include "smoltcp_host.h"
 #include "smoltcp_host_nonnull.h"
 
