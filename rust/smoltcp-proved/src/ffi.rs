@@ -127,7 +127,7 @@ pub const ERROR_SOCKET: i64 = -13;
 pub const NOT_ACCEPTED: i64 = -8;
 
 // The sizes of sockets, and of places of their queues, in bytes.
-pub const TCP_SIZE: usize = 632;
+pub const TCP_SIZE: usize = 664;
 pub const UDP_SIZE: usize = 160;
 pub const UDP_PLACE_SIZE: usize = 48;
 pub const RAW_SIZE: usize = 136;

@@ -30,7 +30,7 @@ pub use kinds::{
 /// The length of the longest reply to a segment, in bytes: an IPv6 header and the longest TCP header.
 pub const REPLY_LEN: usize = 100;
 
-/// Memory for one socket at a time: 632 bytes, in an array, in a struct, on the stack or in a static. It is free again
+/// Memory for one socket at a time: 664 bytes, in an array, in a struct, on the stack or in a static. It is free again
 /// where its socket ends.
 ///
 /// ```
