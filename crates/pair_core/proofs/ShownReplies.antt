@@ -11,7 +11,9 @@ use Rattle.sock_tcp.specs.Window.{next_ack}
 use Rattle.sock_tcp.specs.Replies.{ack_segment, ack_kept}
 use Rattle.sock_tcp.specs.Timers.{after, challenge_interval}
 use Rattle.sock_tcp.specs.Steps.{joined, ack_delayed}
-use Rattle.sock_tcp.specs.Process.{Outcome, stopped, ack_sent, challenged, close_restarted, outside_by, outside, gap_answered, bytes_taken}
+use Rattle.sock_tcp.specs.Process.{Outcome, stopped, ack_sent, challenged, close_restarted, outside_by, outside, gap_answered, bytes_taken, without_place}
+use Rattle.sock_tcp.specs.declared.rules.Rules.{Rules}
+use Rattle.sock_tcp.specs.declared.rules.Rules.TheVariants as rules
 use Rattle.pair_core.specs.PairNetwork.{shown, stream_segment}
 use Rattle.pair_core.specs.StreamCalls.{Answers, ReplyEffect, Segment as MayAnswer}
 use Rattle.pair_core.specs.StreamEffects.{SndNxtWithin}
@@ -104,10 +106,14 @@ module _ (s : Segment) (now : Instant) where
       gap true = quiet_there u y refl
       gap false = acked_there u y refl
 
-      fifth : (b : Bool) → makes_fifth_range w.rx_buffer o bs ≡ b → Answered s y (if b then stopped w else gap_answered w u s)
-      fifth true e = quiet_there w y (ap (λ (b : Received). shown (record w { rx_buffer = b })) (stays_as_it_is w.rx_buffer o bs e))
+      placeless : (r : Rules) → makes_fifth_range w.rx_buffer o bs ≡ true → Answered s y (without_place r w s)
+      placeless rules.Smoltcp e = quiet_there w y (ap (λ (b : Received). shown (record w { rx_buffer = b })) (stays_as_it_is w.rx_buffer o bs e))
+      placeless rules.Rfc e = acked_there w y (ap (λ (b : Received). shown (record w { rx_buffer = b })) (stays_as_it_is w.rx_buffer o bs e))
+
+      fifth : (b : Bool) → makes_fifth_range w.rx_buffer o bs ≡ b → Answered s y (if b then without_place w.rules w s else gap_answered w u s)
+      fifth true e = placeless w.rules e
       fifth false e = gap (holds_nothing w.rx_buffer.held && holds_nothing u.rx_buffer.held)
 
-      go : (b : Bool) → Answered s (shown (record w { rx_buffer = if b then w.rx_buffer else taken_in w.rx_buffer o bs })) (if b then stopped w else (if makes_fifth_range w.rx_buffer o bs then stopped w else gap_answered w u s))
+      go : (b : Bool) → Answered s (shown (record w { rx_buffer = if b then w.rx_buffer else taken_in w.rx_buffer o bs })) (if b then stopped w else (if makes_fifth_range w.rx_buffer o bs then without_place w.rules w s else gap_answered w u s))
       go true = quiet_there w _ refl
       go false = fifth (makes_fifth_range w.rx_buffer o bs) refl

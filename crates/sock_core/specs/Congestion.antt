@@ -156,6 +156,20 @@ abbrev pub recovery_window : AnyController → ℕ
 recovery_window (controller.None n) = 2 ^ 64 - 1
 recovery_window (controller.Reno r) = reno_recovery_window r
 
+-- the window at which slow start ends
+abbrev pub threshold_of : AnyController → ℕ
+threshold_of (controller.None n) = 2 ^ 64 - 1
+threshold_of (controller.Reno r) = r.ssthresh
+
+-- a loss was none: window and threshold are at least these, as before it (RFC 4015, section 3.2)
+unfoldable pub reno_undone : RenoNumbers → ℕ → ℕ → RenoNumbers
+reno_undone r window threshold =
+    record r { cwnd = max r.cwnd window; ssthresh = max r.ssthresh threshold; in_recovery = false }
+
+unfoldable pub undone : AnyController → ℕ → ℕ → AnyController
+undone (controller.None n) window threshold = controller.None n
+undone (controller.Reno r) window threshold = controller.Reno (reno_undone r window threshold)
+
 -- What the calls of a controller leave. Each has all that the controller is told
 
 unfoldable pub acked : AnyController → Instant → ℕ → ℕ → Estimator → AnyController

@@ -3,7 +3,7 @@ ghost use Rattle.std.specs.Prelude.{◌≡◌, ℕ, ◌-◌, ◌^◌, ◌<◌, �
 ghost use Rattle.sock_core.specs.Reno.{RenoNumbers};
 ghost use Rattle.sock_core.specs.Congestion.{fresh_reno, reno_acked};
 ghost use Rattle.sock_core.specs.Congestion.{bytes_acked, congestion_window, acked, dup_acked, lost, opened};
-ghost use Rattle.sock_core.specs.Congestion.{restarted, timed_out};
+ghost use Rattle.sock_core.specs.Congestion.{restarted, threshold_of, timed_out, undone};
 ghost use Rattle.sock_core.specs.Congestion.{partially_acked, pre_transmitted, post_transmitted, recovery_window};
 ghost use Rattle.sock_core.specs.Estimator.{Estimator};
 ghost use Rattle.net_base.specs.declared.time.Instant.{Instant};
@@ -133,6 +133,28 @@ impl AnyController {
         match self {
             AnyController::None(none) => none.window(),
             AnyController::Reno(reno) => reno.recovery_window(),
+        }
+    }
+
+    /// The window, in bytes, at which slow start ends. Without congestion control the greatest `usize`.
+    pub fn threshold(&self) -> usize
+        ensures { result ≡ threshold_of self.now }
+    {
+        match self {
+            AnyController::None(_) => usize::MAX,
+            AnyController::Reno(reno) => reno.ssthresh(),
+        }
+    }
+
+    /// A loss of which it was told was none: its window and threshold are at least these, as before it, and a fast
+    /// recovery is over (RFC 4015, section 3.2).
+    #[tactic(auto, unfolding(crate::specs::Congestion::undone))]
+    pub fn undo(&mut self, window: usize, threshold: usize)
+        ensures { self.new ≡ undone self.old window threshold }
+    {
+        match self {
+            AnyController::None(_) => {}
+            AnyController::Reno(reno) => reno.undo(window, threshold),
         }
     }
 }

@@ -4,7 +4,7 @@ ghost use Rattle.sock_core.specs.Congestion.{bounded, capped, deflated, fresh_re
 ghost use Rattle.sock_core.specs.Congestion.{initial_window, most_growth, reno_acked, reno_counted, reno_grows};
 ghost use Rattle.sock_core.specs.Congestion.{reno_on_ack, reno_on_bytes_acked, reno_on_dup_ack, reno_on_loss};
 ghost use Rattle.sock_core.specs.Congestion.{reno_on_partial_ack, reno_on_rto, reno_opened, reno_partially_acked};
-ghost use Rattle.sock_core.specs.Congestion.{reno_restarted};
+ghost use Rattle.sock_core.specs.Congestion.{reno_restarted, reno_undone};
 ghost use Rattle.sock_core.specs.Congestion.{reno_post_transmit, reno_recovery_window};
 ghost use Rattle.sock_core.specs.Congestion.{reno_pre_transmit, reno_with_mss, reno_with_remote_window};
 
@@ -81,6 +81,16 @@ impl Reno {
         } else {
             self.cwnd
         }
+    }
+
+    /// A loss was none: window and threshold are at least these, as before it.
+    #[tactic(auto, unfolding(crate::specs::Congestion::reno_undone))]
+    pub fn undo(&mut self, window: usize, threshold: usize)
+        ensures { self.new ≡ reno_undone self.old window threshold }
+    {
+        self.cwnd = self.cwnd.max(window);
+        self.ssthresh = self.ssthresh.max(threshold);
+        self.in_recovery = false;
     }
 
     // At most the peer's window, and at least a segment.

@@ -11,7 +11,7 @@ use Rattle.sock_core.specs.Received.{makes_fifth_range, holds_nothing}
 use Rattle.sock_tcp.specs.Acked.{acked_of}
 use Rattle.sock_tcp.specs.Advance.{advance_in, advanced, counted_control, dropped, fallen_back, fin_counted, moved_to, syn_answered, syn_received, waiting}
 use Rattle.sock_tcp.specs.Arrival.{Arrival, arrival}
-use Rattle.sock_tcp.specs.Process.{stopped, ack_sent, challenged, close_restarted, outside_by, outside, gap_answered, bytes_taken, tuple_of, after_advance, processed_inside, has_window, cut_inside, tested_by, by_verdict, processed_by}
+use Rattle.sock_tcp.specs.Process.{stopped, ack_sent, challenged, close_restarted, outside_by, outside, gap_answered, bytes_taken, tuple_of, after_advance, processed_inside, has_window, cut_inside, tested_by, by_verdict, processed_by, without_place}
 use Rattle.sock_tcp.specs.Replies.{ack_kept}
 use Rattle.sock_tcp.specs.Rfc.Recovery.{before_of, recovered, recovered_by}
 use Rattle.sock_tcp.specs.Rfc.Refused.{refused}
@@ -25,6 +25,7 @@ use Rattle.sock_tcp.specs.declared.acked.Acked.{Acked}
 use Rattle.sock_tcp.specs.declared.advance.Next.{Next}
 use Rattle.sock_tcp.specs.declared.advance.Next.TheVariants as next
 use Rattle.sock_tcp.specs.declared.rules.Rules.{Rules}
+use Rattle.sock_tcp.specs.declared.rules.Rules.TheVariants as rules
 use Rattle.sock_tcp.specs.declared.state.State.{State}
 use Rattle.sock_tcp.specs.declared.state.State.TheVariants as state
 use Rattle.sock_tcp.specs.declared.tuple.Tuple.{Tuple}
@@ -101,11 +102,15 @@ module _ (P : View → Type 0) (now : Instant) (s : Segment) (k : KeptByAnswers 
       gap true = joins w o bs h
       gap false = k.acks u (joins w o bs h)
 
-      away : (b : Bool) → P (if b then stopped w else gap_answered w u s).view
-      away true = h
+      placeless : (r : Rules) → P (without_place r w s).view
+      placeless rules.Smoltcp = h
+      placeless rules.Rfc = k.acks w h
+
+      away : (b : Bool) → P (if b then without_place w.rules w s else gap_answered w u s).view
+      away true = placeless w.rules
       away false = gap (holds_nothing w.rx_buffer.held && holds_nothing u.rx_buffer.held)
 
-      go : (b : Bool) → P (if b then stopped w else (if makes_fifth_range w.rx_buffer o bs then stopped w else gap_answered w u s)).view
+      go : (b : Bool) → P (if b then stopped w else (if makes_fifth_range w.rx_buffer o bs then without_place w.rules w s else gap_answered w u s)).view
       go true = h
       go false = away (makes_fifth_range w.rx_buffer o bs)
 

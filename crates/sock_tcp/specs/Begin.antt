@@ -11,6 +11,7 @@ use Rattle.sock_tcp.specs.Polls.{is_reached, timeout_poll}
 use Rattle.sock_tcp.specs.Rfc.Recovery.{begun_by, marked_by, timed_out_by}
 use Rattle.sock_tcp.specs.Rfc.Scoreboard.{nothing_told}
 use Rattle.sock_tcp.specs.Rfc.TailLoss.{probes_tail, tail_probed}
+use Rattle.sock_tcp.specs.Rfc.Undo.{undo_marked, undo_timed_out}
 use Rattle.sock_tcp.specs.Timers.{is_over, is_close_over}
 use Rattle.sock_tcp.specs.View.{View, moment_of}
 use Rattle.sock_tcp.specs.declared.rules.Rules.{Rules}
@@ -69,6 +70,7 @@ retransmission_begun v now =
           (retransmitted (backed_off v.rtte));
       recovery = timed_out_by v.rules v.recovery v.remote_last_seq;
       sacked = nothing_told;
+      undo = undo_timed_out v.rules v.recovery v.undo v.congestion_controller;
     }
 
 -- what was in flight when a loss is told: by the RFCs' rules as much as both windows let out of what is queued, since a
@@ -92,6 +94,7 @@ fast_retransmission_marked v now =
       pending_fast_retransmit = true;
       rtte = retransmitted v.rtte;
       timer = marked_by v.rules now v.keep_alive (retransmitted v.rtte);
+      undo = undo_marked v.rules v.undo v.congestion_controller;
     }
 
 -- a window is to be probed for: by the RFCs' rules with the byte at SND.UNA, so that SND.NXT goes back, and what was

@@ -20,6 +20,8 @@ use Rattle.sock_tcp.specs.declared.advance.Next.{Next}
 use Rattle.sock_tcp.specs.declared.advance.Next.TheVariants as next
 use Rattle.sock_tcp.specs.declared.process.Answer.{Answer}
 use Rattle.sock_tcp.specs.declared.process.Answer.TheVariants as answers
+use Rattle.sock_tcp.specs.declared.rules.Rules.{Rules}
+use Rattle.sock_tcp.specs.declared.rules.Rules.TheVariants as rules
 use Rattle.sock_tcp.specs.declared.timer.Timer.{Timer}
 use Rattle.sock_tcp.specs.declared.state.State.{State}
 use Rattle.sock_tcp.specs.declared.state.State.TheVariants as state
@@ -84,11 +86,18 @@ abbrev pub gap_answered : View → View → Segment → Outcome
 gap_answered v w s =
     if holds_nothing v.rx_buffer.held && holds_nothing w.rx_buffer.held then stopped w else ack_sent w s
 
--- the bytes bs came, o past RCV.NXT; where they are refused, nothing more is done
+-- bytes for which there is no place are refused; by the RFCs' rules they are acknowledged at once, as all behind a gap
+-- (RFC 5681, section 4.2)
+abbrev pub without_place : Rules → View → Segment → Outcome
+without_place rules.Smoltcp v s = stopped v
+without_place rules.Rfc v s = ack_sent v s
+
+-- the bytes bs came, o past RCV.NXT
 unfoldable pub bytes_taken : View → Instant → ℕ → List ℕ → Segment → Outcome
 bytes_taken v now o bs s =
     if length bs == 0 then stopped v
-    else (if makes_fifth_range v.rx_buffer o bs then stopped v else gap_answered v (ack_delayed (joined v o bs) now) s)
+    else (if makes_fifth_range v.rx_buffer o bs then without_place v.rules v s
+    else gap_answered v (ack_delayed (joined v o bs) now) s)
 
 abbrev pub after_advance : Next → View → Arrival → Acked → ℕ → List ℕ → Outcome
 after_advance next.Stop v a k o bs = stopped v

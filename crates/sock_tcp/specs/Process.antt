@@ -17,6 +17,7 @@ use Rattle.sock_tcp.specs.Advance.{counted_control}
 use Rattle.sock_tcp.specs.Arrival.{Arrival, arrival}
 use Rattle.sock_tcp.specs.Draw.{draws, Draws}
 pub use Rattle.sock_tcp.specs.Inside.{Outcome, stopped, ack_sent, rst_sent, answered, timer_restarted, outside_by}
+pub use Rattle.sock_tcp.specs.Inside.{without_place}
 pub use Rattle.sock_tcp.specs.Inside.{tuple_of, gap_answered, after_advance, after_table, acked_by}
 unfoldable pub use Rattle.sock_tcp.specs.Inside.{challenged, close_restarted, outside, bytes_taken, processed_inside}
 use Rattle.sock_tcp.specs.Rfc.Checks.{verdict_by}

@@ -1,6 +1,7 @@
 pub mod Checks
 pub mod Refused
 pub mod Scoreboard
+pub mod Undo
 pub mod Idle
 pub mod RoundTrips
 pub mod Recovery

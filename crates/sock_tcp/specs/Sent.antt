@@ -12,6 +12,7 @@ use Rattle.sock_tcp.specs.Due.{is_closed, is_counted, recovery_left}
 use Rattle.sock_tcp.specs.Rfc.Idle.{idle_by, restarted_by}
 use Rattle.sock_tcp.specs.Rfc.RoundTrips.{sending_measured, stamp_of}
 use Rattle.sock_tcp.specs.Rfc.TailLoss.{tail_armed}
+use Rattle.sock_tcp.specs.Rfc.Undo.{undo_sent}
 use Rattle.sock_tcp.specs.Timers.{keep_alive_renewed, probe_doubled, retransmit_unless_set}
 use Rattle.sock_tcp.specs.View.{View}
 use Rattle.sock_tcp.specs.declared.emission.Kind.{Kind}
@@ -61,6 +62,7 @@ snd_nxt_moved v s =
     record v {
       remote_last_seq = later_of v.remote_last_seq s.end;
       recovery = resent_by v.recovery v.remote_last_seq s;
+      undo = undo_sent v.recovery v.undo v.remote_last_seq s;
       remote_last_ack = s.ack_number;
       remote_last_win = s.window_len;
       tuple = if is_closed v.state then None else v.tuple;

@@ -29,6 +29,8 @@ use Rattle.sock_tcp.specs.declared.scoreboard.Scoreboard.{Scoreboard}
 use Rattle.sock_tcp.specs.declared.state.State.{State}
 use Rattle.sock_tcp.specs.declared.state.State.TheVariants as state
 use Rattle.sock_tcp.specs.declared.tuple.Tuple.{Tuple}
+use Rattle.sock_tcp.specs.declared.undo.Undo.{Undo}
+use Rattle.sock_tcp.specs.Rfc.Undo.{nothing_to_undo}
 
 -- the fields have the names of smoltcp's
 pub record View : Type 0 where
@@ -73,6 +75,7 @@ pub record View : Type 0 where
   pub snd_wl2 : TcpSeqNumber  -- SND.WL2, what it acknowledged
   pub idle_at : Option Instant  -- from when on nothing was sent for a retransmission timeout, by the RFCs' rules
   pub largest_window : ℕ  -- the largest SND.WND that was told, by the RFCs' rules
+  pub undo : Undo  -- what undoes a recovery that was for nothing, by the RFCs' rules
 
 -- the moment that a context tells
 abbrev pub moment_of : Facts → Instant
@@ -156,4 +159,5 @@ fresh rx tx =
       snd_wl2 = seq_of 0;
       idle_at = None;
       largest_window = 0;
+      undo = nothing_to_undo;
     }

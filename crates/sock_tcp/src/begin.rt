@@ -63,6 +63,9 @@ impl<'a> ControlBlock<'a> {
         ensures stamps { self.new.stamps ≡ self.old.stamps }
     {
         let flight = self.flight();
+        self.undo = self
+            .undo
+            .timed_out(self.rules, self.recovery, &self.congestion_controller);
         self.congestion_controller.on_rto(now, flight);
         self.recovery = self.recovery.timed_out(self.rules, self.remote_last_seq);
         self.sacked = NOTHING_TOLD;
@@ -114,6 +117,7 @@ impl<'a> ControlBlock<'a> {
         ensures stamps { self.new.stamps ≡ self.old.stamps }
     {
         let flight = self.flight_lost();
+        self.undo = self.undo.marked(self.rules, &self.congestion_controller);
         self.congestion_controller.on_loss(now, flight);
         self.pending_fast_retransmit = true;
         self.rtte.on_retransmit();

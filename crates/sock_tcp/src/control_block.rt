@@ -10,6 +10,7 @@ use crate::scoreboard::Scoreboard;
 use crate::state::State;
 use crate::timer::{AckDelayTimer, Timer};
 use crate::tuple::Tuple;
+use crate::undo::Undo;
 use control_wire::TcpSeqNumber;
 use ip_wire::IpListenEndpoint;
 use net_base::ring_buffer::RingBuffer;
@@ -103,6 +104,8 @@ pub struct ControlBlock<'a> {
     pub(crate) idle_at: Option<Instant>,
     // the largest SND.WND that was told, by the RFCs' rules
     pub(crate) largest_window: usize,
+    // what undoes a recovery that was for nothing, by the RFCs' rules
+    pub(crate) undo: Undo,
 }
 
 impl<'a> Model for ControlBlock<'a> {
@@ -153,6 +156,7 @@ impl<'a> Model for ControlBlock<'a> {
       snd_wl2 = s.snd_wl2;
       idle_at = s.idle_at;
       largest_window = s.largest_window;
+      undo = s.undo;
     } };
 
     ghost invariant = { λ s. IsSound s.rx_buffer (queue_of s.tx_buffer) s.tuple

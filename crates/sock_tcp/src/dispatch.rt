@@ -50,7 +50,8 @@ impl<'a> ControlBlock<'a> {
         ensures view { self.new ≡ snd_nxt_moved self.old emitted.now }
         ensures stamps { self.new.stamps ≡ self.old.stamps }
     {
-        if let Recovery::Fast { .. } = self.recovery {
+        if let Recovery::Fast { .. } | Recovery::Timeout { .. } = self.recovery {
+            self.undo = self.undo.sent(self.recovery, self.remote_last_seq, emitted);
             self.recovery = self.recovery.resent(self.remote_last_seq, emitted);
         }
         self.remote_last_seq = later(self.remote_last_seq, emitted.end);

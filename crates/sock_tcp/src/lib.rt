@@ -53,6 +53,7 @@ mod steps;
 mod tail;
 pub mod timer;
 pub mod tuple;
+pub mod undo;
 pub mod verdict;
 mod waiting;
 pub mod window;

@@ -16,6 +16,7 @@ use crate::scoreboard::NOTHING_TOLD;
 use crate::state::State;
 use crate::timer::{AckDelayTimer, Timer};
 use crate::tuple::Tuple;
+use crate::undo::NOTHING_TO_UNDO;
 use control_wire::TcpSeqNumber;
 use ip_wire::{IpAddress, IpEndpoint, IpListenEndpoint};
 use net_base::ring_buffer::RingBuffer;
@@ -89,6 +90,7 @@ impl<'a> ControlBlock<'a> {
             snd_wl2: TcpSeqNumber(0),
             idle_at: None,
             largest_window: 0,
+            undo: NOTHING_TO_UNDO,
         }
     }
 
@@ -127,6 +129,7 @@ impl<'a> ControlBlock<'a> {
         self.snd_wl2 = TcpSeqNumber(0);
         self.idle_at = None;
         self.largest_window = 0;
+        self.undo = NOTHING_TO_UNDO;
     }
 
     pub(crate) fn is_open(&self) -> bool

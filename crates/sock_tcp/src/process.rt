@@ -9,6 +9,7 @@ ghost use Rattle.sock_tcp.specs.View.{moment_of};
 ghost use Rattle.sock_tcp.specs.Arrival.{arrival};
 ghost use Rattle.sock_tcp.specs.Process.{IsToListener, IsAddressed, Opens, Accepts, tuple_of, has_window};
 ghost use Rattle.sock_tcp.specs.Process.{answered, challenged, close_restarted, outside, bytes_taken};
+ghost use Rattle.sock_tcp.specs.Process.{without_place};
 ghost use Rattle.sock_tcp.specs.Process.{by_verdict, processed_inside, tested, processed};
 ghost use Rattle.sock_tcp.specs.Draw.{draws, Draws};
 ghost use Rattle.sock_tcp.specs.Rfc.Recovery.{recovered_by};
@@ -141,6 +142,16 @@ impl<'a> ControlBlock<'a> {
         }
     }
 
+    // The answer to bytes for which there is no place.
+    fn answer_without_place(&self) -> Answer
+        ensures { (s : Segment) → answered result self.now s ≡ without_place self.now.rules self.now s }
+    {
+        match self.rules {
+            Rules::Smoltcp => Answer::Nothing,
+            Rules::Rfc => Answer::Ack,
+        }
+    }
+
     // The bytes that the window takes, the first of them so far past RCV.NXT; an ACK tells of a gap.
     #[inline(always)]
     #[tactic(auto, unfolding(crate::specs::Inside::bytes_taken))]
@@ -154,7 +165,7 @@ impl<'a> ControlBlock<'a> {
         }
         let had_no_gap = self.rx_buffer.holds_nothing();
         if !self.join(offset, bytes) {
-            return Answer::Nothing;
+            return self.answer_without_place();
         }
         self.delay_ack(now);
         if had_no_gap && self.rx_buffer.holds_nothing() {

@@ -80,6 +80,8 @@ pub struct Before {
     pub sacked: Scoreboard,
     /// The timestamp that the segment echoes, TSecr.
     pub echo: Option<u32>,
+    /// How many bytes came twice, as its first SACK block tells.
+    pub twice: usize,
 }
 
 // Neither a SYN, an RST nor a FIN.
@@ -282,7 +284,8 @@ impl Before {
                 acked: false,
             };
         }
-        self.again(after).gone_on(after.local_seq_no)
+        let recovery = self.again(after).spared(self.is_undone(after));
+        recovery.gone_on(after.local_seq_no)
     }
 
     fn duplicates_after(&self, after: &ControlBlock<'_>) -> u8
@@ -348,7 +351,7 @@ impl Before {
     }
 
     // What the congestion controller is told.
-    fn controller_after(&self, after: &ControlBlock<'_>, now: Instant) -> AnyController
+    pub(crate) fn controller_after(&self, after: &ControlBlock<'_>, now: Instant) -> AnyController
         ensures { result ≡ controller_after self.now after.now now }
     {
         if self.is_partial(after) {
@@ -425,6 +428,7 @@ impl<'a> ControlBlock<'a> {
             telling,
             sacked: self.sacked_by(telling, repr),
             echo: echo_of(repr.timestamp),
+            twice: self.told_twice(repr),
         }
     }
 
@@ -438,11 +442,13 @@ impl<'a> ControlBlock<'a> {
         let timer = before.timer_after(self, now);
         let rtte = before.estimator_after(self);
         let duplicates = before.duplicates_after(self);
-        let controller = before.controller_after(self, now);
+        let controller = before.controller_told(self, now);
         let recovery = before.recovery_after(self);
         let sacked = before.sacked_after(self);
         let largest = before.largest_after(self);
-        let marked = self.pending_fast_retransmit || before.marks(self);
+        let undone = before.is_undone(self);
+        let marked = (self.pending_fast_retransmit || before.marks(self)) && !undone;
+        let undo = before.undo_after(self);
         self.timer = timer;
         self.rtte = rtte;
         self.local_rx_dup_acks = duplicates;
@@ -451,5 +457,6 @@ impl<'a> ControlBlock<'a> {
         self.recovery = recovery;
         self.sacked = sacked;
         self.largest_window = largest;
+        self.undo = undo;
     }
 }

@@ -19,7 +19,7 @@ use Rattle.tcp_laws.specs.Laws.{IsPeered}
 use Rattle.sock_tcp.specs.Replies.{ack_kept, ack_segment}
 use Rattle.sock_tcp.specs.Timers.{after, challenge_interval}
 use Rattle.sock_tcp.specs.Steps.{window_taken, released, is_duplicate, ack_heard, duplicate_counted, ack_counted, una_advanced, acknowledged, timestamp_taken, timer_set, counted, heard, joined, ack_delayed}
-use Rattle.sock_tcp.specs.Process.{stopped, ack_sent, challenged, close_restarted, outside_by, outside, gap_answered, bytes_taken, tuple_of, after_advance, after_table, processed_inside, has_window, cut_inside, tested_by, by_verdict, processed_by}
+use Rattle.sock_tcp.specs.Process.{stopped, ack_sent, challenged, close_restarted, outside_by, outside, gap_answered, bytes_taken, tuple_of, after_advance, after_table, processed_inside, has_window, cut_inside, tested_by, by_verdict, processed_by, without_place}
 use Rattle.sock_tcp.specs.declared.acked.Acked.{Acked}
 use Rattle.sock_tcp.specs.declared.advance.Next.{Next}
 use Rattle.sock_tcp.specs.declared.advance.Next.TheVariants as next
@@ -32,6 +32,7 @@ use Rattle.tcp_laws.proofs.Kept.{KeptByAnswers, KeptByRows, challenged_kept, out
 use Rattle.sock_tcp.specs.Rfc.Recovery.{before_of, recovered}
 use Rattle.sock_tcp.specs.Rfc.Refused.{refused}
 use Rattle.sock_tcp.specs.declared.rules.Rules.{Rules}
+use Rattle.sock_tcp.specs.declared.rules.Rules.TheVariants as rules
 use Rattle.sock_tcp.proofs.Recovering.{recovered_as}
 use Rattle.sock_tcp.proofs.Refusing.{heard_alone, refused_as}
 
@@ -139,11 +140,15 @@ module _ (s : Segment) (now : Instant) where
       gap true = tt
       gap false = acked_back u
 
-      away : (b : Bool) → GoesBack s (if b then stopped w else gap_answered w u s).reply
-      away true = tt
+      placeless : (r : Rules) → GoesBack s (without_place r w s).reply
+      placeless rules.Smoltcp = tt
+      placeless rules.Rfc = acked_back w
+
+      away : (b : Bool) → GoesBack s (if b then without_place w.rules w s else gap_answered w u s).reply
+      away true = placeless w.rules
       away false = gap (holds_nothing w.rx_buffer.held && holds_nothing u.rx_buffer.held)
 
-      go : (b : Bool) → GoesBack s (if b then stopped w else (if makes_fifth_range w.rx_buffer o bs then stopped w else gap_answered w u s)).reply
+      go : (b : Bool) → GoesBack s (if b then stopped w else (if makes_fifth_range w.rx_buffer o bs then without_place w.rules w s else gap_answered w u s)).reply
       go true = tt
       go false = away (makes_fifth_range w.rx_buffer o bs)
 
@@ -165,11 +170,15 @@ module _ (s : Segment) (now : Instant) where
       gap true = record { rx = refl; listen = refl; tuple = refl; state = refl }
       gap false = record { rx = refl; listen = refl; tuple = refl; state = refl }
 
-      away : (b : Bool) → makes_fifth_range w.rx_buffer o bs ≡ b → Keeps w (if b then stopped w else gap_answered w u s).view (taken_in w.rx_buffer o bs)
-      away true e = record { rx = stays_as_it_is w.rx_buffer o bs e; listen = refl; tuple = refl; state = refl }
+      placeless : (r : Rules) → makes_fifth_range w.rx_buffer o bs ≡ true → Keeps w (without_place r w s).view (taken_in w.rx_buffer o bs)
+      placeless rules.Smoltcp e = record { rx = stays_as_it_is w.rx_buffer o bs e; listen = refl; tuple = refl; state = refl }
+      placeless rules.Rfc e = record { rx = stays_as_it_is w.rx_buffer o bs e; listen = refl; tuple = refl; state = refl }
+
+      away : (b : Bool) → makes_fifth_range w.rx_buffer o bs ≡ b → Keeps w (if b then without_place w.rules w s else gap_answered w u s).view (taken_in w.rx_buffer o bs)
+      away true e = placeless w.rules e
       away false e = gap (holds_nothing w.rx_buffer.held && holds_nothing u.rx_buffer.held)
 
-      go : (b : Bool) → Keeps w (if b then stopped w else (if makes_fifth_range w.rx_buffer o bs then stopped w else gap_answered w u s)).view (if b then w.rx_buffer else taken_in w.rx_buffer o bs)
+      go : (b : Bool) → Keeps w (if b then stopped w else (if makes_fifth_range w.rx_buffer o bs then without_place w.rules w s else gap_answered w u s)).view (if b then w.rx_buffer else taken_in w.rx_buffer o bs)
       go true = same w
       go false = away (makes_fifth_range w.rx_buffer o bs) refl
 

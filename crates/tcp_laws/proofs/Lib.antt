@@ -34,6 +34,7 @@ pub mod Speaking
 pub mod LossSaid
 pub mod Telling
 pub mod LossFollows
+pub mod Undoing
 pub mod Pointed
 pub mod OwnWindows
 pub mod OlderWindows

@@ -238,6 +238,10 @@ module _ (r : RenoNumbers) (h : RenoOpen r) where
       go true = h.ssthresh
       go false = halved_open flight
 
+  reno_undone_open : (n m : ℕ) → RenoOpen (congestion.reno_undone r n m)
+  unfolding congestion.reno_undone
+  reno_undone_open n m = record { cwnd = omega (arith, h.cwnd); mss = h.mss; ssthresh = omega (arith, h.ssthresh) }
+
 pub acked_open : (c : AnyController) (now : Instant) (n flight : ℕ) (rtte : Estimator) → IsOpen c → IsOpen (congestion.acked c now n flight rtte)
 unfolding congestion.acked congestion.reno_on_ack
 acked_open (controller.None x) now n flight rtte h = tt
@@ -272,6 +276,11 @@ pub timed_out_open : (c : AnyController) (now : Instant) (n : ℕ) → IsOpen c 
 unfolding congestion.timed_out congestion.reno_on_rto
 timed_out_open (controller.None x) now n h = tt
 timed_out_open (controller.Reno r) now n h = reno_timed_out_open r h n
+
+pub undone_open : (c : AnyController) (n m : ℕ) → IsOpen c → IsOpen (congestion.undone c n m)
+unfolding congestion.undone
+undone_open (controller.None x) n m h = tt
+undone_open (controller.Reno r) n m h = reno_undone_open r h n m
 
 pub pre_transmitted_open : (c : AnyController) (now : Instant) → IsOpen c → IsOpen (congestion.pre_transmitted c now)
 unfolding congestion.pre_transmitted congestion.reno_pre_transmit

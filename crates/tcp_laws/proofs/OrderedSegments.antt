@@ -35,11 +35,11 @@ use Rattle.sock_tcp.specs.declared.verdict.Verdict.{Verdict}
 use Rattle.sock_tcp.specs.declared.verdict.Verdict.TheVariants as verdicts
 use Rattle.sock_tcp.proofs.Acking.{acked_fits, none_acked, between, fin_place_le, one_place, passes, two_guards}
 use Rattle.tcp_laws.proofs.Kept.{KeptByAnswers, bytes_kept, challenged_kept, outside_kept}
-use Rattle.tcp_laws.proofs.Ordered.{HasMoment, IsOpen, IsOrdered, IsPeeredIn, Row, is_close, acked_open, bytes_acked_open, close_stays, dup_acked_open, idle_has_moment, later_small, lost_open, opened_open, partially_acked_open, left_in_flight, less_in_flight, set_has_moment, taken_open, window_open}
+use Rattle.tcp_laws.proofs.Ordered.{HasMoment, IsOpen, IsOrdered, IsPeeredIn, Row, is_close, acked_open, bytes_acked_open, close_stays, dup_acked_open, idle_has_moment, later_small, lost_open, opened_open, partially_acked_open, left_in_flight, less_in_flight, set_has_moment, taken_open, undone_open, window_open}
 use Rattle.sock_core.specs.Congestion.{dup_acked, lost, opened, partially_acked}
 use Rattle.sock_tcp.specs.Due.{flight as flight_of}
 use Rattle.sock_tcp.specs.Content.{carries_data}
-use Rattle.sock_tcp.specs.Rfc.Recovery.{before_it, before_of, controller_after, echo_known, flight_before, has_timer, is_news, is_partial, is_repaired, is_timed_out, is_uncounted, is_void, lets_out, opens_well, recovered, told_of_bytes, told_of_count, told_repaired, waited_for}
+use Rattle.sock_tcp.specs.Rfc.Recovery.{before_it, before_of, controller_after, controller_told, echo_known, flight_before, has_timer, is_news, is_partial, is_repaired, is_timed_out, is_uncounted, is_undone, is_void, lets_out, opens_well, recovered, told_of_bytes, told_of_count, told_repaired, undone_if, waited_for}
 use Rattle.sock_tcp.specs.Rfc.Refused.{is_plain_control, refused}
 use Rattle.sock_tcp.specs.declared.recovery.Before.{Before}
 use Rattle.sock_tcp.specs.declared.rules.Rules.{Rules}
@@ -469,6 +469,13 @@ module _ (now : Instant) (word : ℕ) (ip : IpRepr) (s : Segment) (small : word 
       by false false true = dup_acked_open w.congestion_controller now w.remote_mss (flight_of w) i
       by false false false = told (opens_well b w) (is_news b w && carries_data b.state)
 
+  told_open : (b : Before) (w : View) → IsOpen b.controller → IsOpen w.congestion_controller → IsOpen (controller_told b w now)
+  told_open b w h i = by (is_undone b w)
+    where
+      by : (u : Bool) → IsOpen (undone_if u (controller_after b w now) w.undo)
+      by true = undone_open (controller_after b w now) w.undo.window w.undo.threshold (controller_open b w h i)
+      by false = controller_open b w h i
+
   row_recovers : (st : State) (waited t : Timer) (keep : Option Duration) (f q : ℕ) → (HasMoment t keep → HasMoment waited keep) → Row st t keep f q → Row st (if has_timer st then waited else t) keep f q
   row_recovers state.Closed waited t keep f q m h = tt
   row_recovers state.Listen waited t keep f q m h = h
@@ -508,7 +515,7 @@ module _ (now : Instant) (word : ℕ) (ip : IpRepr) (s : Segment) (small : word 
     una_small = i.una_small;
     nxt_small = i.nxt_small;
     room = i.room;
-    congestion = controller_open (before_of v s) (known v w) h.congestion i.congestion;
+    congestion = told_open (before_of v s) (known v w) h.congestion i.congestion;
     peered = i.peered;
     row = row_recovers w.state (waited_for (before_of v s) (known v w) now) (known v w).timer w.keep_alive (seq_sub w.remote_last_seq w.local_seq_no) (length w.tx_buffer.bytes) (λ m. waited_as (λ t. HasMoment t w.keep_alive) (before_of v s) (known v w) now m tt (λ at e. tt) tt tt (λ at delay e. idle_has_moment now w.keep_alive) (λ at delay h. h)) (row_known v w w.state (seq_sub w.remote_last_seq w.local_seq_no) (length w.tx_buffer.bytes) i.row);
   }

@@ -23,7 +23,7 @@ use Rattle.sock_tcp.specs.Process.{after_advance, by_verdict, challenged, close_
 use Rattle.sock_tcp.specs.Queues.{queued, read_off}
 use Rattle.sock_tcp.specs.Replies.{ack_kept}
 use Rattle.sock_tcp.specs.Rfc.Checks.{verdict_by}
-use Rattle.sock_tcp.specs.Rfc.Recovery.{again, again_by, before_of, begins, came_twice, echo_known, gone_on, highest_of, reached_by, recovered, recovery_after, sent_of, timed_out_by, unless_beyond, unless_twice}
+use Rattle.sock_tcp.specs.Rfc.Recovery.{again, again_by, before_of, begins, came_twice, echo_known, gone_on, highest_of, reached_by, recovered, recovery_after, is_undone, spared, sent_of, timed_out_by, unless_beyond, unless_twice}
 use Rattle.sock_tcp.specs.Rfc.TailLoss.{tail_probed}
 use Rattle.sock_tcp.specs.Rfc.Windows.{windowed}
 use Rattle.sock_tcp.specs.Sent.{after_any, after_probe, resent_by, snd_nxt_moved}
@@ -169,6 +169,13 @@ again_fits false true (recovery.Timeout point) una nxt f = f
 again_fits false false recovery.Open una nxt f = f
 again_fits false false (recovery.Timeout point) una nxt f = f
 
+spared_fits : (u : Bool) (r : Recovery) → fits r ≡ true → fits (spared u r) ≡ true
+spared_fits true recovery.Open f = f
+spared_fits true (recovery.Probe start end again) f = f
+spared_fits true (recovery.Fast point high_rxt resent_at acked) f = refl
+spared_fits true (recovery.Timeout point) f = f
+spared_fits false r f = f
+
 reached_fits : (una : TcpSeqNumber) (r : Recovery) (point : TcpSeqNumber) → fits r ≡ true → fits (reached_by una r point) ≡ true
 reached_fits una r point f = go (is_before una point)
   where
@@ -195,11 +202,11 @@ twice_fits (recovery.Probe start end again) v s f = go (again && came_twice s.ac
 after_fits : (b : Before) (w : View) → fits b.recovery ≡ true → w.remote_last_seq.0 < 2 ^ 32 → fits (recovery_after b w) ≡ true
 after_fits b w f small = carries (carries_data w.state)
   where
-    begun : (t : Bool) → fits (if t then recovery.Fast w.remote_last_seq w.local_seq_no w.remote_last_seq false else gone_on (again b w) w.local_seq_no) ≡ true
+    begun : (t : Bool) → fits (if t then recovery.Fast w.remote_last_seq w.local_seq_no w.remote_last_seq false else gone_on (spared (is_undone b w) (again b w)) w.local_seq_no) ≡ true
     begun true = is_small w.remote_last_seq small
-    begun false = gone_fits (again b w) w.local_seq_no (again_fits _ _ b.recovery w.local_seq_no w.remote_last_seq f)
+    begun false = gone_fits (spared (is_undone b w) (again b w)) w.local_seq_no (spared_fits (is_undone b w) (again b w) (again_fits _ _ b.recovery w.local_seq_no w.remote_last_seq f))
 
-    carries : (c : Bool) → fits (if c then (if begins b w then recovery.Fast w.remote_last_seq w.local_seq_no w.remote_last_seq false else gone_on (again b w) w.local_seq_no) else recovery.Open) ≡ true
+    carries : (c : Bool) → fits (if c then (if begins b w then recovery.Fast w.remote_last_seq w.local_seq_no w.remote_last_seq false else gone_on (spared (is_undone b w) (again b w)) w.local_seq_no) else recovery.Open) ≡ true
     carries true = begun (begins b w)
     carries false = refl
 

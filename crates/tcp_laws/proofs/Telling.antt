@@ -20,7 +20,7 @@ use Rattle.sock_tcp.specs.Advance.{advance_in, advanced, counted_control}
 use Rattle.sock_tcp.specs.Arrival.{Arrival, arrival}
 use Rattle.sock_tcp.specs.Begin.{before_emit, peer_of}
 use Rattle.sock_tcp.specs.Content.{Sending, content, emission_kind, filled, of_kind, plain_segment, sent_as}
-use Rattle.sock_tcp.specs.Process.{Outcome, ack_sent, after_advance, by_verdict, bytes_taken, challenged, close_restarted, cut_inside, gap_answered, has_window, outside, outside_by, processed_by, processed_inside, stopped, tested_by, tuple_of}
+use Rattle.sock_tcp.specs.Process.{Outcome, ack_sent, after_advance, by_verdict, bytes_taken, challenged, close_restarted, cut_inside, gap_answered, has_window, outside, outside_by, processed_by, processed_inside, stopped, tested_by, tuple_of, without_place}
 use Rattle.sock_tcp.specs.Replies.{ack_kept, ack_segment, chosen_range, first_of, sack_range, wire_edges}
 use Rattle.sock_tcp.specs.Rfc.Checks.{verdict_by}
 use Rattle.sock_tcp.specs.Rfc.Recovery.{before_of, recovered}
@@ -36,6 +36,7 @@ use Rattle.sock_tcp.specs.declared.advance.Next.TheVariants as next
 use Rattle.sock_tcp.specs.declared.emission.Kind.{Kind}
 use Rattle.sock_tcp.specs.declared.emission.Kind.TheVariants as kind
 use Rattle.sock_tcp.specs.declared.rules.Rules.{Rules}
+use Rattle.sock_tcp.specs.declared.rules.Rules.TheVariants as rules
 use Rattle.sock_tcp.specs.declared.state.State.{State}
 use Rattle.sock_tcp.specs.declared.state.State.TheVariants as state
 use Rattle.sock_tcp.specs.declared.tuple.Tuple.{Tuple}
@@ -163,11 +164,15 @@ module _ (s : Segment) where
         gap true = tt
         gap false = acked_says u
 
-        away : (b : Bool) → Says (if b then stopped w else gap_answered w u s)
-        away true = tt
+        placeless : (r : Rules) → Says (without_place r w s)
+        placeless rules.Smoltcp = tt
+        placeless rules.Rfc = acked_says w
+
+        away : (b : Bool) → Says (if b then without_place w.rules w s else gap_answered w u s)
+        away true = placeless w.rules
         away false = gap (holds_nothing w.rx_buffer.held && holds_nothing u.rx_buffer.held)
 
-        go : (b : Bool) → Says (if b then stopped w else (if makes_fifth_range w.rx_buffer o bs then stopped w else gap_answered w u s))
+        go : (b : Bool) → Says (if b then stopped w else (if makes_fifth_range w.rx_buffer o bs then without_place w.rules w s else gap_answered w u s))
         go true = tt
         go false = away (makes_fifth_range w.rx_buffer o bs)
 

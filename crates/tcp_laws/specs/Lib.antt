@@ -9,6 +9,7 @@ pub mod Repeating
 pub mod Clocks
 pub mod Speaking
 pub mod Loss
+pub mod Undoing
 pub mod Telling
 pub mod Windows
 pub mod Honored

@@ -1,6 +1,7 @@
 //! Laws on what a sender knows of a loss, and on what a receiver tells of it.
 ghost use Rattle.tcp_laws.specs.Loss.{ScoreboardFollowsSegments, TellsOnlyWhatCame, TellsTheNewest};
 ghost use Rattle.tcp_laws.specs.Telling.{AnswersTellWhatIsHeld, DispatchesTellNothing};
+ghost use Rattle.tcp_laws.specs.Undoing.{FirstEchoDecides, NothingIsUndoneTwice, UndoesWhatWasForNothing};
 
 /// A scoreboard tells only what was told before, or stands in a block that is believed: of bytes that were sent and are
 /// not acknowledged.
@@ -27,4 +28,14 @@ pub fn scoreboard_follows_segments()
 pub fn answers_tell_what_is_held()
     ensures answers { AnswersTellWhatIsHeld }
     ensures dispatches { DispatchesTellNothing }
+{}
+
+/// Where a segment shows that a recovery was for nothing, Reno's congestion window and threshold are at least what was
+/// kept of the time before it, and nothing is marked to go out again (RFC 4015, section 3.2). The first echo of something
+/// new decides, whatever it says, and what is decided is never undone: a later echo of the first sending, or a D-SACK,
+/// changes nothing then.
+pub fn recoveries_for_nothing_are_undone()
+    ensures undoes { UndoesWhatWasForNothing }
+    ensures decides { FirstEchoDecides }
+    ensures once { NothingIsUndoneTwice }
 {}

@@ -13,7 +13,7 @@ use Rattle.control_wire.specs.declared.seq_number.TcpSeqNumber.{TcpSeqNumber}
 use Rattle.control_wire.specs.declared.tcp.TcpControl.{TcpControl}
 use Rattle.control_wire.specs.declared.tcp.TcpControl.TheVariants as control
 use Rattle.sock_core.specs.Congestion.{bytes_acked, congestion_window, dup_acked, lost, opened, partially_acked}
-use Rattle.sock_core.specs.Congestion.{recovery_window, with_remote_window}
+use Rattle.sock_core.specs.Congestion.{recovery_window, undone, with_remote_window}
 use Rattle.sock_core.specs.Estimator.{Estimator, begun_anew, is_backed_off, retransmitted}
 use Rattle.sock_core.specs.Seq.{is_before, later_of}
 use Rattle.sock_core.specs.declared.congestion.AnyController.{AnyController}
@@ -24,6 +24,7 @@ use Rattle.sock_tcp.specs.Rfc.Scoreboard.{all_told, any_news, highest_told, hole
 use Rattle.sock_tcp.specs.Rfc.Pipe.{has_room, told_before}
 use Rattle.sock_tcp.specs.Rfc.RoundTrips.{echo_of, echo_taken}
 use Rattle.sock_tcp.specs.Rfc.SmallSegments.{larger}
+use Rattle.sock_tcp.specs.Rfc.Undo.{counted_again, is_older, may_undo, nothing_to_undo}
 use Rattle.sock_tcp.specs.Rfc.TailLoss.{is_alone, may_probe, sooner, tail_waits}
 use Rattle.sock_tcp.specs.Steps.{is_duplicate, is_window_changed}
 use Rattle.sock_tcp.specs.Timers.{idle_from, probe_from, retransmit_from}
@@ -39,6 +40,7 @@ use Rattle.sock_tcp.specs.declared.state.State.{State}
 use Rattle.sock_tcp.specs.declared.state.State.TheVariants as state
 use Rattle.sock_tcp.specs.declared.timer.Timer.{Timer}
 use Rattle.sock_tcp.specs.declared.timer.Timer.TheVariants as timer
+use Rattle.sock_tcp.specs.declared.undo.Undo.{Undo}
 
 -- ---- what is kept of the socket as it was before the segment
 
@@ -107,6 +109,20 @@ came_twice (Some ack) v s start end =
     && (is_inside (honored_window v) s.seq_number (length s.payload)
     && tells_twice (first_block s.sack_ranges) v s ack start end)
 
+-- a block of bytes that are acknowledged: so many came twice (RFC 2883, section 4)
+abbrev pub twice_in : TcpSeqNumber → ℕ × ℕ → ℕ
+twice_in ack r =
+    if is_before (seq_of r.0) (seq_of r.1) && not (is_before ack (seq_of r.1)) then seq_sub (seq_of r.1) (seq_of r.0)
+    else 0
+
+abbrev pub is_told_twice : Option TcpSeqNumber → Option (ℕ × ℕ) → ℕ
+is_told_twice (Some ack) (Some r) = twice_in ack r
+is_told_twice ack r = 0
+
+-- how many bytes came twice, as the first block of a segment tells that is taken in this window
+abbrev pub twice_told : View → Segment → ℕ
+twice_told v s = if may_tell v s then is_told_twice s.ack_number (first_block s.sack_ranges) else 0
+
 -- what goes on of a loss, as the segment says: a segment that went out again as a probe, and came twice, was not lost
 abbrev pub unless_twice : Recovery → View → Segment → Recovery
 unless_twice (recovery.Probe start end again) v s =
@@ -127,6 +143,7 @@ before_of v s =
       telling = is_telling v s;
       sacked = sacked_by (is_telling v s) v s;
       echo = echo_of s.timestamp;
+      twice = twice_told v s;
     }
 
 -- ---- duplicates
@@ -321,11 +338,42 @@ gone_on (recovery.Fast point high_rxt resent_at acked) una =
     reached_by una (recovery.Fast point high_rxt resent_at acked) point
 gone_on (recovery.Timeout point) una = reached_by una (recovery.Timeout point) point
 
+-- ---- a recovery that was for nothing
+
+-- the first echo of something new tells whether it was
+abbrev pub is_decided_by : Recovery → Bool
+is_decided_by (recovery.Fast point high_rxt resent_at acked) = true
+is_decided_by (recovery.Timeout point) = true
+is_decided_by _ = false
+
+-- it was: what is acknowledged came of the first sending (RFC 3522, section 3.2)
+abbrev pub undone_by_echo : Before → View → Bool
+undone_by_echo b w = is_news b w && (is_decided_by b.recovery && is_older b.echo w.undo.stamp)
+
+-- where there are no timestamps: all that went out again came twice (RFC 3708, section 3)
+abbrev pub undone_by_blocks : Before → View → Bool
+undone_by_blocks b w = not (is_some b.echo) && (not (w.undo.resent == 0) && nat_le w.undo.resent b.twice)
+
+abbrev pub is_undone : Before → View → Bool
+is_undone b w = may_undo w.undo && (undone_by_echo b w || undone_by_blocks b w)
+
+-- the first echo of something new was heard
+abbrev pub is_decided : Before → View → Bool
+is_decided b w = is_news b w && (is_decided_by b.recovery && is_some b.echo)
+
+abbrev pub undo_after : Before → View → Undo
+undo_after b w = if is_undone b w || is_decided b w then nothing_to_undo else counted_again w.undo b.twice
+
+-- a fast recovery is over then. After a timeout what was sent before it goes out again until it is acknowledged
+abbrev pub spared : Bool → Recovery → Recovery
+spared true (recovery.Fast point high_rxt resent_at acked) = recovery.Open
+spared u r = r
+
 abbrev pub recovery_after : Before → View → Recovery
 recovery_after b w =
     if carries_data w.state
     then (if begins b w then recovery.Fast w.remote_last_seq w.local_seq_no w.remote_last_seq false
-    else gone_on (again b w) w.local_seq_no)
+    else gone_on (spared (is_undone b w) (again b w)) w.local_seq_no)
     else recovery.Open
 
 -- ---- the congestion controller
@@ -395,6 +443,14 @@ controller_after b w now =
     else (if lets_out b w || is_void b w then before_it b w
     else (if is_uncounted b w then dup_acked w.congestion_controller now w.remote_mss (flight w)
     else told_of_bytes b w now))
+
+-- window and threshold are at least as before a recovery that was for nothing (RFC 4015, section 3.2)
+abbrev pub undone_if : Bool → AnyController → Undo → AnyController
+undone_if true c u = undone c u.window u.threshold
+undone_if false c u = c
+
+abbrev pub controller_told : Before → View → Instant → AnyController
+controller_told b w now = undone_if (is_undone b w) (controller_after b w now) w.undo
 
 -- ---- the timer
 
@@ -482,11 +538,12 @@ recovered_from b w now =
       timer = timer_after b w now;
       rtte = estimator_after b w;
       local_rx_dup_acks = duplicates_after b w;
-      pending_fast_retransmit = w.pending_fast_retransmit || marks b w;
-      congestion_controller = controller_after b w now;
+      pending_fast_retransmit = (w.pending_fast_retransmit || marks b w) && not (is_undone b w);
+      congestion_controller = controller_told b w now;
       recovery = recovery_after b w;
       sacked = sacked_after b w;
       largest_window = larger (has_window b.state) w.largest_window w.remote_win_len;
+      undo = undo_after b w;
     }
 
 unfoldable pub recovered : Before → View → Instant → View

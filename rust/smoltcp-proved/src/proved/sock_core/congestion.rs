@@ -79,6 +79,23 @@ impl AnyController {
             AnyController::Reno(reno) => reno.recovery_window(),
         }
     }
+
+    /// The window, in bytes, at which slow start ends. Without congestion control the greatest `usize`.
+    pub fn threshold(&self) -> usize {
+        match self {
+            AnyController::None(_) => usize::MAX,
+            AnyController::Reno(reno) => reno.ssthresh(),
+        }
+    }
+
+    /// A loss of which it was told was none: its window and threshold are at least these, as before it, and a fast
+    /// recovery is over (RFC 4015, section 3.2).
+    pub fn undo(&mut self, window: usize, threshold: usize) {
+        match self {
+            AnyController::None(_) => {}
+            AnyController::Reno(reno) => reno.undo(window, threshold),
+        }
+    }
 }
 
 /// An acknowledgement of zero bytes changes nothing.

@@ -41,6 +41,13 @@ impl Reno {
         if self.in_recovery { self.bounded(self.ssthresh) } else { self.cwnd }
     }
 
+    /// A loss was none: window and threshold are at least these, as before it.
+    pub fn undo(&mut self, window: usize, threshold: usize) {
+        self.cwnd = self.cwnd.max(window);
+        self.ssthresh = self.ssthresh.max(threshold);
+        self.in_recovery = false;
+    }
+
     // At most the peer's window, and at least a segment.
     fn bounded(&self, window: usize) -> usize {
         window.min(self.rwnd).max(self.mss)

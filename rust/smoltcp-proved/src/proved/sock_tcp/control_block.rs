@@ -14,6 +14,7 @@ use crate::proved::sock_tcp::scoreboard::Scoreboard;
 use crate::proved::sock_tcp::state::State;
 use crate::proved::sock_tcp::timer::{AckDelayTimer, Timer};
 use crate::proved::sock_tcp::tuple::Tuple;
+use crate::proved::sock_tcp::undo::Undo;
 
 /// All that a socket keeps but its source of timestamps: the transmission control block (RFC 9293, section 3.3.1).
 #[derive(Debug)]
@@ -99,6 +100,8 @@ pub struct ControlBlock<'a> {
     pub(crate) idle_at: Option<Instant>,
     // the largest SND.WND that was told, by the RFCs' rules
     pub(crate) largest_window: usize,
+    // what undoes a recovery that was for nothing, by the RFCs' rules
+    pub(crate) undo: Undo,
 }
 
 impl<'a> ControlBlock<'a> {

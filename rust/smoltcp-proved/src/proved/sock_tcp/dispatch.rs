@@ -30,7 +30,8 @@ impl<'a> ControlBlock<'a> {
     }
 
     fn move_snd_nxt(&mut self, emitted: &Emitted) {
-        if let Recovery::Fast { .. } = self.recovery {
+        if let Recovery::Fast { .. } | Recovery::Timeout { .. } = self.recovery {
+            self.undo = self.undo.sent(self.recovery, self.remote_last_seq, emitted);
             self.recovery = self.recovery.resent(self.remote_last_seq, emitted);
         }
         self.remote_last_seq = later(self.remote_last_seq, emitted.end);

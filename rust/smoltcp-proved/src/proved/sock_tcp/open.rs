@@ -17,6 +17,7 @@ use crate::proved::sock_tcp::scoreboard::NOTHING_TOLD;
 use crate::proved::sock_tcp::state::State;
 use crate::proved::sock_tcp::timer::{AckDelayTimer, Timer};
 use crate::proved::sock_tcp::tuple::Tuple;
+use crate::proved::sock_tcp::undo::NOTHING_TO_UNDO;
 
 // What a peer is taken to accept before it said more (RFC 9293, section 3.7.1).
 const DEFAULT_MSS: usize = 536;
@@ -71,6 +72,7 @@ impl<'a> ControlBlock<'a> {
             snd_wl2: TcpSeqNumber(0),
             idle_at: None,
             largest_window: 0,
+            undo: NOTHING_TO_UNDO,
         }
     }
 
@@ -104,6 +106,7 @@ impl<'a> ControlBlock<'a> {
         self.snd_wl2 = TcpSeqNumber(0);
         self.idle_at = None;
         self.largest_window = 0;
+        self.undo = NOTHING_TO_UNDO;
     }
 
     pub(crate) fn is_open(&self) -> bool {

@@ -101,6 +101,14 @@ impl<'a> ControlBlock<'a> {
         }
     }
 
+    // The answer to bytes for which there is no place.
+    fn answer_without_place(&self) -> Answer {
+        match self.rules {
+            Rules::Smoltcp => Answer::Nothing,
+            Rules::Rfc => Answer::Ack,
+        }
+    }
+
     // The bytes that the window takes, the first of them so far past RCV.NXT; an ACK tells of a gap.
     #[inline(always)]
     fn take_bytes(&mut self, now: Instant, offset: usize, bytes: &[u8]) -> Answer {
@@ -109,7 +117,7 @@ impl<'a> ControlBlock<'a> {
         }
         let had_no_gap = self.rx_buffer.holds_nothing();
         if !self.join(offset, bytes) {
-            return Answer::Nothing;
+            return self.answer_without_place();
         }
         self.delay_ack(now);
         if had_no_gap && self.rx_buffer.holds_nothing() {

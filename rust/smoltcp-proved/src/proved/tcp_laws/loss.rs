@@ -18,3 +18,9 @@ pub fn scoreboard_follows_segments() {}
 /// it joins the receive queue (`streams::bytes_stay_at_their_places`), so what was told is never taken back while the
 /// connection lasts (RFC 2018, section 8).
 pub fn answers_tell_what_is_held() {}
+
+/// Where a segment shows that a recovery was for nothing, Reno's congestion window and threshold are at least what was
+/// kept of the time before it, and nothing is marked to go out again (RFC 4015, section 3.2). The first echo of something
+/// new decides, whatever it says, and what is decided is never undone: a later echo of the first sending, or a D-SACK,
+/// changes nothing then.
+pub fn recoveries_for_nothing_are_undone() {}
