@@ -66,6 +66,8 @@ READS = {
     "host_index": {"const COUNT: usize = 256;": "const COUNT: usize = crate::kit::KNOWN;"},
     "sock_core": {"    ring: RingBuffer<'a, u8>,": "    pub(crate) ring: RingBuffer<'a, u8>,"},
     "ip_wire": {
+        """total = add_sixty_four(total, bytes, at);
+        total = add_sixty_four(total, bytes, at + 64);""": "total = total + crate::kit::sixteen_le64(bytes, at);",
         """let first = total + le64_at(bytes, at) + le64_at(bytes, at + 8);
     first + le64_at(bytes, at + 16) + le64_at(bytes, at + 24)""": "total + crate::kit::four_le64(bytes, at)",
         "256 * bytes[at] as usize + bytes[at + 1] as usize": "crate::kit::be16(bytes, at) as usize",
@@ -75,6 +77,9 @@ READS = {
         "(le32_at(bytes, at) + 0x1_0000_0000 * le32_at(bytes, at + 4)) as u128": "crate::kit::le64(bytes, at) as u128",
     },
     "bench_parts": {
+        """for i in 0..words {
+            first = first.wrapping_add(word(bytes, 8 * i));""": """for eight in bytes.chunks_exact(8) {
+            first = first.wrapping_add(word(eight, 0));""",
         """let low = half(bytes, at) as u64;
     let high = half(bytes, at + 4) as u64;
     low | (high << 32)""": "crate::kit::le64(bytes, at)",
@@ -106,6 +111,8 @@ LIST = {
              "known keys is crate::kit::KNOWN",
     "renamed": f"of {', '.join(sorted(RENAMED_CRATES))}, methods of buffers whose names smoltcp has for others: "
                + ", ".join(f"{old} -> {new}" for old, new in RENAMED.items()),
+    "rules": "of sock_tcp, self.rules -> crate::kit::in_force(self.rules), where it is read: smoltcp's rules alone, in "
+             "builds without those of the RFCs",
     "address": f"Ipv4Address and Ipv6Address of {ADDRESS_CRATE}: cut, those of core::net in their place; "
                "Ipv4Address(x) -> crate::kit::ipv4(x), and .0 of one -> .octets()",
     "waking": f"of {', '.join(sorted(HOSTS))}, smoltcp_socket:: -> crate::sockets::, sock_tcp:: -> crate::sockets::sock_tcp::",
@@ -439,11 +446,22 @@ def addresses(code, place, crate, root):
     return [Edit(zero.start, zero.end, "octets()", "address")] if lent or one.text in OCTETS else []
 
 
+def rules(code, place, crate):
+    """The edits of a read of a socket's rules."""
+    if crate != "sock_tcp" or [one.text for one in code[place:place + 3]] != ["self", ".", "rules"]:
+        return []
+    last = code[place + 2]
+    if code[place + 3].text == "=" and code[place + 4].text != "=":
+        return []
+    return [Edit(code[place].start, code[place].start, "crate::kit::in_force(", "rules"),
+            Edit(last.end, last.end, ")", "rules")]
+
+
 def words(text, kept, crate, crates, root):
     """The words that stand in place of others, and the cuts that need more than one token to be seen."""
     code, edits = [one for one in kept if one.kind != "comment"], links(kept, crate, root)
     for place, one in enumerate(code[:-1]):
-        edits += of_buffers(code, place, crate)
+        edits += of_buffers(code, place, crate) + rules(code, place, crate)
         if one.text == "#" and code[place + 2].text == "derive":
             edits += derived(code, place)
         elif one.text == "#" and code[place + 2].text == "error":

@@ -29,6 +29,13 @@ pub(crate) fn four_le64(bytes: &[u8], at: usize) -> u128 {
     number(0) + number(8) + number(16) + number(24)
 }
 
+/// The sum of the sixteen numbers of eight bytes from a place on, the same.
+#[inline(always)]
+pub(crate) fn sixteen_le64(bytes: &[u8], at: usize) -> u128 {
+    let all = &bytes[at..at + 128];
+    four_le64(all, 0) + four_le64(all, 32) + four_le64(all, 64) + four_le64(all, 96)
+}
+
 #[cfg(test)]
 mod tests {
     use super::*;
@@ -41,6 +48,9 @@ mod tests {
         assert_eq!(le64(&bytes, 1), 0x0807_0605_0403_0201);
         let mut many = [0xff; 40];
         many[38] = 0;
+        let more: [u8; 136] = core::array::from_fn(|at| at as u8);
+        let sum = (0..16).map(|word| u128::from(le64(&more, 3 + 8 * word))).sum();
+        assert_eq!(sixteen_le64(&more, 3), sum);
         assert_eq!(four_le64(&many, 7), 3 * u128::from(u64::MAX) + 0x00ff_ffff_ffff_ffff);
     }
 

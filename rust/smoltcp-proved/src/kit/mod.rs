@@ -26,7 +26,7 @@ mod string;
 mod vec;
 
 pub use addresses::{ipv4, ipv6};
-pub(crate) use bytes::{be16, be32, four_le64, le16, le32, le64};
+pub(crate) use bytes::{be16, be32, four_le64, le16, le32, le64, sixteen_le64};
 pub use chacha::{rand_chacha, rand_core};
 #[cfg(not(feature = "alloc"))]
 pub(crate) use fixed::KNOWN;
@@ -41,6 +41,12 @@ pub use string::String;
 pub(crate) use vec::KNOWN;
 #[cfg(feature = "alloc")]
 pub use vec::{Kept, Vec};
+
+/// A socket's rules; smoltcp's alone, in a build without the feature `rules-rfc`, which has no code for the others then.
+#[inline(always)]
+pub(crate) fn in_force(rules: crate::proved::sock_tcp::Rules) -> crate::proved::sock_tcp::Rules {
+    if cfg!(feature = "rules-rfc") { rules } else { crate::proved::sock_tcp::Rules::Smoltcp }
+}
 
 /// A vector of one item so many times, as `vec![in alloc; 0u8; 10]`: an error where there is no memory for it.
 #[doc(hidden)]

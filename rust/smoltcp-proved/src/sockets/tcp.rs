@@ -173,6 +173,16 @@ impl<'a, G> Socket<'a, G> {
         self.wakers.register_send(waker);
     }
 
+    /// Chooses the rules of a socket that is not open, as the proved call of this name.
+    ///
+    /// # Panics
+    /// Where they are those of the RFCs, for which this build has no code.
+    #[cfg(not(feature = "rules-rfc"))]
+    pub fn set_rules(&mut self, rules: Rules) -> Result<(), RulesError> {
+        assert!(rules == Rules::Smoltcp, "the rules of the RFCs want the feature rules-rfc");
+        self.proved.set_rules(rules)
+    }
+
     /// Waits for a peer on this endpoint.
     ///
     /// # Errors

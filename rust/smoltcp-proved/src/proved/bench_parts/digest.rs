@@ -32,8 +32,8 @@ impl Digest {
         self.bytes = self.bytes.wrapping_add(bytes.len() as u64);
         let (mut first, mut second) = (self.first, self.second);
         let words = bytes.len() / 8;
-        for i in 0..words {
-            first = first.wrapping_add(word(bytes, 8 * i));
+        for eight in bytes.chunks_exact(8) {
+            first = first.wrapping_add(word(eight, 0));
             second = second.wrapping_add(first);
         }
         self.first = first;

@@ -32,8 +32,7 @@ fn sum_by_eights(start: u64, swapped: u64, bytes: &[u8]) -> u16 {
     let mut total = swapped as u128;
     let mut at = 0;
     while at < bytes.len() / 128 * 128 {
-        total = add_sixty_four(total, bytes, at);
-        total = add_sixty_four(total, bytes, at + 64);
+        total = total + crate::kit::sixteen_le64(bytes, at);
         at += 128;
     }
     while at < bytes.len() / 32 * 32 {

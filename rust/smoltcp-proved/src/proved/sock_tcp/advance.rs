@@ -161,7 +161,9 @@ impl<'a> ControlBlock<'a> {
             (State::Closing, TcpControl::None, true) => self.wait(now),
             (State::Closing, TcpControl::None, false) => Next::Continue,
             (State::LastAck, TcpControl::None, true) => self.end(Next::Continue),
-            (State::LastAck, TcpControl::None, false) if acked.len == 0 => nothing_new(self.rules),
+            (State::LastAck, TcpControl::None, false) if acked.len == 0 => {
+                nothing_new(crate::kit::in_force(self.rules))
+            }
             (State::LastAck, TcpControl::None, false) => Next::Continue,
             _ => Next::Stop,
         }

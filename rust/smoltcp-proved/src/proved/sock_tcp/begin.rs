@@ -39,7 +39,7 @@ impl<'a> ControlBlock<'a> {
         let flight = self.flight();
         self.undo = self.undo.timed_out(self.rules, self.recovery, &self.congestion_controller);
         self.congestion_controller.on_rto(now, flight);
-        self.recovery = self.recovery.timed_out(self.rules, self.remote_last_seq);
+        self.recovery = self.recovery.timed_out(crate::kit::in_force(self.rules), self.remote_last_seq);
         self.sacked = NOTHING_TOLD;
         self.remote_last_seq = self.local_seq_no;
         self.rtte.on_rto();
@@ -56,7 +56,7 @@ impl<'a> ControlBlock<'a> {
     // many segments and has not let it out yet, without what went out beyond the congestion window.
     fn flight_lost(&self) -> usize {
         let flight = self.flight();
-        match self.rules {
+        match crate::kit::in_force(self.rules) {
             Rules::Smoltcp => flight,
             Rules::Rfc => flight.max(self.usable()).min(self.congestion_controller.window()),
         }
@@ -64,7 +64,7 @@ impl<'a> ControlBlock<'a> {
 
     // The timer once a fast retransmission is due.
     fn timer_marked(&self, now: Instant) -> Timer {
-        match self.rules {
+        match crate::kit::in_force(self.rules) {
             Rules::Smoltcp => Timer::idle(now, self.keep_alive),
             Rules::Rfc => Timer::retransmit(now, &self.rtte),
         }
@@ -82,8 +82,8 @@ impl<'a> ControlBlock<'a> {
 
     // A window is to be probed for: by the RFCs' rules with the byte at SND.UNA.
     fn begin_probe(&mut self) {
-        if let Rules::Rfc = self.rules {
-            self.recovery = self.recovery.timed_out(self.rules, self.remote_last_seq);
+        if let Rules::Rfc = crate::kit::in_force(self.rules) {
+            self.recovery = self.recovery.timed_out(crate::kit::in_force(self.rules), self.remote_last_seq);
             self.remote_last_seq = self.local_seq_no;
             self.rtte.on_retransmit();
         }
@@ -140,7 +140,7 @@ impl<'a> ControlBlock<'a> {
     // Nothing is due: TIME-WAIT may be over.
     fn end_time_wait(&mut self, now: Instant) {
         if self.timer.is_close_over(now) {
-            match self.rules {
+            match crate::kit::in_force(self.rules) {
                 Rules::Smoltcp => self.reset(),
                 // What was received can be read.
                 Rules::Rfc => self.drop_connection(),

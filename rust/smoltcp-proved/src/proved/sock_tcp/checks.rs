@@ -109,7 +109,7 @@ impl<'a> ControlBlock<'a> {
     // By the socket's rules.
     #[inline(always)]
     pub(crate) fn verdict_by_rules(&self, now: Instant, repr: &TcpRepr<'_>) -> Verdict {
-        match self.rules {
+        match crate::kit::in_force(self.rules) {
             Rules::Smoltcp => self.verdict(repr.control, repr.ack_number),
             Rules::Rfc => self.checked_verdict(now, repr),
         }

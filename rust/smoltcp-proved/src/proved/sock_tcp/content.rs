@@ -47,7 +47,7 @@ impl<'a> ControlBlock<'a> {
 
     // What a fast retransmission sends again; where there is none, the segment at SND.UNA.
     pub(crate) fn hole(&self) -> Option<Hole> {
-        match self.rules {
+        match crate::kit::in_force(self.rules) {
             Rules::Smoltcp => None,
             Rules::Rfc => {
                 hole_within(self.recovery.next_hole(&self.sacked, self.local_seq_no), self.remote_win_len)
@@ -60,7 +60,7 @@ impl<'a> ControlBlock<'a> {
         let hole = self.hole();
         let queued = self.tx_buffer.len();
         let size = hole_size(&hole, queued, mss);
-        match self.rules {
+        match crate::kit::in_force(self.rules) {
             Rules::Smoltcp => size,
             Rules::Rfc => {
                 let left = self.remote_win_len.saturating_sub(hole_start(&hole, queued));

@@ -47,7 +47,7 @@ impl<'a> ControlBlock<'a> {
     // What the first two duplicates let out beyond the congestion window, a segment each (RFC 3042), or a tail-loss
     // probe of new bytes.
     fn limited(&self) -> usize {
-        match (self.rules, self.recovery) {
+        match (crate::kit::in_force(self.rules), self.recovery) {
             (Rules::Rfc, Recovery::Probe { again: false, .. }) => self.remote_mss,
             (Rules::Rfc, Recovery::Open) | (Rules::Rfc, Recovery::Probe { .. }) => {
                 (self.local_rx_dup_acks.min(2) as usize) * self.remote_mss
@@ -59,7 +59,7 @@ impl<'a> ControlBlock<'a> {
     // What the congestion window leaves. By smoltcp's rules, which each dispatch asks, this spares a call of its own.
     #[inline(always)]
     pub(crate) fn congestion_left(&self) -> usize {
-        match self.rules {
+        match crate::kit::in_force(self.rules) {
             Rules::Smoltcp => {
                 let window = self.congestion_controller.window();
                 window.saturating_sub(self.flight())

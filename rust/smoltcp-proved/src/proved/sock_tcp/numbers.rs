@@ -16,7 +16,7 @@ impl<'a> ControlBlock<'a> {
     // The number of a segment that has the number `otherwise` else.
     #[inline(always)]
     fn number_out(&self, is_bare: bool, otherwise: TcpSeqNumber) -> TcpSeqNumber {
-        match self.rules {
+        match crate::kit::in_force(self.rules) {
             Rules::Rfc if is_bare => self.highest_number(),
             _ => otherwise,
         }

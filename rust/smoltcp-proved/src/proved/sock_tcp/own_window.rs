@@ -41,7 +41,7 @@ impl<'a> ControlBlock<'a> {
     // The window field of every segment but a SYN.
     #[inline(always)]
     pub(crate) fn window_field(&self) -> u16 {
-        match self.rules {
+        match crate::kit::in_force(self.rules) {
             Rules::Smoltcp => self.space_field(),
             Rules::Rfc => self.rfc_field(),
         }
@@ -50,7 +50,7 @@ impl<'a> ControlBlock<'a> {
     // Whether the right edge that is told may move on.
     #[inline(always)]
     pub(crate) fn may_grow(&self) -> bool {
-        match self.rules {
+        match crate::kit::in_force(self.rules) {
             Rules::Smoltcp => true,
             Rules::Rfc => self.is_grown(),
         }

@@ -44,7 +44,7 @@ impl<'a> ControlBlock<'a> {
     // A segment that is heard becomes the one that told the window, unless it is older.
     #[inline(always)]
     pub(crate) fn note_window(&mut self, repr: &TcpRepr<'_>) {
-        if let Rules::Rfc = self.rules {
+        if let Rules::Rfc = crate::kit::in_force(self.rules) {
             self.note_newer(repr);
         }
     }

@@ -106,7 +106,7 @@ impl Before {
 impl<'a> ControlBlock<'a> {
     // A recovery counts what is in the network, where the peer tells by SACK.
     pub(crate) fn is_counted(&self) -> bool {
-        match (self.rules, self.recovery) {
+        match (crate::kit::in_force(self.rules), self.recovery) {
             (Rules::Rfc, Recovery::Fast { .. }) => self.remote_has_sack,
             _ => false,
         }

@@ -214,7 +214,7 @@ impl<'a> ControlBlock<'a> {
         ip_repr: &IpRepr,
         repr: &TcpRepr<'_>,
     ) -> Answer {
-        match self.rules {
+        match crate::kit::in_force(self.rules) {
             Rules::Smoltcp => {
                 let window = self.receive_window();
                 self.process_passed(cx, now, window, ip_repr, repr)

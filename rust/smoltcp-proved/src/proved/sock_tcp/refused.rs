@@ -91,7 +91,7 @@ impl<'a> ControlBlock<'a> {
         ip_repr: &IpRepr,
         repr: &TcpRepr<'_>,
     ) -> Answer {
-        match self.rules {
+        match crate::kit::in_force(self.rules) {
             Rules::Smoltcp => self.answer_outside(now, repr),
             Rules::Rfc => self.refuse_by_rfc(cx, now, window, ip_repr, repr),
         }

@@ -94,7 +94,7 @@ impl<'a> ControlBlock<'a> {
 impl<'a> ControlBlock<'a> {
     // What the timestamp of a reply echoes: what came, or by the RFCs' rules TS.Recent (RFC 7323, section 4.3).
     fn echoed(&self, came: Option<TcpTimestampRepr>) -> Option<u32> {
-        match (self.rules, came) {
+        match (crate::kit::in_force(self.rules), came) {
             (Rules::Rfc, _) => Some(self.last_remote_tsval),
             (Rules::Smoltcp, Some(came)) => Some(came.tsval),
             (Rules::Smoltcp, None) => None,

@@ -45,7 +45,7 @@ impl<'a> ControlBlock<'a> {
     // Something goes out that takes numbers: it is timed, and by the RFCs' rules the socket was idle no longer.
     #[inline(always)]
     pub(crate) fn measure_sending(&mut self, now: Instant, emitted: &Emitted) {
-        match self.rules {
+        match crate::kit::in_force(self.rules) {
             Rules::Smoltcp => self.rtte.on_send(now, emitted.end),
             Rules::Rfc => {
                 self.restart_if_idle(now);

@@ -57,7 +57,7 @@ impl<'a> ControlBlock<'a> {
 
     #[inline(always)]
     pub(crate) fn is_cut_short(&self, out: usize, mss: usize) -> bool {
-        match self.rules {
+        match crate::kit::in_force(self.rules) {
             Rules::Smoltcp => false,
             Rules::Rfc => self.is_cut(out, mss),
         }
@@ -72,7 +72,7 @@ impl<'a> ControlBlock<'a> {
     // spares a call of its own.
     #[inline(always)]
     pub(crate) fn held_poll(&self) -> PollAt {
-        match self.rules {
+        match crate::kit::in_force(self.rules) {
             Rules::Smoltcp => self.ack_poll(),
             Rules::Rfc => self.held_by_rfc(),
         }

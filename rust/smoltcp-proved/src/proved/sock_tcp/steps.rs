@@ -92,7 +92,7 @@ impl<'a> ControlBlock<'a> {
     }
 
     fn take_timestamp(&mut self, repr: &TcpRepr<'_>) {
-        match (repr.timestamp, self.rules) {
+        match (repr.timestamp, crate::kit::in_force(self.rules)) {
             (None, _) => {}
             (Some(_), Rules::Rfc) if !self.moves_recent(repr) => {}
             (Some(timestamp), _) => self.last_remote_tsval = timestamp.tsval,

@@ -108,7 +108,7 @@ impl<'a> ControlBlock<'a> {
 
     // A probe goes out where the retransmission timer is over.
     pub(crate) fn may_probe_now(&self) -> bool {
-        match self.rules {
+        match crate::kit::in_force(self.rules) {
             Rules::Smoltcp => false,
             Rules::Rfc => self.may_probe(self.recovery),
         }
@@ -127,7 +127,7 @@ impl<'a> ControlBlock<'a> {
 
     // A segment with so many numbers went out: a probe is waited for from now on, and no longer than before.
     pub(crate) fn arm_tail(&mut self, now: Instant, len: usize) {
-        let may = match self.rules {
+        let may = match crate::kit::in_force(self.rules) {
             Rules::Smoltcp => false,
             Rules::Rfc => len != 0 && self.may_probe(self.recovery),
         };

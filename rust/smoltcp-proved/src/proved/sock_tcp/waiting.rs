@@ -91,7 +91,7 @@ impl<'a> ControlBlock<'a> {
     // The timer once that of a retransmission is over: a window is probed for where there is none, and bytes wait.
     #[inline(always)]
     pub(crate) fn timer_begun(&self, now: Instant) -> Timer {
-        match self.rules {
+        match crate::kit::in_force(self.rules) {
             Rules::Rfc if self.remote_win_len == 0 && !self.tx_buffer.is_empty() => {
                 Timer::probe(now, &self.rtte)
             }

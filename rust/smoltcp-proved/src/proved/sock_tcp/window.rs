@@ -125,7 +125,7 @@ impl<'a> ControlBlock<'a> {
 
     // The window in which a segment is taken, by the socket's rules.
     pub(crate) fn accepted_window(&self) -> Window {
-        match self.rules {
+        match crate::kit::in_force(self.rules) {
             Rules::Smoltcp => self.receive_window(),
             Rules::Rfc => self.honored_window(),
         }
