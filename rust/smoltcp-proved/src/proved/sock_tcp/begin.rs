@@ -37,7 +37,8 @@ impl<'a> ControlBlock<'a> {
     // that stays over would want the next dispatch at once, again and again.
     fn begin_retransmission(&mut self, now: Instant) {
         let flight = self.flight();
-        self.undo = self.undo.timed_out(self.rules, self.recovery, &self.congestion_controller);
+        self.undo =
+            self.undo.timed_out(crate::kit::in_force(self.rules), self.recovery, &self.congestion_controller);
         self.congestion_controller.on_rto(now, flight);
         self.recovery = self.recovery.timed_out(crate::kit::in_force(self.rules), self.remote_last_seq);
         self.sacked = NOTHING_TOLD;
@@ -73,7 +74,7 @@ impl<'a> ControlBlock<'a> {
     // A fast retransmission is marked.
     fn mark_fast_retransmission(&mut self, now: Instant) {
         let flight = self.flight_lost();
-        self.undo = self.undo.marked(self.rules, &self.congestion_controller);
+        self.undo = self.undo.marked(crate::kit::in_force(self.rules), &self.congestion_controller);
         self.congestion_controller.on_loss(now, flight);
         self.pending_fast_retransmit = true;
         self.rtte.on_retransmit();

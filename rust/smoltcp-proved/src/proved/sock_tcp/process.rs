@@ -103,7 +103,7 @@ impl<'a> ControlBlock<'a> {
 
     // The answer to bytes for which there is no place.
     fn answer_without_place(&self) -> Answer {
-        match self.rules {
+        match crate::kit::in_force(self.rules) {
             Rules::Smoltcp => Answer::Nothing,
             Rules::Rfc => Answer::Ack,
         }
