@@ -45,7 +45,7 @@ impl Context for Side {
         Some(self.addr)
     }
     fn get_source_address_ipv6(&self, _dst: &Ipv6Address) -> Ipv6Address {
-        Ipv6Address([0; 16])
+        Ipv6Address::UNSPECIFIED
     }
     fn is_broadcast(&self, _addr: &IpAddress) -> bool {
         false
@@ -149,8 +149,8 @@ fn main() {
     for [sockets, sleepers, conversations] in SIZES {
         let (clients, servers) = if together { (sockets - sleepers, sockets) } else { (1, 1) };
         let mut work = Work::new(conversations * share / 1000);
-        let mut client: Vec<End> = (0..clients).map(|_| End::new(Ipv4Address([10, 0, 0, 1]), Role::Client)).collect();
-        let mut server: Vec<End> = (0..servers).map(|_| End::new(Ipv4Address([10, 0, 0, 2]), Role::Server)).collect();
+        let mut client: Vec<End> = (0..clients).map(|_| End::new(Ipv4Address::new(10, 0, 0, 1), Role::Client)).collect();
+        let mut server: Vec<End> = (0..servers).map(|_| End::new(Ipv4Address::new(10, 0, 0, 2), Role::Server)).collect();
         let mut idle: Vec<usize> = (0..clients).collect();
         let mut rested: VecDeque<usize> = (0..servers).collect();
         let mut pairs: Vec<Pair> = Vec::new();

@@ -34,7 +34,7 @@ struct Host {
 
 impl Host {
     fn v4(&self) -> Ipv4Address {
-        Ipv4Address([10, 0, 0, self.last])
+        Ipv4Address::new(10, 0, 0, self.last)
     }
 }
 
@@ -52,7 +52,7 @@ impl Context for Host {
         Some(self.v4())
     }
     fn get_source_address_ipv6(&self, _dst: &Ipv6Address) -> Ipv6Address {
-        Ipv6Address([0; 16])
+        Ipv6Address::UNSPECIFIED
     }
     fn is_broadcast(&self, _addr: &IpAddress) -> bool {
         false

@@ -10,9 +10,9 @@ use smoltcp_proved::proved::bench_parts::clock::Clock;
 use smoltcp_proved::proved::host_context::Seeded;
 use smoltcp_proved::kit::HostRuntime;
 use smoltcp_proved::proved::net_host::{GuardSettings, Interface, IpCidr, SocketHandle, SocketSet};
-use smoltcp_proved::proved::smoltcp_socket::Socket;
+use smoltcp_proved::sockets::Socket;
 use smoltcp_proved::proved::smoltcp_socket::storage::RingBuffer;
-use smoltcp_proved::proved::smoltcp_socket::tcp;
+use smoltcp_proved::sockets::tcp;
 use smoltcp_proved::proved::smoltcp_socket::time::{Duration, Instant};
 use smoltcp_proved::proved::smoltcp_socket::wire::*;
 
@@ -32,7 +32,7 @@ struct Host {
 type Packets = Vec<Vec<u8>>;
 
 fn address(last: u8) -> Ipv4Address {
-    Ipv4Address([10, 0, 0, last])
+    Ipv4Address::new(10, 0, 0, last)
 }
 
 impl Host {

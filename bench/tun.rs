@@ -79,7 +79,7 @@ impl Context for Host {
         Some(self.addr)
     }
     fn get_source_address_ipv6(&self, _dst: &Ipv6Address) -> Ipv6Address {
-        Ipv6Address([0; 16])
+        Ipv6Address::UNSPECIFIED
     }
     fn is_broadcast(&self, _addr: &IpAddress) -> bool {
         false
@@ -180,7 +180,7 @@ fn main() {
     let (seconds, kb): (i64, usize) = (words[2].parse().expect("seconds"), words[4].parse().expect("KB"));
     let mut tun = device(&words[0]);
     println!("up");
-    let addr = Ipv4Address(octets.try_into().expect("four octets"));
+    let addr = Ipv4Address::from(<[u8; 4]>::try_from(octets).expect("four octets"));
     let mut host = Host { now: micros(), addr, word: u64::from(std::process::id()) };
     let mut buffers = vec![0u8; 4 * kb << 10];
     let mut pieces = buffers.chunks_exact_mut(kb << 10);

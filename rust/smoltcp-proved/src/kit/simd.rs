@@ -13,14 +13,14 @@ pub mod prelude {
     #[derive(Debug, Clone, Copy, PartialEq, Eq)]
     pub struct u8x16([u64; 2]);
 
-    /// One answer for each of sixteen bytes: the bits of a number, the first byte's the lowest.
-    #[derive(Debug, Clone, Copy, PartialEq, Eq)]
-    pub struct Mask(u64);
+    /// One answer for each of sixteen bytes: the upper bit of each byte of two numbers.
+    #[derive(Debug, Clone, Copy)]
+    pub struct Mask([u64; 2]);
 
     // The upper bit of each byte as the lowest eight bits. No two of the product's terms meet.
     #[inline(always)]
     fn gathered(bits: u64) -> u64 {
-        ((bits & UPPER) >> 7).wrapping_mul(0x0102_0408_1020_4080) >> 56
+        (bits >> 7).wrapping_mul(0x0102_0408_1020_4080) >> 56
     }
 
     // The upper bit of each byte that is the other's.
@@ -53,8 +53,7 @@ pub mod prelude {
 
         #[inline(always)]
         fn mask(self, other: u8x16, holds: impl Fn(u64, u64) -> u64) -> Mask {
-            let half = |at: usize| gathered(holds(self.0[at], other.0[at]));
-            Mask(half(0) | half(1) << 8)
+            Mask([0, 1].map(|at| holds(self.0[at], other.0[at]) & UPPER))
         }
 
         /// Which bytes are the other's.
@@ -77,10 +76,11 @@ pub mod prelude {
     }
 
     impl Mask {
-        /// The answers as bits.
+        /// The answers as bits of a number, the first byte's the lowest. Mostly there is none.
         #[inline(always)]
         pub fn to_bitmask(self) -> u64 {
-            self.0
+            let Mask([low, high]) = self;
+            if low | high == 0 { 0 } else { gathered(low) | gathered(high) << 8 }
         }
     }
 
@@ -89,7 +89,7 @@ pub mod prelude {
 
         #[inline(always)]
         fn bitor(self, other: Mask) -> Mask {
-            Mask(self.0 | other.0)
+            Mask([self.0[0] | other.0[0], self.0[1] | other.0[1]])
         }
     }
 }
