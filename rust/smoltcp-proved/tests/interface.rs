@@ -299,3 +299,27 @@ fn an_echo_socket_has_its_messages() {
     repr.emit(&mut Icmpv4Packet::new_unchecked(payload), &Default::default());
     assert_eq!(socket.send_queue(), 9);
 }
+
+/// No setting that a program did not make ends a connection, as in smoltcp.
+#[test]
+fn a_silent_connection_stays() {
+    let mut device = Loopback::new(Medium::Ip);
+    let mut iface = interface(&mut device);
+    let mut sockets = SocketSet::new(vec![]);
+    let (server, client) = (sockets.add(tcp_socket()), sockets.add(tcp_socket()));
+    sockets.get_mut::<tcp::Socket>(server).listen(80).expect("listens");
+    let socket = sockets.get_mut::<tcp::Socket>(client);
+    socket.set_timeout(Some(Duration::from_secs(3000)));
+    socket.connect(iface.context(), (HERE, 80), 49152).expect("connects");
+    for seconds in 0..1200 {
+        for millis in [0, 10, 20, 30] {
+            let now = Instant::from_secs(seconds) + Duration::from_millis(millis);
+            iface.poll(now, &mut device, &mut sockets);
+        }
+    }
+    for handle in [server, client] {
+        assert_eq!(sockets.get::<tcp::Socket>(handle).state(), tcp::State::Established);
+    }
+    assert_eq!(sockets.get::<tcp::Socket>(client).timeout(), Some(Duration::from_secs(3000)));
+    assert_eq!(sockets.get::<tcp::Socket>(server).timeout(), None);
+}
