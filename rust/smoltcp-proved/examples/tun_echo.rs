@@ -5,6 +5,7 @@
 //! makes the device, which then has to be given the address 10.9.0.1/24 and set up, and ends after so many seconds.
 use smoltcp_proved::iface::{Config, Interface, SocketHandle, SocketSet};
 use smoltcp_proved::phy::{Device, DeviceCapabilities, Medium, TunTapInterface, wait};
+use smoltcp_proved::proved::net_host::GuardSettings;
 use smoltcp_proved::socket::tcp::{RecvError, Rules, Socket, State};
 use smoltcp_proved::socket::{tcp, udp};
 use smoltcp_proved::time::{Duration, Instant};
@@ -118,6 +119,8 @@ fn host(device: &mut Network, now: Instant) -> io::Result<Interface> {
     File::open("/dev/urandom")?.read_exact(&mut secret)?;
     config.secret = Some(secret);
     let mut iface = Interface::new(config, device, now);
+    // ends connections whose peers keep them waiting
+    iface.host_mut().set_guards(GuardSettings::new());
     iface.update_ip_addrs(|addrs| {
         addrs.push(IpCidr::new(IpAddress::v4(10, 9, 0, 2), 24)).expect("room for an address");
     });

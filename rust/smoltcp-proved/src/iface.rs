@@ -150,7 +150,9 @@ impl Interface {
     /// # Panics
     /// Where the device carries something else than IP packets.
     pub fn new(config: Config, device: &mut (impl Device + ?Sized), now: Instant) -> Interface {
-        let host = net_host::Interface::new(crate::kit::Vec::new(Global), Secret::new(config.key()));
+        let mut host = net_host::Interface::new(crate::kit::Vec::new(Global), Secret::new(config.key()));
+        // as smoltcp's connections, which last as long as their sockets' own settings say
+        host.set_guards(net_host::GuardSettings::off());
         let hardware_addr = config.hardware_addr;
         let medium = device.capabilities().medium;
         assert!(medium == Medium::Ip, "The hardware address does not match the medium of the interface.");
@@ -197,7 +199,7 @@ impl Interface {
         self.hardware_addr = addr;
     }
 
-    /// The host below, with what it has beyond smoltcp: guards, SYN cookies, counters.
+    /// The host below, with what it has beyond smoltcp: guards that end connections (off), SYN cookies (off), counters.
     pub fn host_mut(&mut self) -> &mut net_host::Interface<Secret> {
         &mut self.host
     }

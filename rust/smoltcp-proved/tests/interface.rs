@@ -299,3 +299,58 @@ fn an_echo_socket_has_its_messages() {
     repr.emit(&mut Icmpv4Packet::new_unchecked(payload), &Default::default());
     assert_eq!(socket.send_queue(), 9);
 }
+
+/// No setting that a program did not make ends a connection, as in smoltcp.
+#[test]
+fn a_silent_connection_stays() {
+    let mut device = Loopback::new(Medium::Ip);
+    let mut iface = interface(&mut device);
+    let mut sockets = SocketSet::new(vec![]);
+    let (server, client) = (sockets.add(tcp_socket()), sockets.add(tcp_socket()));
+    sockets.get_mut::<tcp::Socket>(server).listen(80).expect("listens");
+    let socket = sockets.get_mut::<tcp::Socket>(client);
+    socket.set_timeout(Some(Duration::from_secs(3000)));
+    socket.connect(iface.context(), (HERE, 80), 49152).expect("connects");
+    for seconds in 0..1200 {
+        for millis in [0, 10, 20, 30] {
+            let now = Instant::from_secs(seconds) + Duration::from_millis(millis);
+            iface.poll(now, &mut device, &mut sockets);
+        }
+    }
+    for handle in [server, client] {
+        assert_eq!(sockets.get::<tcp::Socket>(handle).state(), tcp::State::Established);
+    }
+    assert_eq!(sockets.get::<tcp::Socket>(client).timeout(), Some(Duration::from_secs(3000)));
+    assert_eq!(sockets.get::<tcp::Socket>(server).timeout(), None);
+}
+
+/// A ping of an own address over a loopback: the socket hears its own request, and then the answer, as in smoltcp.
+#[test]
+fn an_own_address_answers_pings() {
+    for (own, is_v4) in [(HERE, true), (IpAddress::v6(0, 0, 0, 0, 0, 0, 0, 1), false)] {
+        let mut device = Loopback::new(Medium::Ip);
+        let mut iface = interface(&mut device);
+        let buffer = || icmp::PacketBuffer::new(vec![icmp::PacketMetadata::EMPTY; 4], vec![0; 400]);
+        let mut sockets = SocketSet::new(vec![]);
+        let handle = sockets.add(icmp::Socket::new(buffer(), buffer()));
+        let socket = sockets.get_mut::<icmp::Socket>(handle);
+        socket.bind(icmp::Endpoint::Ident(7)).expect("binds");
+        let caps = device.capabilities().checksum;
+        let addr = Ipv6Address::LOCALHOST;
+        if is_v4 {
+            let repr = Icmpv4Repr::EchoRequest { ident: 7, seq_no: 1, data: b"ping" };
+            let room = socket.send(repr.buffer_len(), own).expect("room");
+            repr.emit(&mut Icmpv4Packet::new_unchecked(room), &caps);
+        } else {
+            let repr = Icmpv6Repr::EchoRequest { ident: 7, seq_no: 1, data: b"ping" };
+            let room = socket.send(repr.buffer_len(), own).expect("room");
+            repr.emit(&addr, &addr, &mut Icmpv6Packet::new_unchecked(room), &caps);
+        }
+        for millis in 0..5 {
+            iface.poll(Instant::from_millis(millis), &mut device, &mut sockets);
+        }
+        let socket = sockets.get_mut::<icmp::Socket>(handle);
+        let kinds: Vec<u8> = std::iter::from_fn(|| socket.recv().ok().map(|(bytes, _)| bytes[0])).collect();
+        assert_eq!(kinds, if is_v4 { [8, 0] } else { [128, 129] });
+    }
+}
