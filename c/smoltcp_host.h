@@ -35,7 +35,7 @@ extern "C" {
 
 /* Memory for a host, for these calls alone; from smoltcp_host_init on it stays where it is. It lies at a multiple of
  * 16, as the compiler and malloc put it, since the library has numbers of 128 bits in it. */
-enum { SMOLTCP_HOST_SIZE = 1200, SMOLTCP_HOST_RESETS = 4 };
+enum { SMOLTCP_HOST_SIZE = 1248, SMOLTCP_HOST_RESETS = 4 };
 struct smoltcp_host {
     union { uint64_t opaque[SMOLTCP_HOST_SIZE / 8]; long double aligned; } memory;
     uint64_t mark; /* of a host that init made here */
@@ -319,9 +319,8 @@ int64_t smoltcp_host_capacity(const struct smoltcp_host *host, size_t *out);
 int64_t smoltcp_host_at(const struct smoltcp_host *host, size_t index, struct smoltcp_socket_id *out);
 
 /* Writes the first place from one on whose socket may have changed since emit last asked it into out, and answers 1: it
- * took a TCP segment, or was lent or put in. 0 where there is none, with out as it was. So between receive and emit a
- * program need not look at each of its connections. Datagrams and messages mark no socket. All places of a new host are
- * marked, as is one whose socket was removed.
+ * took a packet, or was lent or put in. 0 where there is none, with out as it was. So between receive and emit a
+ * program need not look at each of its sockets. All places of a new host are marked, as is one whose socket was removed.
  *
  * Errors: SMOLTCP_ERROR_NULL. */
 int64_t smoltcp_host_touched(const struct smoltcp_host *host, size_t from, size_t *out);

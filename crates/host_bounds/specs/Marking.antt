@@ -23,6 +23,9 @@ pub record Clears (place : ℕ) (ws us : List ℕ) : Type 0 where
 abbrev pub IsFull : List ℕ → Type 0
 IsFull ws = All (λ w. w ≡ 18446744073709551615) ws
 
+abbrev pub IsEmpty : List ℕ → Type 0
+IsEmpty ws = All (λ w. w ≡ 0) ws
+
 -- each bit that there is is a one
 abbrev pub AllMarked : List ℕ → Type 0
 AllMarked ws = (k : ℕ) → k / 64 < length ws → bit_of ws k ≡ 1

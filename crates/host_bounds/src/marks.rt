@@ -1,7 +1,7 @@
 //! Bits of many places, in words of 64, and of each word whether it is not 0.
 ghost use Rattle.std.specs.Prelude.{ℕ, ◌≡◌, ◌+◌, ◌*◌, ◌<◌, ◌≤◌, ◌/◌, IfOk, length, nat_eq, true};
 ghost use Rattle.std.specs.Int.{bit_at};
-ghost use Rattle.host_bounds.specs.Marking.{AllMarked, Clears, FindsOne, IsBusy, IsFull, IsNextMark, Sets, bit_of};
+ghost use Rattle.host_bounds.specs.Marking.{AllMarked, Clears, FindsOne, IsBusy, IsEmpty, IsFull, IsNextMark, Sets, bit_of};
 
 use std::alloc::{AllocError, Global};
 use std::marker::Model;
@@ -32,6 +32,7 @@ impl Model for Marks {
 impl Marks {
     /// Marks of so many places, each of which is marked. They take 1/8 byte a place.
     pub fn new(alloc: Global, count: usize) -> Result<Marks, AllocError>
+        ensures len { IfOk result (λ m. length m ≡ count / 64 + 1) }
         ensures room { IfOk result (λ m. count / 64 < length m) }
         ensures marked { IfOk result (λ m. AllMarked m) }
     {
@@ -65,6 +66,15 @@ impl Marks {
     {
         set_all(&mut self.places);
         set_all(&mut self.words);
+    }
+
+    /// No place is marked.
+    pub fn clear(&mut self)
+        ensures len { length self.new ≡ length self.old }
+        ensures none { (k : ℕ) → bit_of self.new k ≡ 0 }
+    {
+        clear_all(&mut self.places);
+        clear_all(&mut self.words);
     }
 
     /// Whether this place is marked; none is that is not there.
@@ -103,6 +113,14 @@ fn set_all(words: &mut Vec<u64>)
     ensures ones { IsFull words.new.items }
 {
     words.fill(u64::MAX);
+}
+
+// All bits are zeros now.
+fn clear_all(words: &mut Vec<u64>)
+    ensures len { length words.new.items ≡ length words.old.items }
+    ensures zeros { IsEmpty words.new.items }
+{
+    words.fill(0);
 }
 
 // The bit of this place is a one now.

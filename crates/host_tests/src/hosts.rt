@@ -57,6 +57,10 @@ pub(crate) fn listen(host: &mut OneSocket<'_>) {
 }
 
 pub(crate) fn connect(host: &mut OneSocket<'_>) {
+    connect_from(host, 49152);
+}
+
+pub(crate) fn connect_from(host: &mut OneSocket<'_>, own: u16) {
     let Host {
         interface,
         sockets,
@@ -67,7 +71,7 @@ pub(crate) fn connect(host: &mut OneSocket<'_>) {
         port: 7,
     };
     if let Some(socket) = sockets.tcp_mut(*handle) {
-        let _ = socket.connect(interface.context(), remote, port(49152));
+        let _ = socket.connect(interface.context(), remote, port(own));
     }
 }
 

@@ -8,6 +8,8 @@ mod datagrams;
 #[cfg(test)]
 mod devices;
 #[cfg(test)]
+mod ends;
+#[cfg(test)]
 mod hosts;
 #[cfg(test)]
 mod limits;

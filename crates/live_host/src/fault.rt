@@ -8,7 +8,7 @@ use thiserror::Error;
 /// Why the program failed.
 #[derive(Debug, Drop, Error)]
 pub enum Fault {
-    #[error("usage: live_host ADDRESS [SEED [RULES [SOCKETS]]]; --help says more")]
+    #[error("usage: live_host ADDRESS [SEED [RULES [SOCKETS [BUFFER]]]]; --help says more")]
     Usage,
     #[error(transparent)]
     Pcap(PcapError),

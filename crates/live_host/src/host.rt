@@ -195,6 +195,16 @@ impl LiveHost<'_> {
         }
     }
 
+    // Whether it is the one that listens for a service.
+    fn is_listener(&self, place: usize) -> bool {
+        for listener in &self.listeners {
+            if *listener == Some(place) {
+                return true;
+            }
+        }
+        false
+    }
+
     fn state(&self, place: usize) -> Option<State> {
         match self.sockets.get(self.slots.get(place)?.handle)? {
             Socket::Tcp(socket) => Some(socket.state()),
@@ -230,7 +240,9 @@ impl LiveHost<'_> {
         kept
     }
 
-    // Of the next few of these places the first that is closed, else the first in TIME-WAIT; and where to go on.
+    // Of the next few of these places the first that is closed or whose handshake was given up, else the first in
+    // TIME-WAIT; and where to go on. So no socket stays with the service that it listened for last: SYNs to one port
+    // take none from the others for longer than a handshake may last.
     fn spare_between(&self, start: usize, end: usize, next: usize) -> (Option<usize>, usize) {
         let (mut place, mut resting) = (next, None);
         for _ in 0..LOOKS.min(end.saturating_sub(start)) {
@@ -242,6 +254,7 @@ impl LiveHost<'_> {
             };
             match self.state(here) {
                 Some(State::Closed) => return (Some(here), place),
+                Some(State::Listen) if !self.is_listener(here) => return (Some(here), place),
                 Some(State::TimeWait) if resting.is_none() => resting = Some(here),
                 _ => {}
             }

@@ -1,8 +1,8 @@
 //! An IP host on a stream of packets: it reads packets as a pcap stream and writes its own as another. The time is
 //! that of the records, so it needs neither a clock nor a device, and a recorded session can be replayed.
 //!
-//! `live_host ADDRESS [SEED [RULES [SOCKETS]]]`: its IPv4 address, what its initial sequence numbers are made of, the
-//! rules of its TCP sockets, and how many of them it has.
+//! `live_host ADDRESS [SEED [RULES [SOCKETS [BUFFER]]]]`: its IPv4 address, what its initial sequence numbers are made
+//! of, the rules of its TCP sockets, how many of them it has, and how large their buffers are.
 #![tactic(auto)]
 
 mod clock;
@@ -19,7 +19,7 @@ mod slot;
 
 use crate::fault::Fault;
 use crate::host::Counts;
-use crate::run::{MOST_SOCKETS, Setup, run};
+use crate::run::{LARGE_BUFFER, LEAST_BUFFER, MOST_SOCKETS, Setup, run};
 use smoltcp_socket::tcp::Rules;
 use smoltcp_socket::wire::Ipv4Address;
 use std::io::BufReader;
@@ -28,7 +28,7 @@ use std::{env, io};
 
 // What `--help` prints.
 const HELP: &str = "\
-usage: live_host ADDRESS [SEED [RULES [SOCKETS]]]
+usage: live_host ADDRESS [SEED [RULES [SOCKETS [BUFFER]]]]
 
 Is a host of this IPv4 address, as 10.9.0.2, and of the IPv6 address fd00::
 that ends in it. Reads the packets that come to it as a pcap stream (raw IP)
@@ -42,6 +42,7 @@ SOCKETS  how many TCP sockets it has: 4 to 10000, 32 where it is left out; each
          has two buffers of 64 KB, or of 8 KB where there are more than 512; by
          the RFCs' rules of 1 MB where there are at most 32, and a quarter of
          the sockets is kept for those who answer a SYN cookie
+BUFFER   the size of each of these buffers in bytes: 512 to 1048576
 ";
 
 fn main(rt: HostRuntime) -> ExitCode {
@@ -89,7 +90,7 @@ fn task_of(rt: &HostRuntime) -> Result<Task, Fault> {
     };
     let _program = args.next();
     let (addr, seed) = (args.next(), args.next());
-    let (rules, sockets) = (args.next(), args.next());
+    let (rules, sockets, buffer) = (args.next(), args.next(), args.next());
     if args.next().is_some() {
         return Err(Fault::Usage);
     }
@@ -99,7 +100,7 @@ fn task_of(rt: &HostRuntime) -> Result<Task, Fault> {
     let Some(addr) = addr else {
         return Err(Fault::Usage);
     };
-    Ok(Task::Run(setup(addr.as_str(), seed, rules, sockets)?))
+    Ok(Task::Run(setup(addr.as_str(), seed, rules, sockets, buffer)?))
 }
 
 fn is_help(word: &Option<String>) -> bool {
@@ -114,6 +115,7 @@ fn setup(
     seed: Option<String>,
     rules: Option<String>,
     sockets: Option<String>,
+    buffer: Option<String>,
 ) -> Result<Setup, Fault> {
     let seed = match seed {
         None => Some(1),
@@ -127,12 +129,14 @@ fn setup(
         None => Some(32),
         Some(text) => sockets_of(text.as_str()),
     };
+    let buffer = buffer_of(buffer)?;
     match (address(addr), seed, rules, sockets) {
         (Some(addr), Some(seed), Some(rules), Some(sockets)) => Ok(Setup {
             addr,
             seed,
             rules,
             sockets,
+            buffer,
         }),
         _ => Err(Fault::Usage),
     }
@@ -145,6 +149,17 @@ fn sockets_of(text: &str) -> Option<usize> {
         Some(count)
     } else {
         None
+    }
+}
+
+// No size where none is asked for.
+fn buffer_of(text: Option<String>) -> Result<Option<usize>, Fault> {
+    let Some(text) = text else {
+        return Ok(None);
+    };
+    match text.as_str().parse::<usize>() {
+        Ok(size) if (LEAST_BUFFER..=LARGE_BUFFER).contains(&size) => Ok(Some(size)),
+        _ => Err(Fault::Usage),
     }
 }
 

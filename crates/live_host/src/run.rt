@@ -24,7 +24,9 @@ pub const MOST_SOCKETS: usize = 10_000;
 // windows a link with a long round trip can fill.
 const BUFFER: usize = 65536;
 
-const LARGE_BUFFER: usize = 1_048_576;
+pub const LARGE_BUFFER: usize = 1_048_576;
+
+pub const LEAST_BUFFER: usize = 512;
 
 const SMALL_BUFFER: usize = 8192;
 
@@ -63,6 +65,8 @@ pub struct Setup {
     pub rules: Rules,
     /// How many TCP sockets.
     pub sockets: usize,
+    /// The size of each of their buffers, in bytes, up to 1 MB; of none by the rules and the number of sockets.
+    pub buffer: Option<usize>,
 }
 
 /// Runs a host until its input ends.
@@ -72,7 +76,7 @@ pub fn run<R: Read, W: Write>(
     input: &mut R,
     output: &mut W,
 ) -> Result<Counts, Fault> {
-    let size = buffer_size(setup.sockets, setup.rules);
+    let size = buffer_size(&setup);
     let Ok(mut bytes) = vec![in alloc; 0u8; setup.sockets.min(MOST_SOCKETS) * 2 * size] else {
         return Err(Fault::Memory);
     };
@@ -100,14 +104,21 @@ pub fn run<R: Read, W: Write>(
     }
 }
 
-fn buffer_size(sockets: usize, rules: Rules) -> usize
+fn buffer_size(setup: &Setup) -> usize
     ensures most { result ≤ 1048576 }
     ensures some { 0 < result }
 {
-    if sockets <= VERY_FEW && rules == Rules::Rfc {
+    if let Some(size) = setup.buffer {
+        return size.clamp(LEAST_BUFFER, LARGE_BUFFER);
+    }
+    if setup.sockets <= VERY_FEW && setup.rules == Rules::Rfc {
         return LARGE_BUFFER;
     }
-    if sockets <= FEW { BUFFER } else { SMALL_BUFFER }
+    if setup.sockets <= FEW {
+        BUFFER
+    } else {
+        SMALL_BUFFER
+    }
 }
 
 // Makes the sockets and the host.

@@ -166,7 +166,7 @@ none_copied {G = G} f ip payload ss none = λ k. by (slice_get ss k) (none k)
 
     by : (o : Option (Slot G)) → IfSome o (λ s. raw_copies.is_raw s ≡ false) → Both (λ b a. raw_copies.CopiesPacket f ip payload b a) o o
     by None h = tt
-    by (Some s) h = record { generation = refl; guard = refl; copied = same s.socket h }
+    by (Some s) h = record { generation = refl; opened = refl; guard = refl; copied = same s.socket h }
 
 -- ---- what is not listed under the key of a kind of sockets is none of them
 
@@ -187,7 +187,7 @@ module _ {G : Type 0} (ss : List (Slot G)) (es : List Entry) (filed : (k : ℕ) 
 
       by : (o : Option (Slot G)) → is_filed (λ s. keys_of s) es k o ≡ true → IfSome o (λ s. raw_copies.CopiesPacket f ip payload s s)
       by None h = tt
-      by (Some s) h = record { generation = refl; guard = refl; copied = same s.socket (first_of k s h) }
+      by (Some s) h = record { generation = refl; opened = refl; guard = refl; copied = same s.socket (first_of k s h) }
 
   -- nor the packet itself
   pub not_raw : (ip : IpRepr) (k : ℕ) → (has es (entry_at raw_key k) ≡ true → ⊥) → IfSome (slice_get ss k) (λ s. TakesRaw ip s → ⊥)
@@ -217,4 +217,4 @@ module _ {G : Type 0} (ss : List (Slot G)) (es : List Entry) (filed : (k : ℕ) 
 
       by : (o : Option (Slot G)) → is_filed (λ s. keys_of s) es k o ≡ true → IfSome o (λ s. messages.Copies f m s s)
       by None h = tt
-      by (Some s) h = record { generation = refl; guard = refl; copied = same s.socket (first_of k s h) }
+      by (Some s) h = record { generation = refl; opened = refl; guard = refl; copied = same s.socket (first_of k s h) }

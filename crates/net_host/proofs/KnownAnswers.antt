@@ -32,7 +32,7 @@ facts_kept facts word_at old new true h = h.same
 facts_kept facts word_at old new false h = ap facts h
 
 -- x takes the segment and is m then, and y once it has answered
-pub heard_out : {C G : Type 0} (facts : C → Facts) (word_at : C → ℕ → ℕ) (tells : G → ℕ → Type 0) (before : Slot G) (x m y : tcp.Socket G) (o : Answer) (cx cx' : C) (ip : IpRepr) (s : Segment) (out out' : List ℕ) (n : ℕ) → before.socket ≡ Some (socket.Tcp x) → answered o m.control_block s ≡ processed x.control_block (moment_of (facts cx)) (word_at cx 0) ip s → Draws (draws (verdict_of x.control_block s.control s.ack_number) x.control_block.state s.control) facts word_at cx cx' → m.tsval_generator ≡ source_kept m.control_block.stamps x.tsval_generator → PutsAnswer (IsReplyStamp tells m.tsval_generator (echoed y.control_block s.timestamp)) (facts cx').checksums ip (answered o m.control_block s) y.control_block out n out' → y.tsval_generator ≡ m.tsval_generator → HearsOut facts word_at tells before cx ip s out n (record { generation = before.generation; socket = Some (socket.Tcp y); guard = before.guard }) cx' out'
+pub heard_out : {C G : Type 0} (facts : C → Facts) (word_at : C → ℕ → ℕ) (tells : G → ℕ → Type 0) (before : Slot G) (x m y : tcp.Socket G) (o : Answer) (cx cx' : C) (ip : IpRepr) (s : Segment) (out out' : List ℕ) (n : ℕ) → before.socket ≡ Some (socket.Tcp x) → answered o m.control_block s ≡ processed x.control_block (moment_of (facts cx)) (word_at cx 0) ip s → Draws (draws (verdict_of x.control_block s.control s.ack_number) x.control_block.state s.control) facts word_at cx cx' → m.tsval_generator ≡ source_kept m.control_block.stamps x.tsval_generator → PutsAnswer (IsReplyStamp tells m.tsval_generator (echoed y.control_block s.timestamp)) (facts cx').checksums ip (answered o m.control_block s) y.control_block out n out' → y.tsval_generator ≡ m.tsval_generator → HearsOut facts word_at tells before cx ip s out n (record { generation = before.generation; socket = Some (socket.Tcp y); guard = before.guard; opened = before.opened }) cx' out'
 heard_out facts word_at tells before x m y o cx cx' ip s out out' n is table drawn source p same =
     let stamps : m.control_block.stamps ≡ y.control_block.stamps = sym m.stamped ∙ ap is_some (sym same) ∙ y.stamped in
     let call : Processes facts word_at (IsReplyStamp tells y.tsval_generator (echoed y.control_block s.timestamp)) x.control_block cx ip s p.reply y.control_block cx' = record {
@@ -46,6 +46,7 @@ heard_out facts word_at tells before x m y o cx cx' ip s out out' n is table dra
       reply = p.reply;
       heard = record {
         generation = refl;
+        opened = refl;
         guard = refl;
         heard = subst (λ a. SocketHears facts word_at tells as_is a cx ip s p.reply (Some (socket.Tcp y)) cx') (sym is) (call, same ∙ source ∙ ap (λ b. source_kept b x.tsval_generator) stamps);
       };

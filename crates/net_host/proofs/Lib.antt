@@ -28,13 +28,15 @@ pub mod Vacant
 pub mod Keyed
 pub mod Rested
 pub mod Each
+pub mod Fair
 pub mod Firsts
 pub mod KeptKeys
-pub mod KeptSleep
+pub mod Heard
 pub mod CookieAnswers
 pub mod Believed
 pub mod Lawful
 pub mod Limited
 pub mod Polled
+pub mod Telling
 pub mod Touching
 pub mod KnownAnswers

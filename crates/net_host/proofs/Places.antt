@@ -1,5 +1,5 @@
 -- Each place is filed, whatever is done to one of them.
-use Rattle.std.proofs.Common.{◌≡◌, ◌∙◌, ℕ, ◌<◌, ◌/◌, List, [], ◌∷◌, length, Bool, true, false, not, nat_eq, nat_lt, suc, zero, Option, Some, None, refl, sym, subst, ap, arith}
+use Rattle.std.proofs.Common.{◌≡◌, ◌∙◌, ℕ, ◌<◌, ◌≤◌, ◌/◌, List, [], ◌∷◌, length, Bool, true, false, not, nat_eq, nat_lt, suc, zero, Option, Some, None, refl, sym, subst, ap, arith}
 use Rattle.std.specs.Prelude.{IfSome, IfNone, slice_get, slice_set, ◌&&◌, ◌||◌, if◌then◌else◌}
 use Rattle.std.specs.List.{All}
 use Rattle.std.proofs.lemmas.Bool.{and_parts}
@@ -48,6 +48,11 @@ set_none : {X : Type 0} (xs : List X) (i : ℕ) (x : X) → slice_get xs i ≡ N
 set_none [] i x h = refl
 set_none (y ∷ ys) zero x h = cc
 set_none (y ∷ ys) (suc i) x h = ap (λ zs. y ∷ zs) (set_none ys i x h)
+
+none_past : {X : Type 0} (xs : List X) (i : ℕ) → slice_get xs i ≡ None → length xs ≤ i
+none_past [] i h = omega arith
+none_past (x ∷ xs) zero h = cc
+none_past (x ∷ xs) (suc i) h = let rest : length xs ≤ i = none_past xs i h in omega (arith, rest)
 
 all_at : {X : Type 0} (P : X → Type 0) (xs : List X) (k : ℕ) → All P xs → IfSome (slice_get xs k) P
 all_at {X = X} P xs k h = go (slice_get xs k) refl
@@ -103,6 +108,27 @@ module _ {X : Type 0} (keys_of : X → Keys) where
       let same : nat_eq l l ≡ true = grind arith in
       let room : nat_lt (l / 64) (length ws) ≡ true = subst (λ b. (if b then nat_lt (l / 64) (length ws) else is_kept_of keys_of complete es ws l (slice_get ss l)) ≡ true) same here in
       grind (arith, room)
+
+  -- each place has a mark
+  pub place_room : (complete : Bool) (lent : Option ℕ) (k : ℕ) (ss : List X) (es : List Entry) (ws : List ℕ) → k < length ss → IsIndexed keys_of complete lent ss es ws → k / 64 < length ws
+  place_room complete lent k ss es ws within h = go lent h
+    where
+      noted : (o : Option X) → slice_get ss k ≡ o → is_kept_of keys_of complete es ws k o ≡ true → k / 64 < length ws
+      noted None e kept =
+          let past : length ss ≤ k = none_past ss k e in
+          absurd (omega (arith, within, past))
+      noted (Some s) e kept =
+          let free : is_noted ws k (keys_of s).free ≡ true = (and_parts (not complete || are_filed es k (keys_of s)) (is_noted ws k (keys_of s).free) kept).1 in
+          let room : nat_lt (k / 64) (length ws) ≡ true = (and_parts (nat_lt (k / 64) (length ws)) (not (keys_of s).free || nat_eq (bit_of ws k) 1) free).0 in
+          grind (arith, room)
+
+      by : (l : ℕ) (b : Bool) → nat_eq k l ≡ b → (if b then nat_lt (k / 64) (length ws) else is_kept_of keys_of complete es ws k (slice_get ss k)) ≡ true → k / 64 < length ws
+      by l true e room = grind (arith, room)
+      by l false e kept = noted (slice_get ss k) refl kept
+
+      go : (o : Option ℕ) → IsIndexed keys_of complete o ss es ws → k / 64 < length ws
+      go None settled = noted (slice_get ss k) refl (settled k)
+      go (Some l) settled = by l (nat_eq k l) refl (settled k)
 
   -- ---- a place is lent
 

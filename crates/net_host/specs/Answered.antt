@@ -13,7 +13,7 @@ use Rattle.sock_tcp.specs.Process.{Outcome, reply_of}
 use Rattle.sock_tcp.specs.Replies.{Answers}
 use Rattle.sock_tcp.specs.Rfc.Numbers.{reply_numbered}
 use Rattle.sock_tcp.specs.View.{View}
-use Rattle.net_host.specs.Segments.{Hears, as_is}
+use Rattle.net_host.specs.Segments.{Hears, as_is, no_more}
 use Rattle.net_host.specs.Wire.{reply_len, with_reply}
 use Rattle.net_host.specs.declared.slot.Slot.{Slot}
 
@@ -33,6 +33,6 @@ module _ {C G : Type 0} (facts : C → Facts) (word_at : C → ℕ → ℕ) (tel
   pub record HearsOut (before : Slot G) (cx : C) (ip : IpRepr) (s : Segment) (out : List ℕ) (n : ℕ) (after : Slot G)
       (cx' : C) (out' : List ℕ) : Type 0 where
     pub reply : Option (IpRepr × TcpRepr)
-    pub heard : Hears facts word_at tells as_is before cx ip s reply after cx'
+    pub heard : Hears facts word_at tells as_is no_more before cx ip s reply after cx'
     pub len : n ≡ reply_len (option_map reply_of reply)
     pub octets : out' ≡ with_reply (facts cx).checksums (option_map reply_of reply) out

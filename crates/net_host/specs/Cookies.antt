@@ -23,7 +23,7 @@ use Rattle.sock_tcp.specs.View.{View}
 use Rattle.smoltcp_socket.specs.declared.socket.Socket.{Socket}
 use Rattle.smoltcp_socket.specs.declared.socket.Socket.TheVariants as socket
 use Rattle.net_host.specs.Resting.{anew, is_opening}
-use Rattle.net_host.specs.Segments.{HearsAt, IsTaker, TakenBy, TakesSegment, as_is}
+use Rattle.net_host.specs.Segments.{HearsAt, IsTaker, TakenBy, TakesSegment, as_is, no_more, opened_by}
 use Rattle.net_host.specs.Unsent.{PassesAt}
 use Rattle.net_host.specs.Wire.{reply_len, with_reply}
 use Rattle.net_host.specs.declared.cookies.Course.{Course}
@@ -177,7 +177,8 @@ module _ {C G : Type 0} (facts : C → Facts) (word_at : C → ℕ → ℕ) (tel
     pub left : Told C
     pub reply : Option (IpRepr × TcpRepr)
     pub opened : List (Slot G)
-    pub heard : HearsAt (facts_told facts) word_told tells ready ss i told ip s reply opened left
+    pub heard : HearsAt (facts_told facts) word_told tells ready (opened_by true s) ss i told ip s reply opened
+        left
     pub answer : Result (Unit {0}) TooShort
     pub last : Told C
     pub passed : PassesAt (facts_told facts) tells opened i left answer ts last
@@ -186,7 +187,7 @@ module _ {C G : Type 0} (facts : C → Facts) (word_at : C → ℕ → ℕ) (tel
   abbrev pub HearsIf : List (Slot G) → ℕ → C → IpRepr → Segment → Option (IpRepr × TcpRepr) → List (Slot G) → C
       → Type 0
   HearsIf ss i cx ip s r ts cx' =
-      (IfSome (slice_get ss i) (TakesSegment false ip s) × HearsAt facts word_at tells as_is ss i cx ip s r ts cx')
+      (IfSome (slice_get ss i) (TakesSegment false ip s) × HearsAt facts word_at tells as_is no_more ss i cx ip s r ts cx')
       ⊎ (IfSome (slice_get ss i) (λ x. TakesSegment false ip s x → ⊥) × (ts ≡ ss) × (cx' ≡ cx) × (r ≡ None))
 
   -- the SYN before it, and then the segment

@@ -28,6 +28,7 @@ SocketHears _ ip u payload _ = ⊥
 
 pub record Hears {G : Type 0} (ip : IpRepr) (u : UdpRepr) (payload : List ℕ) (before after : Slot G) : Type 0 where
   pub generation : after.generation ≡ before.generation
+  pub opened : after.opened ≡ before.opened
   pub guard : after.guard ≡ before.guard
   pub heard : SocketHears before.socket ip u payload after.socket
 

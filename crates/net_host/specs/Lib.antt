@@ -8,11 +8,14 @@ pub mod Datagrams
 pub mod Emissions
 pub mod Entries
 pub mod Facts
+pub mod Fairness
 pub mod Filing
 pub mod Finding
 pub mod Guards
 pub mod HostCalls
 pub mod Kinds
+pub mod LendingContext
+pub mod LendingPlaces
 pub mod Indexing
 pub mod Limits
 pub mod Listing
@@ -35,6 +38,7 @@ pub mod Sleeping
 pub mod Sights
 pub mod Slots
 pub mod Speaking
+pub mod Telling
 pub mod Touching
 pub mod Turns
 pub mod Unreachable

@@ -76,6 +76,7 @@ SocketCopies f s m t = t ≡ s
 
 pub record Copies {G : Type 0} (f : Facts) (m : AnyMail) (before after : Slot G) : Type 0 where
   pub generation : after.generation ≡ before.generation
+  pub opened : after.opened ≡ before.opened
   pub guard : after.guard ≡ before.guard
   pub copied : SocketCopies f before.socket m after.socket
 

@@ -1,5 +1,5 @@
 -- What an interface does with a device.
-use Rattle.std.specs.Prelude.{ℕ, ◌≡◌, ◌+◌, List, Result, Ok, Err, Bool, true, false, max, min, nat_lt, take}
+use Rattle.std.specs.Prelude.{ℕ, ◌≡◌, ◌+◌, ◌<◌, ◌⊎◌, List, Result, Ok, Err, Bool, true, false, max, min, nat_lt, take}
 use Rattle.ip_wire.specs.declared.address.IpAddress.{IpAddress}
 use Rattle.net_base.specs.declared.time.Instant.{Instant}
 use Rattle.net_host.specs.HostCalls.{EmitsAt, ReceivesAt}
@@ -37,10 +37,14 @@ abbrev pub had : Result ℕ TooShort → Bool
 had (Ok n) = nat_lt 0 n
 had (Err short) = true
 
--- nothing is asked of the device, or no packet waits there
-pub data Idles {D : Type 0} (receives : D → ℕ → List ℕ → D → Type 0) : D → D → Type 0 where
-  Unasked : (d : D) → Idles receives d d
-  Empty : (d e : D) (buffer : List ℕ) → receives d 0 buffer e → Idles receives d e
+-- why no packet is taken: the device has no room, or no packet waits there
+pub data Idles {D : Type 0} (has_room : D → Bool) (receives : D → ℕ → List ℕ → D → Type 0) : D → D → Type 0 where
+  Full : (d : D) → has_room d ≡ false → Idles has_room receives d d
+  Empty : (d e : D) (buffer : List ℕ) → has_room d ≡ true → receives d 0 buffer e → Idles has_room receives d e
+
+-- so many packets were taken: 64, or no more for one of these reasons
+abbrev pub EndsTaking : {D : Type 0} → (D → Bool) → (D → ℕ → List ℕ → D → Type 0) → ℕ → D → D → Type 0
+EndsTaking has_room receives n d e = ((n ≡ 64) × (e ≡ d)) ⊎ ((n < 64) × Idles has_room receives d e)
 
 module _ {W G D : Type 0} (is : IpAddress → IpAddress → Bool) (word_at : W → ℕ → ℕ) (tells : G → ℕ → Type 0)
     (receives : D → ℕ → List ℕ → D → Type 0) (transmits : D → List ℕ → D → Type 0) (at : Instant) where
@@ -62,8 +66,13 @@ module _ {W G D : Type 0} (is : IpAddress → IpAddress → Bool) (word_at : W �
     NoneHeard : (i : Interface W) (ss : List (Slot G)) (d : D) → HearsAll 0 i ss d i ss d
     OneHeard : (n : ℕ) (i j k : Interface W) (ss ts us : List (Slot G)) (d e f : D) → HearsAll n i ss d j ts e
         → Hears j ts e k us f → HearsAll (n + 1) i ss d k us f
-    NoMoreHeard : (n : ℕ) (i j k : Interface W) (ss ts us : List (Slot G)) (d e f : D) → HearsAll n i ss d j ts e
-        → (k ≡ j) × (us ≡ ts) × Idles receives e f → HearsAll n i ss d k us f
+
+  -- so many, 64 at most, and fewer only where the device has no room or no packet more
+  pub record HearsUpTo (has_room : D → Bool) (n : ℕ) (i : Interface W) (ss : List (Slot G)) (d : D) (j : Interface W)
+      (ts : List (Slot G)) (e : D) : Type 0 where
+    pub last : D
+    pub all : HearsAll n i ss d j ts last
+    pub ends : EndsTaking has_room receives n last e
 
 module _ {W G D : Type 0} (is : IpAddress → IpAddress → Bool) (tells : G → ℕ → Type 0)
     (transmits : D → List ℕ → D → Type 0) (at : Instant) where
@@ -82,12 +91,21 @@ module _ {W G D : Type 0} (is : IpAddress → IpAddress → Bool) (tells : G →
     NoneSent : (i : Interface W) (ss : List (Slot G)) (d : D) → EmitsAll 0 i ss d i ss d
     OneSent : (n : ℕ) (i j k : Interface W) (ss ts us : List (Slot G)) (d e f : D) → EmitsAll n i ss d j ts e
         → Emits true j ts e k us f → EmitsAll (n + 1) i ss d k us f
-    NoMoreSent : (n : ℕ) (i j k : Interface W) (ss ts us : List (Slot G)) (d e f : D) → EmitsAll n i ss d j ts e
-        → Emits false j ts e k us f → EmitsAll n i ss d k us f
+
+  -- so many turns, and no more: 64 were given, or the device has no room, or no socket was due at the next
+  pub data EmitsUpTo (has_room : D → Bool) : ℕ → Interface W → List (Slot G) → D → Interface W → List (Slot G) → D
+      → Type 0 where
+    Enough : (i j : Interface W) (ss ts : List (Slot G)) (d e : D) → EmitsAll 64 i ss d j ts e
+        → EmitsUpTo has_room 64 i ss d j ts e
+    NoRoom : (n : ℕ) (i j : Interface W) (ss ts : List (Slot G)) (d e : D) → n < 64 → EmitsAll n i ss d j ts e
+        → has_room e ≡ false → EmitsUpTo has_room n i ss d j ts e
+    NobodyDue : (n : ℕ) (i j k : Interface W) (ss ts us : List (Slot G)) (d e f : D) → n < 64
+        → EmitsAll n i ss d j ts e → has_room e ≡ true → Emits false j ts e k us f → EmitsUpTo has_room n i ss d k us f
 
 module _ {W G D : Type 0} (is : IpAddress → IpAddress → Bool) (word_at : W → ℕ → ℕ) (tells : G → ℕ → Type 0)
-    (receives : D → ℕ → List ℕ → D → Type 0) (transmits : D → List ℕ → D → Type 0) (at : Instant) (mtu : ℕ) where
-  -- packets that arrived, and then turns of sockets: `n` of both
+    (has_room : D → Bool) (receives : D → ℕ → List ℕ → D → Type 0) (transmits : D → List ℕ → D → Type 0)
+    (at : Instant) (mtu : ℕ) where
+  -- packets that arrived, and then turns of sockets, whatever arrived: `n` of both
   pub record Polls (n : ℕ) (i : Interface W) (ss : List (Slot G)) (d : D) (j : Interface W) (ts : List (Slot G)) (e : D)
       : Type 0 where
     pub fitted : Interface W
@@ -96,7 +114,7 @@ module _ {W G D : Type 0} (is : IpAddress → IpAddress → Bool) (word_at : W �
     pub between : Interface W
     pub seen : List (Slot G)
     pub mid : D
-    pub hears : HearsAll is word_at tells receives transmits at heard fitted ss d between seen mid
+    pub hears : HearsUpTo is word_at tells receives transmits at has_room heard fitted ss d between seen mid
     pub spoken : ℕ
-    pub emits : EmitsAll is tells transmits at spoken between seen mid j ts e
+    pub emits : EmitsUpTo is tells transmits at has_room spoken between seen mid j ts e
     pub both : n ≡ heard + spoken

@@ -26,5 +26,6 @@ SocketCopies f ip payload s t = t ≡ s
 
 pub record CopiesPacket {G : Type 0} (f : Facts) (ip : IpRepr) (payload : List ℕ) (before after : Slot G) : Type 0 where
   pub generation : after.generation ≡ before.generation
+  pub opened : after.opened ≡ before.opened
   pub guard : after.guard ≡ before.guard
   pub copied : SocketCopies f ip payload before.socket after.socket

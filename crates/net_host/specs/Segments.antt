@@ -1,5 +1,5 @@
 -- Which socket takes a TCP segment, and what becomes of it.
-use Rattle.std.specs.Prelude.{ℕ, ◌≡◌, List, Option, Some, None, IfSome, option_map, slice_get, Bool, true, false}
+use Rattle.std.specs.Prelude.{ℕ, ◌≡◌, ◌&&◌, if◌then◌else◌, List, Option, Some, None, IfSome, option_map, slice_get, Bool, true, false}
 use Rattle.ip_wire.specs.declared.repr.IpRepr.{IpRepr}
 use Rattle.net_base.specs.declared.time.Instant.{Instant}
 use Rattle.control_wire.specs.Segment.{Segment}
@@ -13,6 +13,7 @@ use Rattle.sock_tcp.specs.Replies.{IsReplyStamp, echoed, rst_segment, with_heade
 use Rattle.sock_tcp.specs.View.{View, moment_of}
 use Rattle.smoltcp_socket.specs.declared.socket.Socket.{Socket}
 use Rattle.smoltcp_socket.specs.declared.socket.Socket.TheVariants as socket
+use Rattle.net_host.specs.Counts.{next}
 use Rattle.net_host.specs.Limits.{allows, spent}
 use Rattle.net_host.specs.Resting.{FindsOldest, IsOldest, Reopens, Serves, anew, is_opening}
 use Rattle.net_host.specs.Walks.{ChangesAt, IsFirst, Nowhere}
@@ -66,20 +67,30 @@ module _ {C G : Type 0} (facts : C → Facts) (word_at : C → ℕ → ℕ) (tel
       × (y.tsval_generator ≡ source_kept y.control_block.stamps x.tsval_generator)
   SocketHears ready _ cx ip s r _ cx' = ⊥
 
-  pub record Hears (ready : View → View) (before : Slot G) (cx : C) (ip : IpRepr) (s : Segment)
+  pub record Hears (ready : View → View) (count : ℕ → ℕ) (before : Slot G) (cx : C) (ip : IpRepr) (s : Segment)
       (r : Option (IpRepr × TcpRepr)) (after : Slot G) (cx' : C) : Type 0 where
     pub generation : after.generation ≡ before.generation
+    pub opened : after.opened ≡ count before.opened
     pub guard : after.guard ≡ before.guard
     pub heard : SocketHears ready before.socket cx ip s r after.socket cx'
 
   -- the slot at i hears the segment, and no other changes
-  abbrev pub HearsAt : (View → View) → List (Slot G) → ℕ → C → IpRepr → Segment → Option (IpRepr × TcpRepr)
-      → List (Slot G) → C → Type 0
-  HearsAt ready ss i cx ip s r ts cx' = ChangesAt (λ before after. Hears ready before cx ip s r after cx') ss i ts
+  abbrev pub HearsAt : (View → View) → (ℕ → ℕ) → List (Slot G) → ℕ → C → IpRepr → Segment
+      → Option (IpRepr × TcpRepr) → List (Slot G) → C → Type 0
+  HearsAt ready count ss i cx ip s r ts cx' =
+      ChangesAt (λ before after. Hears ready count before cx ip s r after cx') ss i ts
 
 -- as it is
 abbrev pub as_is : View → View
 as_is v = v
+
+-- how many SYNs opened the socket: no more
+abbrev pub no_more : ℕ → ℕ
+no_more n = n
+
+-- one more, where a socket that listens takes a SYN
+abbrev pub opened_by : Bool → Segment → ℕ → ℕ
+opened_by listening s n = if listening && is_opening s then next n else n
 
 -- ---- a segment for nobody
 
@@ -108,13 +119,13 @@ module _ {C G : Type 0} (facts : C → Facts) (word_at : C → ℕ → ℕ) (tel
   abbrev pub TakenBy : Taker → List (Slot G) → C → Limit → IpRepr → Segment → Option (IpRepr × TcpRepr)
       → List (Slot G) → C → Limit → Type 0
   TakenBy (taker.Connection i) ss cx l ip s r ts cx' l' =
-      HearsAt facts word_at tells as_is ss i cx ip s r ts cx' × (l' ≡ l)
+      HearsAt facts word_at tells as_is no_more ss i cx ip s r ts cx' × (l' ≡ l)
   TakenBy (taker.Reopened i) ss cx l ip s r ts cx' l' =
-      HearsAt facts word_at tells anew ss i cx ip s r ts cx' × (l' ≡ l)
+      HearsAt facts word_at tells anew (opened_by true s) ss i cx ip s r ts cx' × (l' ≡ l)
   TakenBy (taker.Listener i) ss cx l ip s r ts cx' l' =
-      HearsAt facts word_at tells as_is ss i cx ip s r ts cx' × (l' ≡ l)
+      HearsAt facts word_at tells as_is (opened_by true s) ss i cx ip s r ts cx' × (l' ≡ l)
   TakenBy (taker.Reused i) ss cx l ip s r ts cx' l' =
-      HearsAt facts word_at tells anew ss i cx ip s r ts cx' × (l' ≡ l)
+      HearsAt facts word_at tells anew (opened_by true s) ss i cx ip s r ts cx' × (l' ≡ l)
   TakenBy taker.Busy ss cx l ip s r ts cx' l' = (ts ≡ ss) × (cx' ≡ cx) × (r ≡ None) × (l' ≡ l)
   TakenBy taker.Nobody ss cx l ip s r ts cx' l' =
       (ts ≡ ss) × (cx' ≡ cx) × Refuses l (moment_of (facts cx)) ip s r l'

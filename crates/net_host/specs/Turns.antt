@@ -32,6 +32,7 @@ WatchesIn st now s g t h = (t ≡ s) × (h ≡ g)
 
 pub record Watches {G : Type 0} (st : GuardSettings) (now : Instant) (before after : Slot G) : Type 0 where
   pub generation : after.generation ≡ before.generation
+  pub opened : after.opened ≡ before.opened
   pub looked : WatchesIn st now before.socket before.guard after.socket after.guard
 
 -- whether the guard ends what its socket has lasted in
@@ -87,6 +88,7 @@ module _ {G : Type 0} (facts : Facts) (tells : G → ℕ → Type 0) where
   pub record SlotEmits (before : Slot G) (out : List ℕ) (r : Result (Unit {0}) TooShort) (n : Sent) (after : Slot G)
       (out' : List ℕ) : Type 0 where
     pub generation : after.generation ≡ before.generation
+    pub opened : after.opened ≡ before.opened
     pub guard : after.guard ≡ before.guard
     pub emits : SocketEmits before.socket out r n after.socket out'
 
@@ -99,5 +101,6 @@ module _ {G : Type 0} (facts : Facts) (tells : G → ℕ → Type 0) where
   pub record TakesTurn (before : Slot G) (out : List ℕ) (r : Result (Unit {0}) TooShort) (n : Sent) (after : Slot G)
       (out' : List ℕ) : Type 0 where
     pub generation : after.generation ≡ before.generation
+    pub opened : after.opened ≡ before.opened
     pub asked : Asks (moment_of facts) before.guard after.guard
     pub emits : EmitsIf (may_speak before (moment_of facts)) before.socket out r n after.socket out'

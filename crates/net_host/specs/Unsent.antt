@@ -34,6 +34,7 @@ module _ {C G : Type 0} (facts : C → Facts) (tells : G → ℕ → Type 0) whe
   pub record Passes (before : Slot G) (cx : C) (r : Result (Unit {0}) TooShort) (after : Slot G) (cx' : C)
       : Type 0 where
     pub generation : after.generation ≡ before.generation
+    pub opened : after.opened ≡ before.opened
     pub guard : after.guard ≡ before.guard
     pub passed : SocketPasses before.socket cx r after.socket cx'
 

@@ -1,5 +1,6 @@
 //! What sockets of the other kinds take, in a set with an index.
-ghost use Rattle.std.specs.Prelude.{ℕ, ◌≡◌, IfSome, slice_get, true, false};
+ghost use Rattle.std.specs.Prelude.{ℕ, ◌≡◌, IfNone, IfSome, length, slice_get, slice_set, true, false};
+ghost use Rattle.host_bounds.specs.Bounding.{at_once};
 ghost use Rattle.net_host.specs.Datagrams.{HeardBy, TakesDatagram};
 ghost use Rattle.net_host.specs.Filing.{keys_of};
 ghost use Rattle.net_host.specs.Indexing.{IsSettled};
@@ -13,6 +14,7 @@ use crate::filing::{raw_key, udp_key};
 use crate::messages::{Mail, copy_to};
 use crate::raw_copies::copy_packet_to;
 use crate::set::SocketSet;
+use host_bounds::Bounds;
 use smoltcp_socket::Context;
 use smoltcp_socket::wire::{IpRepr, UdpRepr};
 use sock_tcp::TsvalSource;
@@ -39,6 +41,7 @@ pub(crate) fn copy_packet<C: Context, G: TsvalSource>(
         sockets.new.slots.items }
     ensures touched { Touches sockets.old.bounds sockets.old.slots.items sockets.new.bounds
         sockets.new.slots.items }
+    ensures ended { sockets.new.ended ≡ sockets.old.ended }
 {
     sockets.settle(); // a place that was lent may have a raw socket now
     if has_no_raw(sockets) {
@@ -48,6 +51,7 @@ pub(crate) fn copy_packet<C: Context, G: TsvalSource>(
     let complete = sockets.complete;
     copy_packet_to(
         &mut sockets.slots,
+        &mut sockets.bounds,
         &sockets.index,
         complete,
         cx,
@@ -66,11 +70,19 @@ pub(crate) fn copy_mail<C: Context, G: TsvalSource>(
         sockets.new.slots.items }
     ensures touched { Touches sockets.old.bounds sockets.old.slots.items sockets.new.bounds
         sockets.new.slots.items }
+    ensures ended { sockets.new.ended ≡ sockets.old.ended }
 {
     sockets.settle();
     sockets.settled = false;
     let complete = sockets.complete;
-    copy_to(&mut sockets.slots, &sockets.index, complete, cx, mail);
+    copy_to(
+        &mut sockets.slots,
+        &mut sockets.bounds,
+        &sockets.index,
+        complete,
+        cx,
+        mail,
+    );
 }
 
 // The first socket that takes the datagram, by the index where it is complete.
@@ -92,6 +104,17 @@ fn datagram_taker<C: Context, G: TsvalSource>(
     }
 }
 
+// The place that is found, if any, is to be asked at once.
+fn touch_found(bounds: &mut Bounds, found: Option<usize>)
+    ensures found { IfSome found (λ i. bounds.new ≡ slice_set bounds.old i at_once) }
+    ensures none { IfNone found (bounds.new ≡ bounds.old) }
+    ensures len { length bounds.new ≡ length bounds.old }
+{
+    if let Some(i) = found {
+        bounds.put_at_once(i);
+    }
+}
+
 /// A datagram arrives: the place of the first socket that takes it, if any.
 pub(crate) fn hear_datagram_of<C: Context, G: TsvalSource>(
     sockets: &mut SocketSet<'_, G>,
@@ -104,10 +127,12 @@ pub(crate) fn hear_datagram_of<C: Context, G: TsvalSource>(
     ensures heard { HeardBy result sockets.old.slots.items ip.now repr.now payload.now sockets.new.slots.items }
     ensures touched { Touches sockets.old.bounds sockets.old.slots.items sockets.new.bounds
         sockets.new.slots.items }
+    ensures ended { sockets.new.ended ≡ sockets.old.ended }
 {
     sockets.settle();
     let found = datagram_taker(sockets, cx, ip, repr);
     sockets.settled = false;
+    touch_found(&mut sockets.bounds, found);
     hear_found(&mut sockets.slots, found, cx, ip, repr, payload);
     found
 }

@@ -6,6 +6,7 @@ ghost use Rattle.net_host.specs.Indexing.{AreFiledBefore, IsIndexed, IsLentAt, I
 ghost use Rattle.net_host.specs.Indexing.{is_filed, is_noted, is_noted_of, lent_of, no_keys};
 ghost use Rattle.host_index.specs.Entries.{IsFirst, KeepsElsewhere};
 ghost use Rattle.host_bounds.specs.Bounding.{at_once, bound_at};
+ghost use Rattle.host_bounds.specs.Marking.{Clears, Sets};
 ghost use Rattle.net_host.specs.Sleeping.{AreAsleep};
 ghost use Rattle.net_host.specs.declared.key.Keys.{Keys};
 ghost use Rattle.net_host.specs.declared.terms.Terms.{Terms};
@@ -55,17 +56,31 @@ pub struct Filed<T: Keyed> {
     pub ghost indexed: { IsIndexed T.keys_of complete lent slots.items index free },
     pub ghost asleep: { AreAsleep T.sleeps terms bounds slots.items },
     pub ghost as_many: { length bounds ≡ length slots.items },
+    // the places whose connection ended within `emit`, until their program lends them
+    pub(crate) ended: Marks,
     pub ghost kept: { settled ≡ true → IsSettled T.keys_of complete slots.items index free },
+    pub ghost as_marked: { length ended ≡ length free },
 }
 
 impl<T: Keyed> Filed<T> {
+    ghost use Rattle.std.specs.Borrow.{sem};
+    ghost use Rattle.net_host.specs.LendingPlaces.{LendsPlace};
+
     /// Places without keys, each to be asked at once.
-    pub(crate) fn of_free(slots: Vec<T>, index: Index, free: Marks, bounds: Bounds) -> Filed<T>
+    pub(crate) fn of_free(
+        slots: Vec<T>,
+        index: Index,
+        free: Marks,
+        ended: Marks,
+        bounds: Bounds,
+    ) -> Filed<T>
         requires free { All (λ s. T.keys_of s ≡ no_keys) slots.items }
         requires noted { (k : ℕ) → k < length slots.items → is_noted free k true ≡ true }
         requires as_many { length bounds ≡ length slots.items }
         requires marked { All (λ b. b ≡ at_once) bounds }
-        ensures { result.slots ≡ slots }
+        requires as_marked { length ended ≡ length free }
+        ensures slots { result.slots ≡ slots }
+        ensures ended { result.ended ≡ ended }
     {
         Filed {
             slots,
@@ -79,6 +94,7 @@ impl<T: Keyed> Filed<T> {
                 guards: Limits::of(&GuardSettings::off()),
             },
             settled: true,
+            ended,
         }
     }
 
@@ -89,6 +105,7 @@ impl<T: Keyed> Filed<T> {
         ensures settled { IsSettled T.keys_of self.new.complete self.new.slots.items self.new.index self.new.free }
         ensures terms { self.new.terms ≡ self.old.terms }
         ensures bounds { self.new.bounds ≡ self.old.bounds }
+        ensures ended { self.new.ended ≡ self.old.ended }
     {
         if !self.settled {
             self.settle_lent();
@@ -101,6 +118,7 @@ impl<T: Keyed> Filed<T> {
         ensures settled { IsSettled T.keys_of self.new.complete self.new.slots.items self.new.index self.new.free }
         ensures terms { self.new.terms ≡ self.old.terms }
         ensures bounds { self.new.bounds ≡ self.old.bounds }
+        ensures ended { self.new.ended ≡ self.old.ended }
     {
         if self.is_lent_filed() {
             self.settled = true;
@@ -115,6 +133,7 @@ impl<T: Keyed> Filed<T> {
         ensures settled { IsSettled T.keys_of self.new.complete self.new.slots.items self.new.index self.new.free }
         ensures terms { self.new.terms ≡ self.old.terms }
         ensures bounds { self.new.bounds ≡ self.old.bounds }
+        ensures ended { self.new.ended ≡ self.old.ended }
     {
         self.settle();
         self.index.seek(key);
@@ -127,6 +146,7 @@ impl<T: Keyed> Filed<T> {
         ensures slots { self.new.slots ≡ self.old.slots }
         ensures terms { self.new.terms ≡ self.old.terms }
         ensures bounds { self.new.bounds ≡ self.old.bounds }
+        ensures ended { self.new.ended ≡ self.old.ended }
         ensures known { IfSome result (λ i. IsFirst self.new.index key i) }
         ensures filed { self.new.complete ≡ true
             → IfSome result (λ i. AreFiledBefore T.keys_of i self.new.slots.items self.new.index) }
@@ -152,6 +172,7 @@ impl<T: Keyed> Filed<T> {
         ensures settled { IsSettled T.keys_of self.new.complete self.new.slots.items self.new.index self.new.free }
         ensures terms { self.new.terms ≡ self.old.terms }
         ensures bounds { self.new.bounds ≡ self.old.bounds }
+        ensures ended { self.new.ended ≡ self.old.ended }
     {
         if let Some(place) = self.lent {
             let filed = refile_at(&self.slots, &mut self.index, &mut self.free, place);
@@ -170,6 +191,7 @@ impl<T: Keyed> Filed<T> {
         ensures terms { self.new.terms ≡ self.old.terms }
         ensures bounds { self.new.bounds ≡ slice_set self.old.bounds place at_once }
         ensures unsettled { self.new.settled ≡ false }
+        ensures ended { self.new.ended ≡ self.old.ended }
     {
         if !self.is_lent(place) {
             self.lend_anew(place);
@@ -193,28 +215,72 @@ impl<T: Keyed> Filed<T> {
         ensures lent { IsLentAt place (slice_get self.new.slots.items place) self.new.lent }
         ensures terms { self.new.terms ≡ self.old.terms }
         ensures bounds { self.new.bounds ≡ self.old.bounds }
+        ensures ended { self.new.ended ≡ self.old.ended }
     {
         self.settle();
         self.lent = lent_at(&self.slots, place);
         self.settled = false;
     }
 
-    // The place is to be asked at once.
-    fn mark(&mut self, place: usize)
+    /// The place is to be asked at once.
+    pub(crate) fn mark(&mut self, place: usize)
         ensures slots { self.new.slots ≡ self.old.slots }
         ensures lent { self.new.lent ≡ self.old.lent }
         ensures marked { bound_at self.new.bounds place ≡ at_once }
         ensures terms { self.new.terms ≡ self.old.terms }
         ensures bounds { self.new.bounds ≡ slice_set self.old.bounds place at_once }
         ensures settled { self.new.settled ≡ self.old.settled }
+        ensures ended { self.new.ended ≡ self.old.ended }
     {
         self.bounds.put_at_once(place);
+    }
+
+    /// This place is lent to its program: it may change, as by `lend`, and no end of its connection is told any more.
+    #[inline(always)]
+    pub fn lend_out(&mut self, place: usize)
+        ensures slots { self.new.slots ≡ self.old.slots }
+        ensures lent { IsLentAt place (slice_get self.new.slots.items place) self.new.lent }
+        ensures marked { bound_at self.new.bounds place ≡ at_once }
+        ensures terms { self.new.terms ≡ self.old.terms }
+        ensures bounds { self.new.bounds ≡ slice_set self.old.bounds place at_once }
+        ensures unsettled { self.new.settled ≡ false }
+        ensures ended { Clears place self.old.ended self.new.ended }
+    {
+        self.lend(place);
+        self.hear_end(place);
+    }
+
+    // Its program is told no more that its connection ended.
+    #[inline(always)]
+    fn hear_end(&mut self, place: usize)
+        ensures slots { self.new.slots ≡ self.old.slots }
+        ensures lent { self.new.lent ≡ self.old.lent }
+        ensures terms { self.new.terms ≡ self.old.terms }
+        ensures bounds { self.new.bounds ≡ self.old.bounds }
+        ensures settled { self.new.settled ≡ self.old.settled }
+        ensures ended { Clears place self.old.ended self.new.ended }
+    {
+        if self.ended.is_on(place) {
+            self.ended.take_off(place);
+        }
+    }
+
+    /// The connection at this place ended.
+    pub(crate) fn tell_end(&mut self, place: usize)
+        requires { place < length self.old.slots.items }
+        ensures slots { self.new.slots ≡ self.old.slots }
+        ensures terms { self.new.terms ≡ self.old.terms }
+        ensures bounds { self.new.bounds ≡ self.old.bounds }
+        ensures ended { Sets place self.old.ended self.new.ended }
+    {
+        self.ended.put_on(place);
     }
 
     /// The places are asked under these terms from now on: all of them at once, where the terms are others than before.
     pub(crate) fn heed(&mut self, mtu: usize, guards: &Limits)
         ensures slots { self.new.slots ≡ self.old.slots }
         ensures terms { self.new.terms ≡ record { mtu = mtu; guards = guards.now } }
+        ensures ended { self.new.ended ≡ self.old.ended }
     {
         if !self.terms.are(mtu, guards) {
             self.bounds.reset();
@@ -225,13 +291,14 @@ impl<T: Keyed> Filed<T> {
         }
     }
 
-    /// What stands at this place, lent.
+    /// What stands at this place, lent to its program: once it is given back, each other place is as it was.
     pub(crate) fn place_mut(&mut self, place: usize) -> Option<&mut T>
+        ensures* writes_back { sem 𝓛 (LendsPlace T.row T.Keyed self.entry place result) }
         ensures there { IsSome result → place < length self.old.slots.items }
         ensures beyond { place < length self.old.slots.items → IsSome result }
         ensures value { IfSome result (λ s. s.now ≡ get_or self.old.slots.items place s.now) }
     {
-        self.lend(place);
+        self.lend_out(place);
         self.slots.get_mut(place)
     }
 }

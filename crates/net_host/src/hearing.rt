@@ -89,6 +89,7 @@ fn open_with<C: Context, G: TsvalSource>(
         (segment_of syn.now) sockets.new.slots.items }
     ensures touched { Touches sockets.old.bounds sockets.old.slots.items sockets.new.bounds
         sockets.new.slots.items }
+    ensures ended { sockets.new.ended ≡ sockets.old.ended }
 {
     let mut told = Told { cx, word: number };
     let mut answer = None;
@@ -115,6 +116,7 @@ fn open_anew_with<C: Context, G: TsvalSource>(
         (segment_of syn.now) sockets.new.slots.items }
     ensures touched { Touches sockets.old.bounds sockets.old.slots.items sockets.new.bounds
         sockets.new.slots.items }
+    ensures ended { sockets.new.ended ≡ sockets.old.ended }
 {
     let mut told = Told { cx, word: number };
     let mut answer = None;
@@ -154,6 +156,7 @@ fn hear_if<C: Context, G: TsvalSource>(
     ensures fits { ForSome (option_map reply_of result) (λ r. FitsPacket r.0 r.1) }
     ensures touched { Touches sockets.old.bounds sockets.old.slots.items sockets.new.bounds
         sockets.new.slots.items }
+    ensures ended { sockets.new.ended ≡ sockets.old.ended }
 {
     let mut reply = None;
     if takes_there(&sockets.slots, i, cx, ip, repr) {
@@ -183,6 +186,7 @@ fn hear_both<C: Context, G: TsvalSource>(
     ensures fits { ForSome (option_map reply_of result) (λ r. FitsPacket r.0 r.1) }
     ensures touched { Touches sockets.old.bounds sockets.old.slots.items sockets.new.bounds
         sockets.new.slots.items }
+    ensures ended { sockets.new.ended ≡ sockets.old.ended }
 {
     let syn = syn_before(repr, class);
     open_with(sockets, i, cx, number, ip, &syn);
@@ -210,6 +214,7 @@ fn hear_both_anew<C: Context, G: TsvalSource>(
     ensures fits { ForSome (option_map reply_of result) (λ r. FitsPacket r.0 r.1) }
     ensures touched { Touches sockets.old.bounds sockets.old.slots.items sockets.new.bounds
         sockets.new.slots.items }
+    ensures ended { sockets.new.ended ≡ sockets.old.ended }
 {
     let syn = syn_before(repr, class);
     open_anew_with(sockets, i, cx, number, ip, &syn);
@@ -237,6 +242,7 @@ fn believe<C: Context, G: TsvalSource>(
     ensures fits { ForSome (option_map reply_of result) (λ r. FitsPacket r.0 r.1) }
     ensures touched { Touches sockets.old.bounds sockets.old.slots.items sockets.new.bounds
         sockets.new.slots.items }
+    ensures ended { sockets.new.ended ≡ sockets.old.ended }
 {
     match again {
         Taker::Listener(i) => hear_both(sockets, i, cx, class, number, ip, repr),
@@ -267,6 +273,7 @@ fn take_heard<C: Context, G: TsvalSource>(
     ensures fits { ForSome (option_map reply_of reply.new) (λ r. FitsPacket r.0 r.1) }
     ensures touched { Touches sockets.old.bounds sockets.old.slots.items sockets.new.bounds
         sockets.new.slots.items }
+    ensures ended { sockets.new.ended ≡ sockets.old.ended }
 {
     match heard.course {
         Course::Plain | Course::Doubted => {
@@ -329,6 +336,7 @@ pub(crate) fn hear_known<C: Context, G: TsvalSource>(
         sockets.new.slots.items cx.new l out.new }
     ensures touched { Touches sockets.old.bounds sockets.old.slots.items sockets.new.bounds
         sockets.new.slots.items }
+    ensures ended { sockets.new.ended ≡ sockets.old.ended }
 {
     sockets.lend(i);
     hear_out_there(&mut sockets.slots, i, cx, ip, repr, out)
@@ -357,6 +365,7 @@ pub(crate) fn hear_sought<C: Context, G: TsvalSource>(
         cx.new limit.new out.new }
     ensures touched { Touches sockets.old.bounds sockets.old.slots.items sockets.new.bounds
         sockets.new.slots.items }
+    ensures ended { sockets.new.ended ≡ sockets.old.ended }
 {
     let caps = cx.checksum_caps();
     sockets.settle_for(connection_key(&ip.src_addr(), repr.dst_port, repr.src_port));

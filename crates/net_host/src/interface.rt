@@ -12,6 +12,7 @@ ghost use Rattle.net_host.specs.HostCalls.{EmitsAt, MovesTo, ReceivesAt};
 ghost use Rattle.net_host.specs.Limits.{full_limit};
 ghost use Rattle.net_host.specs.Looking.{Unseen};
 ghost use Rattle.net_host.specs.Speaking.{Due, earliest};
+ghost use Rattle.net_host.specs.Telling.{TellsEnds};
 ghost use Rattle.net_host.specs.Touching.{Touches};
 ghost use Rattle.net_host.specs.Walks.{Nowhere};
 ghost use Rattle.ip_wire.specs.Checksum.{all_checksums};
@@ -98,6 +99,7 @@ impl<W: Words> Interface<W> {
             self.old sockets.old.slots.items reply.old n self.new sockets.new.slots.items reply.new) }
         ensures touched { Touches sockets.old.bounds sockets.old.slots.items sockets.new.bounds
             sockets.new.slots.items }
+        ensures ended { sockets.new.ended ≡ sockets.old.ended }
     {
         if reply.len() < self.inner.environment.mtu.max(LONGEST_REPLY) {
             return Err(TooShort);
@@ -119,6 +121,7 @@ impl<W: Words> Interface<W> {
             reply.old result self.new sockets.new.slots.items reply.new }
         ensures touched { Touches sockets.old.bounds sockets.old.slots.items sockets.new.bounds
             sockets.new.slots.items }
+        ensures ended { sockets.new.ended ≡ sockets.old.ended }
     {
         self.set_now(now);
         self.take_packet(sockets, packet, reply)
@@ -138,6 +141,9 @@ impl<W: Words> Interface<W> {
     /// not lent, took no segment and asks for a later moment is not asked, so a call costs no more for it; after
     /// another MTU or other guards each is asked once. A socket that is due and has nothing to say after all has had
     /// its turn.
+    ///
+    /// Where a connection ends, by a timer, its guard or an address that was lost, its place is among those of `ended`
+    /// afterwards; a place that is not has the state that it had.
     ///
     /// No packet is longer than the MTU, where less than 576 counts as that over IPv6: a longer one is dropped, as by
     /// smoltcp's interface, and counted as `too_long`. Where `out` is too short for the packet, `TooShort`: its socket
@@ -160,6 +166,8 @@ impl<W: Words> Interface<W> {
         ensures later { result ≡ Ok 0 → is_reached (earliest (facts_by ⟦<IpAddress as PartialEq>⟧.eq
             self.new.inner.environment) sockets.new.slots.items) (moment_of (facts_by ⟦<IpAddress as PartialEq>⟧.eq
             self.new.inner.environment)) ≡ false }
+        ensures ends { TellsEnds sockets.old.slots.items sockets.old.ended sockets.new.slots.items
+            sockets.new.ended }
     {
         self.emit_at(sockets, now, out)
     }
@@ -179,6 +187,8 @@ impl<W: Words> Interface<W> {
         ensures quiet { result ≡ Ok 0 → Nowhere (Due (facts_by ⟦<IpAddress as PartialEq>⟧.eq
             self.new.inner.environment)) sockets.new.slots.items }
         ensures seen { result ≡ Ok 0 → Nowhere (Unseen self.old.guards) sockets.new.slots.items }
+        ensures ends { TellsEnds sockets.old.slots.items sockets.old.ended sockets.new.slots.items
+            sockets.new.ended }
     {
         self.set_now(now);
         sockets.heed(self.inner.environment.mtu, &self.guards);
@@ -219,6 +229,9 @@ impl<W: Words> Interface<W> {
 }
 
 impl<W> Interface<W> {
+    ghost use Rattle.std.specs.Borrow.{sem};
+    ghost use Rattle.net_host.specs.LendingContext.{LendsContext};
+
     /// An interface with these addresses, at moment 0. Its MTU is 1500 bytes, and all checksums are computed here.
     pub fn new(addresses: Vec<IpCidr>, words: W) -> Interface<W>
         ensures addresses { result.inner.environment.addresses ≡ addresses }
@@ -272,9 +285,10 @@ impl<W> Interface<W> {
         self.inner.environment.source(dst)
     }
 
-    /// The context of the sockets' calls.
+    /// The context of the sockets' calls. Once it is given back, all else is as it was.
     pub fn context(&mut self) -> &mut InterfaceInner<W>
-        ensures { result.now ≡ self.old.inner }
+        ensures* writes_back { sem 𝓛 (LendsContext W.row self.entry result) }
+        ensures value { result.now ≡ self.old.inner }
     {
         &mut self.inner
     }

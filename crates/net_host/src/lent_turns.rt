@@ -1,11 +1,13 @@
 //! A guard looks at its socket, and a socket has its turn, in a set with an index.
 ghost use Rattle.std.specs.Prelude.{◌≡◌, ◌<◌, ◌≤◌, IfSome, is_err, length, max, slice_get, true, false};
+ghost use Rattle.host_bounds.specs.Marking.{Sets};
 ghost use Rattle.sock_core.specs.Bounds.{IsMoment};
 ghost use Rattle.net_host.specs.Facts.{facts_by};
 ghost use Rattle.net_host.specs.Speaking.{TurnAt};
 ghost use Rattle.net_host.specs.Guards.{has_ended};
 ghost use Rattle.net_host.specs.Remembered.{moment_from};
 ghost use Rattle.net_host.specs.Sights.{IsSightOf};
+ghost use Rattle.net_host.specs.Telling.{TellsEnds, TellsHere, is_over, is_over_at, is_over_in};
 ghost use Rattle.net_host.specs.Turns.{Watches};
 ghost use Rattle.net_host.specs.Walks.{ChangesAt};
 
@@ -16,9 +18,52 @@ use crate::set::SocketSet;
 use crate::sight::Sight;
 use crate::slot::Slot;
 use crate::wire::{Sent, TooShort};
+use smoltcp_socket::Socket;
+use smoltcp_socket::tcp::State;
 use smoltcp_socket::time::Instant;
 use smoltcp_socket::wire::IpAddress;
 use sock_tcp::TsvalSource;
+
+// Whether there is no connection in this state.
+fn is_over(state: State) -> bool
+    ensures { result ≡ is_over state }
+{
+    matches!(state, State::Closed | State::Listen)
+}
+
+impl<'a, G> Slot<'a, G> {
+    // Whether there is a TCP socket with no connection here.
+    fn is_over(&self) -> bool
+        ensures { result ≡ is_over_in self.now.socket }
+    {
+        match &self.socket {
+            Some(Socket::Tcp(tcp)) => is_over(tcp.state()),
+            _ => false,
+        }
+    }
+}
+
+fn is_over_at<G>(slots: &[Slot<'_, G>], i: usize) -> bool
+    ensures { result ≡ is_over_at (slice_get slots.now i) }
+{
+    match slots.get(i) {
+        Some(slot) => slot.is_over(),
+        None => false,
+    }
+}
+
+/// The program is told where the TCP socket at this place has no connection after its turn.
+#[inline(always)]
+pub(crate) fn tell_if_over<G: TsvalSource>(sockets: &mut SocketSet<'_, G>, i: usize)
+    requires { i < length sockets.old.slots.items }
+    ensures slots { sockets.new.slots ≡ sockets.old.slots }
+    ensures terms { sockets.new.terms ≡ sockets.old.terms }
+    ensures told { TellsHere sockets.new.slots.items i sockets.old.ended sockets.new.ended }
+{
+    if is_over_at(&sockets.slots, i) {
+        sockets.tell_end(i);
+    }
+}
 
 fn sight_at<G: TsvalSource>(slots: &[Slot<'_, G>], i: usize, limits: &Limits, now: Instant) -> Sight
     requires within { i < length slots.now }
@@ -57,7 +102,7 @@ fn watch_there<G: TsvalSource>(
     slots[i].watch(settings, now);
 }
 
-// Not inlined, as few looks come here.
+// The guard of the socket at this place ends its connection. Not inlined, as few looks come here.
 #[inline(never)]
 fn watch_lent<G: TsvalSource>(
     sockets: &mut SocketSet<'_, G>,
@@ -69,9 +114,11 @@ fn watch_lent<G: TsvalSource>(
     requires moment { IsMoment now.micros }
     ensures looked { ChangesAt (Watches settings.now now) sockets.old.slots.items i sockets.new.slots.items }
     ensures terms { sockets.new.terms ≡ sockets.old.terms }
+    ensures ended { Sets i sockets.old.ended sockets.new.ended }
 {
     sockets.lend(i);
     watch_there(&mut sockets.slots, i, settings, now);
+    sockets.tell_end(i);
 }
 
 // What is not ended keeps its keys.
@@ -84,6 +131,7 @@ fn watch_kept<G: TsvalSource>(sockets: &mut SocketSet<'_, G>, i: usize, now: Ins
     ensures looked { ChangesAt (Watches sockets.old.terms.guards now) sockets.old.slots.items i
         sockets.new.slots.items }
     ensures terms { sockets.new.terms ≡ sockets.old.terms }
+    ensures ended { sockets.new.ended ≡ sockets.old.ended }
 {
     sockets.bounds.set(i, i64::MIN);
     sockets.settled = false;
@@ -97,6 +145,7 @@ pub(crate) fn watch_at<G: TsvalSource>(sockets: &mut SocketSet<'_, G>, i: usize,
     ensures looked { ChangesAt (Watches sockets.old.terms.guards now) sockets.old.slots.items i
         sockets.new.slots.items }
     ensures terms { sockets.new.terms ≡ sockets.old.terms }
+    ensures ends { TellsEnds sockets.old.slots.items sockets.old.ended sockets.new.slots.items sockets.new.ended }
 {
     let sight = sight_at(&sockets.slots, i, &sockets.terms.guards, now);
     if sight.is_over(now) {

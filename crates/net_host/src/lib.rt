@@ -14,6 +14,7 @@ pub mod datagrams;
 pub mod device;
 pub mod emission;
 pub mod environment;
+pub mod fairness;
 pub mod filed;
 pub mod filing;
 pub mod find;

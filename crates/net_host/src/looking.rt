@@ -4,6 +4,7 @@ ghost use Rattle.host_bounds.specs.Bounding.{at_once};
 ghost use Rattle.sock_core.specs.Bounds.{IsMoment};
 ghost use Rattle.sock_tcp.specs.View.{moment_of};
 ghost use Rattle.net_host.specs.Looking.{LooksIn, LooksNext, bound_of, is_seen};
+ghost use Rattle.net_host.specs.Telling.{TellsEnds};
 ghost use Rattle.net_host.specs.Turns.{Watches, asked_of, is_due};
 ghost use Rattle.net_host.specs.Walks.{ChangesAt};
 
@@ -67,6 +68,7 @@ fn note_at<C: Context, G: TsvalSource>(sockets: &mut SocketSet<'_, G>, i: usize,
     ensures slots { sockets.new.slots ≡ sockets.old.slots }
     ensures terms { sockets.new.terms ≡ sockets.old.terms }
     ensures due { IfSome (slice_get sockets.old.slots.items i) (λ s. result ≡ is_due (C.facts cx.now) s) }
+    ensures ended { sockets.new.ended ≡ sockets.old.ended }
 {
     let (asked, due) = asks_at(&sockets.slots, i, cx);
     sockets.bounds.set(i, bound_of(asked));
@@ -95,6 +97,7 @@ fn watch_unless_idle<G: TsvalSource>(sockets: &mut SocketSet<'_, G>, i: usize, n
         sockets.new.slots.items }
     ensures terms { sockets.new.terms ≡ sockets.old.terms }
     ensures seen { IfSome (slice_get sockets.new.slots.items i) (λ s. is_seen sockets.old.terms.guards s ≡ true) }
+    ensures ends { TellsEnds sockets.old.slots.items sockets.old.ended sockets.new.slots.items sockets.new.ended }
 {
     if !is_idle_at(&sockets.slots, i, &sockets.terms.guards, now) {
         watch_at(sockets, i, now);
@@ -111,6 +114,7 @@ fn look_at<C: Context, G: TsvalSource>(sockets: &mut SocketSet<'_, G>, i: usize,
         i sockets.new.slots.items }
     ensures terms { sockets.new.terms ≡ sockets.old.terms }
     ensures due { IfSome (slice_get sockets.new.slots.items i) (λ s. result ≡ is_due (C.facts cx.now) s) }
+    ensures ends { TellsEnds sockets.old.slots.items sockets.old.ended sockets.new.slots.items sockets.new.ended }
 {
     watch_unless_idle(sockets, i, cx.now());
     note_at(sockets, i, cx)
@@ -130,6 +134,7 @@ fn due_between<C: Context, G: TsvalSource>(
     ensures looked { LooksIn (C.facts cx.now) sockets.old.terms.guards start end sockets.old.slots.items result
         sockets.new.slots.items }
     ensures terms { sockets.new.terms ≡ sockets.old.terms }
+    ensures ends { TellsEnds sockets.old.slots.items sockets.old.ended sockets.new.slots.items sockets.new.ended }
 {
     let now = cx.now().micros;
     let mut from = start;
@@ -152,6 +157,7 @@ pub(crate) fn next_due<C: Context, G: TsvalSource>(
     ensures looked { LooksNext (C.facts cx.now) sockets.old.terms.guards turn sockets.old.slots.items result
         sockets.new.slots.items }
     ensures terms { sockets.new.terms ≡ sockets.old.terms }
+    ensures ends { TellsEnds sockets.old.slots.items sockets.old.ended sockets.new.slots.items sockets.new.ended }
 {
     if sockets.bounds.are_after(cx.now().micros) {
         return None;

@@ -1,5 +1,5 @@
 //! ICMP messages: which sockets take a copy, and what answers one.
-ghost use Rattle.std.specs.Prelude.{◌≡◌, ◌+◌, ◌<◌, ◌≤◌, ◌++◌, min, Some, length, option_map, true};
+ghost use Rattle.std.specs.Prelude.{◌≡◌, ◌+◌, ◌<◌, ◌≤◌, ◌++◌, min, Some, length, option_map, true, false};
 ghost use Rattle.ip_wire.specs.Checksum.{is_sent};
 ghost use Rattle.ip_wire.specs.IpHeader.{header_len_of};
 ghost use Rattle.ip_wire.specs.Packet.{header_octets};
@@ -12,11 +12,14 @@ ghost use Rattle.net_host.specs.Messages.{message_octets, with_message};
 ghost use Rattle.net_host.specs.Wire.{packet_len};
 ghost use Rattle.sock_dgram.specs.IcmpDispatch.{Counts, any_message};
 ghost use Rattle.net_host.specs.Messages.{MailCopies, len_within, sum_within, mail_v4, mail_v6, with_answer};
+ghost use Rattle.net_host.specs.Touching.{Touches};
 ghost use Rattle.net_host.specs.Walks.{ChangesAt, ChangesEach};
 
 use crate::filing::icmp_key;
 use crate::find::next_under;
 use crate::slot::Slot;
+use crate::touched::touch_if;
+use host_bounds::Bounds;
 use host_index::Index;
 use smoltcp_socket::wire::{
     ChecksumCapabilities, IcmpRepr, Icmpv4Repr, Icmpv6Repr, IpProtocol, IpRepr, Ipv4Repr, Ipv6Repr,
@@ -67,69 +70,90 @@ fn mail_v6<'p>(caps: &ChecksumCapabilities, ip: &Ipv6Repr, bytes: &'p [u8]) -> O
 }
 
 impl<'a, G: TsvalSource> Slot<'a, G> {
-    fn copy_message<C: Context>(&mut self, cx: &C, mail: &Mail<'_>)
-        ensures { Copies (C.facts cx.now) (mail_of mail.now) self.old self.new }
+    // Whether it took one.
+    fn copy_message<C: Context>(&mut self, cx: &C, mail: &Mail<'_>) -> bool
+        ensures copied { Copies (C.facts cx.now) (mail_of mail.now) self.old self.new }
+        ensures same { result ≡ false → self.new ≡ self.old }
     {
         match &mut self.socket {
             Some(Socket::Icmp(icmp)) => copy(icmp, cx, mail),
-            _ => {}
+            _ => false,
         }
     }
 }
 
-fn copy<C: Context>(socket: &mut icmp::Socket<'_>, cx: &C, mail: &Mail<'_>)
-    ensures { MailCopies (C.facts cx.now) socket.old (mail_of mail.now) socket.new }
+fn copy<C: Context>(socket: &mut icmp::Socket<'_>, cx: &C, mail: &Mail<'_>) -> bool
+    ensures copied { MailCopies (C.facts cx.now) socket.old (mail_of mail.now) socket.new }
+    ensures same { result ≡ false → socket.new ≡ socket.old }
 {
     match mail {
         Mail::V4(ip, repr) => {
-            if socket.accepts_v4(cx, ip, repr) {
-                socket.process_v4(cx, ip, repr);
+            if !socket.accepts_v4(cx, ip, repr) {
+                return false;
             }
+            socket.process_v4(cx, ip, repr);
+            true
         }
         Mail::V6(ip, repr) => {
-            if socket.accepts_v6(cx, ip, repr) {
-                socket.process_v6(cx, ip, repr);
+            if !socket.accepts_v6(cx, ip, repr) {
+                return false;
             }
+            socket.process_v6(cx, ip, repr);
+            true
         }
     }
 }
 
 // Each ICMP socket that accepts the message takes a copy: a walk through all places.
-fn copy_to_all<C: Context, G: TsvalSource>(slots: &mut Vec<Slot<'_, G>>, cx: &C, mail: &Mail<'_>)
-    ensures { ChangesEach (Copies (C.facts cx.now) (mail_of mail.now)) slots.old.items slots.new.items }
+fn copy_to_all<C: Context, G: TsvalSource>(
+    slots: &mut Vec<Slot<'_, G>>,
+    bounds: &mut Bounds,
+    cx: &C,
+    mail: &Mail<'_>,
+)
+    ensures copied { ChangesEach (Copies (C.facts cx.now) (mail_of mail.now)) slots.old.items slots.new.items }
+    ensures touched { Touches bounds.old slots.old.items bounds.new slots.new.items }
+    ensures len { length bounds.new ≡ length bounds.old }
 {
     for i in 0..slots.len() {
-        slots[i].copy_message(cx, mail);
+        copy_at(slots, bounds, i, cx, mail);
     }
 }
 
 fn copy_at<C: Context, G: TsvalSource>(
     slots: &mut Vec<Slot<'_, G>>,
+    bounds: &mut Bounds,
     i: usize,
     cx: &C,
     mail: &Mail<'_>,
 )
     requires { i < length slots.old.items }
-    ensures { ChangesAt (Copies (C.facts cx.now) (mail_of mail.now)) slots.old.items i slots.new.items }
+    ensures copied { ChangesAt (Copies (C.facts cx.now) (mail_of mail.now)) slots.old.items i slots.new.items }
+    ensures touched { Touches bounds.old slots.old.items bounds.new slots.new.items }
+    ensures len { length bounds.new ≡ length bounds.old }
 {
-    slots[i].copy_message(cx, mail);
+    let took = slots[i].copy_message(cx, mail);
+    touch_if(bounds, i, took);
 }
 
 // The same through the places of the ICMP sockets alone, where each place is filed.
 fn copy_to_listed<C: Context, G: TsvalSource>(
     slots: &mut Vec<Slot<'_, G>>,
+    bounds: &mut Bounds,
     index: &Index,
     cx: &C,
     mail: &Mail<'_>,
 )
     requires { AreFiled (λ s. keys_of s) slots.old.items index.now }
-    ensures { ChangesEach (Copies (C.facts cx.now) (mail_of mail.now)) slots.old.items slots.new.items }
+    ensures copied { ChangesEach (Copies (C.facts cx.now) (mail_of mail.now)) slots.old.items slots.new.items }
+    ensures touched { Touches bounds.old slots.old.items bounds.new slots.new.items }
+    ensures len { length bounds.new ≡ length bounds.old }
 {
     let key = icmp_key();
     let end = slots.len();
     let mut from = 0;
     while let Some(i) = next_under(index, key, from, end) {
-        copy_at(slots, i, cx, mail);
+        copy_at(slots, bounds, i, cx, mail);
         from = i + 1;
     }
 }
@@ -137,18 +161,21 @@ fn copy_to_listed<C: Context, G: TsvalSource>(
 /// Each ICMP socket that accepts the message takes a copy. Where each place is filed, the others are not looked at.
 pub(crate) fn copy_to<C: Context, G: TsvalSource>(
     slots: &mut Vec<Slot<'_, G>>,
+    bounds: &mut Bounds,
     index: &Index,
     complete: bool,
     cx: &C,
     mail: &Mail<'_>,
 )
     requires { complete ≡ true → AreFiled (λ s. keys_of s) slots.old.items index.now }
-    ensures { ChangesEach (Copies (C.facts cx.now) (mail_of mail.now)) slots.old.items slots.new.items }
+    ensures copied { ChangesEach (Copies (C.facts cx.now) (mail_of mail.now)) slots.old.items slots.new.items }
+    ensures touched { Touches bounds.old slots.old.items bounds.new slots.new.items }
+    ensures len { length bounds.new ≡ length bounds.old }
 {
     if complete {
-        copy_to_listed(slots, index, cx, mail);
+        copy_to_listed(slots, bounds, index, cx, mail);
     } else {
-        copy_to_all(slots, cx, mail);
+        copy_to_all(slots, bounds, cx, mail);
     }
 }
 

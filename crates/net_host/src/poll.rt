@@ -3,7 +3,7 @@ ghost use Rattle.std.specs.Prelude.{◌≡◌, ◌≤◌, ◌<◌, ◌+◌, IfOk
 ghost use Rattle.sock_tcp.specs.Polls.{is_reached};
 ghost use Rattle.sock_tcp.specs.View.{moment_of};
 ghost use Rattle.net_host.specs.Facts.{facts_by};
-ghost use Rattle.net_host.specs.Polling.{Emits, EmitsAll, FitsTo, Hears, HearsAll, Idles, Polls, Sends, SendsIf, had};
+ghost use Rattle.net_host.specs.Polling.{Emits, EmitsUpTo, FitsTo, Hears, HearsUpTo, Idles, Polls, Sends, SendsIf, had};
 ghost use Rattle.net_host.specs.Speaking.{Due, earliest};
 ghost use Rattle.net_host.specs.Walks.{Nowhere};
 
@@ -58,7 +58,9 @@ fn have_room(mtu: usize, packet: &[u8], reply: &[u8]) -> bool
 impl<W: Words> Interface<W> {
     /// Takes the packets that arrived at the device, and then gives the sockets that are due their turns, until the
     /// device has no room: at most `POLL_BURST` of each, and each by a `receive` or an `emit` at this moment, whose
-    /// answer the device sends. How many of both; 0 where none arrived and none was due.
+    /// answer the device sends. How many of both; 0 where none arrived and none was due. Fewer packets are taken only where
+    /// the device has no room or no packet more, and fewer turns given only where it has no room or no socket is due; so
+    /// whatever arrives, sockets have their turns.
     ///
     /// The MTU becomes the device's. Where fewer than `POLL_BURST` are answered and the device has room, no socket is
     /// due, and `poll_at` lies after this moment; else call it again, for what is left.
@@ -79,8 +81,8 @@ impl<W: Words> Interface<W> {
         ensures room { (max 68 (min (D.mtu device.old) 65535) ≤ length packet.old)
             × (max (max 68 (min (D.mtu device.old) 65535)) 100 ≤ length reply.old) → is_err result ≡ false }
         ensures within { IfOk result (λ n. n ≤ 128) }
-        ensures polled { IfOk result (λ n. Polls ⟦<IpAddress as PartialEq>⟧.eq W.word_at G.tells D.receives D.transmits
-            now (D.mtu device.old) n self.old sockets.old.slots.items device.old self.new
+        ensures polled { IfOk result (λ n. Polls ⟦<IpAddress as PartialEq>⟧.eq W.word_at G.tells D.has_room D.receives
+            D.transmits now (D.mtu device.old) n self.old sockets.old.slots.items device.old self.new
             sockets.new.slots.items device.new) }
         ensures quiet { IfOk result (λ n. n < 64 → D.has_room device.new ≡ true → Nowhere (Due
             (facts_by ⟦<IpAddress as PartialEq>⟧.eq self.new.inner.environment)) sockets.new.slots.items) }
@@ -117,7 +119,7 @@ impl<W: Words> Interface<W> {
         ensures heard { result ≡ true → Hears ⟦<IpAddress as PartialEq>⟧.eq W.word_at G.tells D.receives D.transmits now
             self.old sockets.old.slots.items device.old self.new sockets.new.slots.items device.new }
         ensures none { result ≡ false → (self.new ≡ self.old) × (sockets.new.slots.items ≡ sockets.old.slots.items)
-            × Idles D.receives device.old device.new }
+            × Idles D.has_room D.receives device.old device.new }
     {
         if !device.has_room() {
             return false;
@@ -141,8 +143,8 @@ impl<W: Words> Interface<W> {
     ) -> usize
         requires { 100 ≤ length reply.old }
         ensures within { result ≤ 64 }
-        ensures heard { HearsAll ⟦<IpAddress as PartialEq>⟧.eq W.word_at G.tells D.receives D.transmits now result
-            self.old sockets.old.slots.items device.old self.new sockets.new.slots.items device.new }
+        ensures heard { HearsUpTo ⟦<IpAddress as PartialEq>⟧.eq W.word_at G.tells D.receives D.transmits now D.has_room
+            result self.old sockets.old.slots.items device.old self.new sockets.new.slots.items device.new }
     {
         let mut count = 0;
         while count < POLL_BURST && self.hear_next(sockets, now, device, packet, reply) {
@@ -179,7 +181,7 @@ impl<W: Words> Interface<W> {
         packet: &mut [u8],
     ) -> usize
         ensures within { result ≤ 64 }
-        ensures emitted { EmitsAll ⟦<IpAddress as PartialEq>⟧.eq G.tells D.transmits now result self.old
+        ensures emitted { EmitsUpTo ⟦<IpAddress as PartialEq>⟧.eq G.tells D.transmits now D.has_room result self.old
             sockets.old.slots.items device.old self.new sockets.new.slots.items device.new }
         ensures quiet { result < 64 → D.has_room device.new ≡ true → Nowhere (Due (facts_by
             ⟦<IpAddress as PartialEq>⟧.eq self.new.inner.environment)) sockets.new.slots.items }

@@ -53,6 +53,7 @@ impl<W: Words> Interface<W> {
             result self.new sockets.new.slots.items out.new }
         ensures touched { Touches sockets.old.bounds sockets.old.slots.items sockets.new.bounds
             sockets.new.slots.items }
+        ensures ended { sockets.new.ended ≡ sockets.old.ended }
     {
         let caps = self.inner.checksum_caps();
         match carried(packet, &caps) {
@@ -81,6 +82,7 @@ impl<W: Words> Interface<W> {
             sockets.old.slots.items out.old result self.new sockets.new.slots.items out.new }
         ensures touched { Touches sockets.old.bounds sockets.old.slots.items sockets.new.bounds
             sockets.new.slots.items }
+        ensures ended { sockets.new.ended ≡ sockets.old.ended }
     {
         match passed(ip, bytes) {
             None => self.drop_packet(Reason::Malformed),
@@ -114,6 +116,7 @@ impl<W: Words> Interface<W> {
             self.old sockets.old.slots.items out.old result self.new sockets.new.slots.items out.new }
         ensures touched { Touches sockets.old.bounds sockets.old.slots.items sockets.new.bounds
             sockets.new.slots.items }
+        ensures ended { sockets.new.ended ≡ sockets.old.ended }
     {
         let own = self.inner.has_ip_addr(ip.dst_addr());
         match refusal(&self.inner, own, &self.groups, ip) {
@@ -140,6 +143,7 @@ impl<W: Words> Interface<W> {
             sockets.old.slots.items out.old result self.new sockets.new.slots.items out.new }
         ensures touched { Touches sockets.old.bounds sockets.old.slots.items sockets.new.bounds
             sockets.new.slots.items }
+        ensures ended { sockets.new.ended ≡ sockets.old.ended }
     {
         copy_packet(sockets, &self.inner, ip, bytes);
         let kind = kind_in(own, ip);
@@ -162,6 +166,7 @@ impl<W: Words> Interface<W> {
             sockets.old.slots.items out.old result self.new sockets.new.slots.items out.new }
         ensures touched { Touches sockets.old.bounds sockets.old.slots.items sockets.new.bounds
             sockets.new.slots.items }
+        ensures ended { sockets.new.ended ≡ sockets.old.ended }
     {
         match kind {
             Kind::Tcp => self.take_tcp(sockets, ip, bytes, out),
@@ -187,6 +192,7 @@ impl<W: Words> Interface<W> {
             sockets.old.slots.items out.old result self.new sockets.new.slots.items out.new }
         ensures touched { Touches sockets.old.bounds sockets.old.slots.items sockets.new.bounds
             sockets.new.slots.items }
+        ensures ended { sockets.new.ended ≡ sockets.old.ended }
     {
         self.counters.count(Reason::Protocol);
         tell_sender(
@@ -215,6 +221,7 @@ impl<W: Words> Interface<W> {
             sockets.old.slots.items out.old result self.new sockets.new.slots.items out.new }
         ensures touched { Touches sockets.old.bounds sockets.old.slots.items sockets.new.bounds
             sockets.new.slots.items }
+        ensures ended { sockets.new.ended ≡ sockets.old.ended }
     {
         let caps = self.inner.checksum_caps();
         match datagram_in(&caps, ip, bytes) {
@@ -239,6 +246,7 @@ impl<W: Words> Interface<W> {
             self.new sockets.new.slots.items out.new }
         ensures touched { Touches sockets.old.bounds sockets.old.slots.items sockets.new.bounds
             sockets.new.slots.items }
+        ensures ended { sockets.new.ended ≡ sockets.old.ended }
     {
         let found = hear_datagram_of(sockets, &self.inner, ip, repr, payload);
         count_found(&mut self.counters, found);
@@ -261,6 +269,7 @@ impl<W: Words> Interface<W> {
             sockets.old.slots.items self.old.errors out.old result self.new.errors out.new }
         ensures interface { self.new ≡ record self.old { errors = self.new.errors } }
         ensures bounds { sockets.new.bounds ≡ sockets.old.bounds }
+        ensures ended { sockets.new.ended ≡ sockets.old.ended }
     {
         match found {
             Some(_) => 0,
@@ -291,6 +300,7 @@ impl<W: Words> Interface<W> {
             sockets.old.slots.items out.old result self.new sockets.new.slots.items out.new }
         ensures touched { Touches sockets.old.bounds sockets.old.slots.items sockets.new.bounds
             sockets.new.slots.items }
+        ensures ended { sockets.new.ended ≡ sockets.old.ended }
     {
         let caps = self.inner.checksum_caps();
         match mail_in(&caps, ip, bytes) {
@@ -310,6 +320,7 @@ impl<W: Words> Interface<W> {
             sockets.old.slots.items out.old result self.now sockets.new.slots.items out.new }
         ensures touched { Touches sockets.old.bounds sockets.old.slots.items sockets.new.bounds
             sockets.new.slots.items }
+        ensures ended { sockets.new.ended ≡ sockets.old.ended }
     {
         copy_mail(sockets, &self.inner, mail);
         let answer = echoed(mail);
@@ -334,6 +345,7 @@ impl<W: Words> Interface<W> {
             out.old result self.new sockets.new.slots.items out.new }
         ensures touched { Touches sockets.old.bounds sockets.old.slots.items sockets.new.bounds
             sockets.new.slots.items }
+        ensures ended { sockets.new.ended ≡ sockets.old.ended }
     {
         let caps = self.inner.checksum_caps();
         let mut repr = unread(bytes);
@@ -359,6 +371,7 @@ impl<W: Words> Interface<W> {
             sockets.new.slots.items out.new }
         ensures touched { Touches sockets.old.bounds sockets.old.slots.items sockets.new.bounds
             sockets.new.slots.items }
+        ensures ended { sockets.new.ended ≡ sockets.old.ended }
     {
         if repr.payload.len() <= 65535 {
             self.take_segment(sockets, ip, repr, out)
@@ -384,6 +397,7 @@ impl<W: Words> Interface<W> {
             sockets.old.slots.items out.old result self.new sockets.new.slots.items out.new }
         ensures touched { Touches sockets.old.bounds sockets.old.slots.items sockets.new.bounds
             sockets.new.slots.items }
+        ensures ended { sockets.new.ended ≡ sockets.old.ended }
     {
         match known_taker(sockets, &self.inner, ip, repr) {
             Some(i) => hear_known(sockets, i, &mut self.inner, ip, repr, out),
@@ -408,6 +422,7 @@ impl<W: Words> Interface<W> {
             sockets.old.slots.items out.old result self.new sockets.new.slots.items out.new }
         ensures touched { Touches sockets.old.bounds sockets.old.slots.items sockets.new.bounds
             sockets.new.slots.items }
+        ensures ended { sockets.new.ended ≡ sockets.old.ended }
     {
         let now = self.inner.environment.now;
         let (heard, len) = hear_sought(

@@ -9,7 +9,7 @@ ghost use Rattle.net_host.specs.Filing.{keys_of};
 ghost use Rattle.net_host.specs.Indexing.{IsSettled};
 ghost use Rattle.net_host.specs.Resting.{Reopens, Rests, anew, is_opening};
 ghost use Rattle.net_host.specs.Segments.{Hears, HearsAt, IsTaker, NoneTakes, Refuses, TakenBy};
-ghost use Rattle.net_host.specs.Segments.{TakesSegment, as_is};
+ghost use Rattle.net_host.specs.Segments.{TakesSegment, as_is, opened_by};
 ghost use Rattle.net_host.specs.Touching.{Touches};
 ghost use Rattle.net_host.specs.Walks.{Finds, IsAt, Nowhere};
 
@@ -69,11 +69,14 @@ impl<'a, G: TsvalSource> Slot<'a, G> {
     )
         requires accepted { TakesSegment listening ip.now (segment_of repr.now) self.old }
         requires small { length repr.now.payload.now ≤ 65535 }
-        ensures heard { Hears C.facts C.word_at G.tells as_is self.old cx.old ip.now (segment_of repr.now) reply.new
-            self.new cx.new }
+        ensures heard { Hears C.facts C.word_at G.tells as_is (opened_by listening (segment_of repr.now)) self.old
+            cx.old ip.now (segment_of repr.now) reply.new self.new cx.new }
         ensures bare { ForSome reply.new (λ r. r.1.payload.now ≡ []) }
         ensures fits { ForSome (option_map reply_of reply.new) (λ r. FitsPacket r.0 r.1) }
     {
+        if listening && opens(repr) {
+            self.opened = self.opened.wrapping_add(1);
+        }
         match &mut self.socket {
             Some(Socket::Tcp(tcp)) => match tcp.process(cx, ip, repr) {
                 // apart, as mostly nothing is answered, and a copy of nothing is as long as one of an answer
@@ -96,11 +99,12 @@ impl<'a, G: TsvalSource> Slot<'a, G> {
         requires opening { is_opening (segment_of repr.now) ≡ true }
         requires rests { Rests ip.now (segment_of repr.now) self.old }
         requires small { length repr.now.payload.now ≤ 65535 }
-        ensures heard { Hears C.facts C.word_at G.tells anew self.old cx.old ip.now (segment_of repr.now) reply.new
-            self.new cx.new }
+        ensures heard { Hears C.facts C.word_at G.tells anew (opened_by true (segment_of repr.now)) self.old
+            cx.old ip.now (segment_of repr.now) reply.new self.new cx.new }
         ensures bare { ForSome reply.new (λ r. r.1.payload.now ≡ []) }
         ensures fits { ForSome (option_map reply_of reply.new) (λ r. FitsPacket r.0 r.1) }
     {
+        self.opened = self.opened.wrapping_add(1);
         match &mut self.socket {
             Some(Socket::Tcp(tcp)) => {
                 let _ = tcp.listen(tcp.listen_endpoint());
@@ -242,6 +246,7 @@ pub(crate) fn known_taker<C: Context, G: TsvalSource>(
 ) -> Option<usize>
     ensures slots { sockets.new.slots ≡ sockets.old.slots }
     ensures bounds { sockets.new.bounds ≡ sockets.old.bounds }
+    ensures ended { sockets.new.ended ≡ sockets.old.ended }
     ensures taker { IfSome result
         (λ i. IsTaker sockets.old.slots.items ip.now (segment_of repr.now) (Taker.Connection i)) }
 {
@@ -322,8 +327,8 @@ fn hear_there<C: Context, G: TsvalSource>(
     requires within { i < length slots.old.items }
     requires accepted { IfSome (slice_get slots.old.items i) (TakesSegment listening ip.now (segment_of repr.now)) }
     requires small { length repr.now.payload.now ≤ 65535 }
-    ensures heard { HearsAt C.facts C.word_at G.tells as_is slots.old.items i cx.old ip.now (segment_of repr.now)
-        reply.new slots.new.items cx.new }
+    ensures heard { HearsAt C.facts C.word_at G.tells as_is (opened_by listening (segment_of repr.now))
+        slots.old.items i cx.old ip.now (segment_of repr.now) reply.new slots.new.items cx.new }
     ensures bare { ForSome reply.new (λ r. r.1.payload.now ≡ []) }
     ensures fits { ForSome (option_map reply_of reply.new) (λ r. FitsPacket r.0 r.1) }
 {
@@ -343,8 +348,8 @@ fn hear_anew_there<C: Context, G: TsvalSource>(
     requires opening { is_opening (segment_of repr.now) ≡ true }
     requires rests { IfSome (slice_get slots.old.items i) (Rests ip.now (segment_of repr.now)) }
     requires small { length repr.now.payload.now ≤ 65535 }
-    ensures heard { HearsAt C.facts C.word_at G.tells anew slots.old.items i cx.old ip.now (segment_of repr.now)
-        reply.new slots.new.items cx.new }
+    ensures heard { HearsAt C.facts C.word_at G.tells anew (opened_by true (segment_of repr.now))
+        slots.old.items i cx.old ip.now (segment_of repr.now) reply.new slots.new.items cx.new }
     ensures bare { ForSome reply.new (λ r. r.1.payload.now ≡ []) }
     ensures fits { ForSome (option_map reply_of reply.new) (λ r. FitsPacket r.0 r.1) }
 {
@@ -367,13 +372,13 @@ pub(crate) fn hear_at<C: Context, G: TsvalSource>(
     requires accepted { IfSome (slice_get sockets.old.slots.items i)
         (TakesSegment listening ip.now (segment_of repr.now)) }
     requires small { length repr.now.payload.now ≤ 65535 }
-    ensures heard { HearsAt C.facts C.word_at G.tells as_is sockets.old.slots.items i cx.old ip.now
-        (segment_of repr.now) reply.new
-        sockets.new.slots.items cx.new }
+    ensures heard { HearsAt C.facts C.word_at G.tells as_is (opened_by listening (segment_of repr.now))
+        sockets.old.slots.items i cx.old ip.now (segment_of repr.now) reply.new sockets.new.slots.items cx.new }
     ensures bare { ForSome reply.new (λ r. r.1.payload.now ≡ []) }
     ensures fits { ForSome (option_map reply_of reply.new) (λ r. FitsPacket r.0 r.1) }
     ensures touched { Touches sockets.old.bounds sockets.old.slots.items sockets.new.bounds
         sockets.new.slots.items }
+    ensures ended { sockets.new.ended ≡ sockets.old.ended }
 {
     sockets.lend(i);
     hear_there(&mut sockets.slots, i, cx, listening, ip, repr, reply);
@@ -394,12 +399,13 @@ pub(crate) fn hear_anew_at<C: Context, G: TsvalSource>(
     requires opening { is_opening (segment_of repr.now) ≡ true }
     requires rests { IfSome (slice_get sockets.old.slots.items i) (Rests ip.now (segment_of repr.now)) }
     requires small { length repr.now.payload.now ≤ 65535 }
-    ensures heard { HearsAt C.facts C.word_at G.tells anew sockets.old.slots.items i cx.old ip.now
-        (segment_of repr.now) reply.new sockets.new.slots.items cx.new }
+    ensures heard { HearsAt C.facts C.word_at G.tells anew (opened_by true (segment_of repr.now))
+        sockets.old.slots.items i cx.old ip.now (segment_of repr.now) reply.new sockets.new.slots.items cx.new }
     ensures bare { ForSome reply.new (λ r. r.1.payload.now ≡ []) }
     ensures fits { ForSome (option_map reply_of reply.new) (λ r. FitsPacket r.0 r.1) }
     ensures touched { Touches sockets.old.bounds sockets.old.slots.items sockets.new.bounds
         sockets.new.slots.items }
+    ensures ended { sockets.new.ended ≡ sockets.old.ended }
 {
     sockets.lend(i);
     hear_anew_there(&mut sockets.slots, i, cx, ip, repr, reply);
@@ -440,6 +446,7 @@ pub(crate) fn take_segment<C: Context, G: TsvalSource>(
     ensures fits { ForSome (option_map reply_of reply.new) (λ r. FitsPacket r.0 r.1) }
     ensures touched { Touches sockets.old.bounds sockets.old.slots.items sockets.new.bounds
         sockets.new.slots.items }
+    ensures ended { sockets.new.ended ≡ sockets.old.ended }
 {
     match taker {
         Taker::Connection(i) => hear_at(sockets, i, cx, false, ip, repr, reply),

@@ -1,11 +1,12 @@
 //! A set of sockets of all kinds.
 ghost use Rattle.std.specs.Prelude.{◌≡◌, ◌<◌, ◌↔◌, IfOk, IfErr, OnErr, IfSome, IfNone, IsTrue, length, nat_eq, false};
 ghost use Rattle.std.specs.Prelude.{option_map, slice_set, Some, None};
+ghost use Rattle.std.specs.Fn.{FnOnceReturnsAtMut};
 ghost use Rattle.std.specs.List.{All};
 ghost use Rattle.host_bounds.specs.Bounding.{at_once};
-ghost use Rattle.host_bounds.specs.Marking.{bit_of};
-ghost use Rattle.net_host.specs.Slots.{Empties, Fills, IsFirstFree, IsFree, handle_at, icmp_at, raw_at, socket_at};
-ghost use Rattle.net_host.specs.Slots.{tcp_at, udp_at};
+ghost use Rattle.host_bounds.specs.Marking.{Clears, bit_of};
+ghost use Rattle.net_host.specs.Slots.{Empties, Fills, IsFirstFree, IsFree, handle_at, icmp_at, opened_at, raw_at, socket_at};
+ghost use Rattle.net_host.specs.Slots.{LeavesAny, LeavesTcp, tcp_at, udp_at};
 ghost use Rattle.net_host.specs.Walks.{ChangesAt, Finds, FindsAmong, IsAt};
 
 use crate::filed::Filed;
@@ -34,8 +35,10 @@ impl<'a, G: TsvalSource> Filed<Slot<'a, G>> {
         }
         let index = Index::new(alloc, capacity)?;
         let free = Marks::new(alloc, capacity)?;
+        let mut ended = Marks::new(alloc, capacity)?;
+        ended.clear();
         let bounds = Bounds::new(alloc, capacity)?;
-        Ok(Filed::of_free(slots, index, free, bounds))
+        Ok(Filed::of_free(slots, index, free, ended, bounds))
     }
 
     /// How many sockets it has room for.
@@ -63,11 +66,12 @@ impl<'a, G: TsvalSource> Filed<Slot<'a, G>> {
         ensures full { OnErr result (Finds IsFree self.old.slots.items None) }
         ensures same { IfErr result (λ s. (s ≡ socket.entry) × (self.new ≡ self.old)) }
         ensures touched { IfOk result (λ h. self.new.bounds ≡ slice_set self.old.bounds h.index at_once) }
+        ensures ended { IfOk result (λ h. Clears h.index self.old.ended self.new.ended) }
     {
         match self.first_free() {
             None => Err(socket),
             Some(index) => {
-                self.lend(index);
+                self.lend_out(index);
                 Ok(fill(&mut self.slots, index, socket))
             }
         }
@@ -91,8 +95,9 @@ impl<'a, G: TsvalSource> Filed<Slot<'a, G>> {
             (λ s. ChangesAt (Empties s) self.old.slots.items handle.index self.new.slots.items) }
         ensures stale { IfNone result (self.new.slots.items ≡ self.old.slots.items) }
         ensures touched { self.new.bounds ≡ slice_set self.old.bounds handle.index at_once }
+        ensures ended { Clears handle.index self.old.ended self.new.ended }
     {
-        self.lend(handle.index);
+        self.lend_out(handle.index);
         take_at(&mut self.slots, handle)
     }
 
@@ -104,6 +109,56 @@ impl<'a, G: TsvalSource> Filed<Slot<'a, G>> {
             Some(slot) => slot.held(handle.generation),
             None => None,
         }
+    }
+
+    /// How many SYNs have opened the socket of a handle since it was added, modulo 2^64; `None` where the handle names
+    /// none. Each is a connection of its own: where the number has grown, the one before is over.
+    pub fn opened(&self, handle: SocketHandle) -> Option<u64>
+        ensures { result ≡ opened_at self.now.slots.items handle }
+    {
+        match self.slots.get(handle.index) {
+            Some(slot) => slot.opened(handle.generation),
+            None => None,
+        }
+    }
+
+    /// Calls a function with the socket of a handle, and answers what it answers; `None` where the handle names none. Each
+    /// other socket is as it was, and this one keeps its handle and its guard.
+    pub fn with<R, F: FnOnce(&mut Socket<'a, G>) -> R>(
+        &mut self,
+        handle: SocketHandle,
+        f: F,
+    ) -> Option<R>
+        requires { F.IsAlwaysCallable f }
+        ensures called { IfSome result (λ r. ChangesAt (LeavesAny
+            (λ s t. FnOnceReturnsAtMut F.FnOnce f s r t) handle.generation) self.old.slots.items handle.index
+            self.new.slots.items) }
+        ensures stale { IfNone result (self.new.slots.items ≡ self.old.slots.items) }
+        ensures none { IfNone result (socket_at self.old.slots.items handle ≡ None) }
+        ensures touched { self.new.bounds ≡ slice_set self.old.bounds handle.index at_once }
+        ensures ended { Clears handle.index self.old.ended self.new.ended }
+    {
+        self.lend_out(handle.index);
+        with_at(&mut self.slots, handle, f)
+    }
+
+    /// The same with a TCP socket; `None` where the handle names none of this kind.
+    pub fn with_tcp<R, F: FnOnce(&mut tcp::Socket<'a, G>) -> R>(
+        &mut self,
+        handle: SocketHandle,
+        f: F,
+    ) -> Option<R>
+        requires { F.IsAlwaysCallable f }
+        ensures called { IfSome result (λ r. ChangesAt (LeavesTcp
+            (λ s t. FnOnceReturnsAtMut F.FnOnce f s r t) handle.generation) self.old.slots.items handle.index
+            self.new.slots.items) }
+        ensures stale { IfNone result (self.new.slots.items ≡ self.old.slots.items) }
+        ensures none { IfNone result (tcp_at self.old.slots.items handle ≡ None) }
+        ensures touched { self.new.bounds ≡ slice_set self.old.bounds handle.index at_once }
+        ensures ended { Clears handle.index self.old.ended self.new.ended }
+    {
+        self.lend_out(handle.index);
+        with_tcp_at(&mut self.slots, handle, f)
     }
 
     /// Borrows the socket of a handle for writing; `None` where the handle names none.
@@ -208,6 +263,40 @@ fn fill<'a, G: TsvalSource>(
     ensures filled { ChangesAt (Fills socket.entry result) slots.old.items index slots.new.items }
 {
     slots[index].fill(index, socket)
+}
+
+fn with_at<'a, G: TsvalSource, R, F: FnOnce(&mut Socket<'a, G>) -> R>(
+    slots: &mut Vec<Slot<'a, G>>,
+    handle: SocketHandle,
+    f: F,
+) -> Option<R>
+    requires { F.IsAlwaysCallable f }
+    ensures called { IfSome result (λ r. ChangesAt (LeavesAny (λ s t. FnOnceReturnsAtMut F.FnOnce f s r t)
+        handle.generation) slots.old.items handle.index slots.new.items) }
+    ensures stale { IfNone result (slots.new.items ≡ slots.old.items) }
+    ensures none { IfNone result (socket_at slots.old.items handle ≡ None) }
+{
+    if slots.len() <= handle.index {
+        return None;
+    }
+    slots[handle.index].with(handle.generation, f)
+}
+
+fn with_tcp_at<'a, G: TsvalSource, R, F: FnOnce(&mut tcp::Socket<'a, G>) -> R>(
+    slots: &mut Vec<Slot<'a, G>>,
+    handle: SocketHandle,
+    f: F,
+) -> Option<R>
+    requires { F.IsAlwaysCallable f }
+    ensures called { IfSome result (λ r. ChangesAt (LeavesTcp (λ s t. FnOnceReturnsAtMut F.FnOnce f s r t)
+        handle.generation) slots.old.items handle.index slots.new.items) }
+    ensures stale { IfNone result (slots.new.items ≡ slots.old.items) }
+    ensures none { IfNone result (tcp_at slots.old.items handle ≡ None) }
+{
+    if slots.len() <= handle.index {
+        return None;
+    }
+    slots[handle.index].with_tcp(handle.generation, f)
 }
 
 fn take_at<'a, G: TsvalSource>(

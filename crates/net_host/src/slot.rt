@@ -1,9 +1,10 @@
 //! One place of a set of sockets.
+ghost use Rattle.std.specs.Fn.{FnOnceReturnsAtMut};
 ghost use Rattle.std.specs.Prelude.{◌≡◌, ◌↔◌, IsTrue, IfSome, IfNone, Some, None, option_map};
-ghost use Rattle.net_host.specs.Slots.{IsFirstFree, IsFree, Fills, Empties, handle_of, held};
+ghost use Rattle.net_host.specs.Slots.{IsFirstFree, IsFree, Fills, Empties, LeavesAny, LeavesTcp, handle_of, held, opened_under, tcp_in};
 
 use crate::guard::Guard;
-use smoltcp_socket::Socket;
+use smoltcp_socket::{Socket, tcp};
 use sock_tcp::{Generator, TsvalSource};
 
 /// Names a socket of a set. A socket that is put where another one was removed has another handle.
@@ -23,6 +24,8 @@ pub struct Slot<'a, G = Generator> {
     pub(crate) generation: u64,
     pub(crate) socket: Option<Socket<'a, G>>,
     pub(crate) guard: Guard,
+    // how many SYNs opened the socket that is here
+    pub(crate) opened: u64,
 }
 
 impl<'a, G> Slot<'a, G> {
@@ -34,6 +37,7 @@ impl<'a, G> Slot<'a, G> {
             generation: 1,
             socket: None,
             guard: Guard::new(),
+            opened: 0,
         }
     }
 
@@ -66,6 +70,16 @@ impl<'a, G> Slot<'a, G> {
         }
         self.socket.as_ref()
     }
+
+    /// How many SYNs opened the socket that is here under this generation.
+    pub(crate) fn opened(&self, generation: u64) -> Option<u64>
+        ensures { result ≡ opened_under (Some self.now) generation }
+    {
+        match &self.socket {
+            Some(_) if self.generation == generation => Some(self.opened),
+            _ => None,
+        }
+    }
 }
 
 impl<'a, G: TsvalSource> Slot<'a, G> {
@@ -76,9 +90,52 @@ impl<'a, G: TsvalSource> Slot<'a, G> {
     {
         self.socket = Some(socket);
         self.guard = Guard::new();
+        self.opened = 0;
         SocketHandle {
             index,
             generation: self.generation,
+        }
+    }
+
+    /// Calls a function with the socket that is here under this generation.
+    pub(crate) fn with<R, F: FnOnce(&mut Socket<'a, G>) -> R>(
+        &mut self,
+        generation: u64,
+        f: F,
+    ) -> Option<R>
+        requires { F.IsAlwaysCallable f }
+        ensures called { IfSome result (λ r. LeavesAny (λ s t. FnOnceReturnsAtMut F.FnOnce f s r t) generation self.old
+            self.new) }
+        ensures stale { IfNone result (self.new ≡ self.old) }
+        ensures none { IfNone result (held (Some self.old) generation ≡ None) }
+    {
+        if self.generation != generation {
+            return None;
+        }
+        match &mut self.socket {
+            Some(socket) => Some(f(socket)),
+            None => None,
+        }
+    }
+
+    /// The same with a TCP socket alone.
+    pub(crate) fn with_tcp<R, F: FnOnce(&mut tcp::Socket<'a, G>) -> R>(
+        &mut self,
+        generation: u64,
+        f: F,
+    ) -> Option<R>
+        requires { F.IsAlwaysCallable f }
+        ensures called { IfSome result (λ r. LeavesTcp (λ s t. FnOnceReturnsAtMut F.FnOnce f s r t) generation self.old
+            self.new) }
+        ensures stale { IfNone result (self.new ≡ self.old) }
+        ensures none { IfNone result (tcp_in (held (Some self.old) generation) ≡ None) }
+    {
+        if self.generation != generation {
+            return None;
+        }
+        match &mut self.socket {
+            Some(Socket::Tcp(tcp)) => Some(f(tcp)),
+            _ => None,
         }
     }
 

@@ -3,12 +3,13 @@ ghost use Rattle.std.specs.Prelude.{◌≡◌, ◌<◌, ◌≤◌, ◌+◌, IfOk
 ghost use Rattle.net_host.specs.Facts.{facts_by};
 ghost use Rattle.net_host.specs.Speaking.{Due, Speaks, TurnAt};
 ghost use Rattle.net_host.specs.Looking.{Unseen};
+ghost use Rattle.net_host.specs.Telling.{TellsEnds};
 ghost use Rattle.net_host.specs.Walks.{Nowhere};
 
 use crate::counters::Counters;
 use crate::environment::Environment;
 use crate::inner::InterfaceInner;
-use crate::lent_turns::turn_there;
+use crate::lent_turns::{tell_if_over, turn_there};
 use crate::looking::next_due;
 use crate::set::SocketSet;
 use crate::wire::{Sent, TooShort};
@@ -31,6 +32,7 @@ fn turn_at<G: TsvalSource>(
     ensures table { TurnAt (facts_by ⟦<IpAddress as PartialEq>⟧.eq environment.entry.now) G.tells
         sockets.old.slots.items i out.old result.0 result.1 sockets.new.slots.items out.new }
     ensures terms { sockets.new.terms ≡ sockets.old.terms }
+    ensures ended { sockets.new.ended ≡ sockets.old.ended }
 {
     sockets.lend(i);
     turn_there(&mut sockets.slots, i, environment, out)
@@ -57,6 +59,7 @@ pub(crate) fn speak<W: Words, G: TsvalSource>(
     ensures quiet { result ≡ Ok 0 → Nowhere (Due (facts_by ⟦<IpAddress as PartialEq>⟧.eq cx.now.environment))
         sockets.new.slots.items }
     ensures seen { result ≡ Ok 0 → Nowhere (Unseen sockets.old.terms.guards) sockets.new.slots.items }
+    ensures ends { TellsEnds sockets.old.slots.items sockets.old.ended sockets.new.slots.items sockets.new.ended }
 {
     speak_on(sockets, turn, counters, cx, out)
 }
@@ -75,10 +78,12 @@ fn speak_on<W: Words, G: TsvalSource>(
     ensures table { Speaks (facts_by ⟦<IpAddress as PartialEq>⟧.eq cx.now.environment) G.tells
         sockets.old.terms.guards sockets.old.slots.items turn.old counters.old out.old result
         sockets.new.slots.items turn.new counters.new out.new }
+    ensures ends { TellsEnds sockets.old.slots.items sockets.old.ended sockets.new.slots.items sockets.new.ended }
 {
     while let Some(i) = next_due(sockets, cx, *turn) {
         *turn = i + 1;
         let (answer, sent) = turn_at(sockets, i, &cx.environment, out);
+        tell_if_over(sockets, i);
         if answer.is_err() {
             return Err(TooShort);
         }

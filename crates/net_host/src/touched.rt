@@ -1,16 +1,43 @@
 //! Which sockets of a set may have changed.
-ghost use Rattle.std.specs.Prelude.{length};
+ghost use Rattle.std.specs.Prelude.{◌≡◌, length};
 ghost use Rattle.host_bounds.specs.Bounding.{FindsReached, at_once};
+ghost use Rattle.net_host.specs.Telling.{FindsEnd};
+ghost use Rattle.net_host.specs.Touching.{touched_if};
 
 use crate::filed::{Filed, Keyed};
+use host_bounds::Bounds;
+
+/// The place is to be asked at once where its socket took something.
+pub(crate) fn touch_if(bounds: &mut Bounds, i: usize, took: bool)
+    ensures touched { bounds.new ≡ touched_if took i bounds.old }
+    ensures len { length bounds.new ≡ length bounds.old }
+{
+    if took {
+        bounds.put_at_once(i);
+    }
+}
 
 impl<T: Keyed> Filed<T> {
-    /// The first place from one on whose socket took a TCP segment, was lent or was put there since `emit` last asked
-    /// it; none behind the last of them. So between `receive` and `emit` a program need not look at each of its
-    /// connections: a packet leaves each TCP socket that is not touched as it was.
+    /// The first place from one on whose socket took a segment, a datagram, a message or a copy of a packet, was lent or
+    /// was put there since `emit` last asked it; none behind the last of them. So between `receive` and `emit` a program
+    /// need not look at each of its sockets: a packet leaves each socket that is not touched as it was.
     pub fn touched(&self, from: usize) -> Option<usize>
         ensures { FindsReached self.now.bounds from (length self.now.bounds) at_once result }
     {
         self.bounds.next(from, self.bounds.len(), i64::MIN)
+    }
+
+    /// The first place from one on whose connection ended within `emit`, by a timer, its guard or an address that was
+    /// lost, since it was lent last; none behind the last of them. So no program need look at each of its connections
+    /// for those that ended: one that a packet ends is `touched`.
+    pub fn ended(&self, from: usize) -> Option<usize>
+        ensures { FindsEnd self.now.ended from (length self.now.slots.items) result }
+    {
+        let place = self.ended.next(from);
+        if place < self.slots.len() {
+            Some(place)
+        } else {
+            None
+        }
     }
 }

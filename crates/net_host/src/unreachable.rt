@@ -204,6 +204,7 @@ fn first_raw<G: TsvalSource>(sockets: &mut SocketSet<'_, G>, ip: &IpRepr) -> Opt
     ensures slots { sockets.new.slots ≡ sockets.old.slots }
     ensures finds { Finds (TakesRaw ip.now) sockets.old.slots.items result }
     ensures bounds { sockets.new.bounds ≡ sockets.old.bounds }
+    ensures ended { sockets.new.ended ≡ sockets.old.ended }
 {
     sockets.settle();
     raw_by(&sockets.slots, &sockets.index, sockets.complete, ip)
@@ -254,6 +255,7 @@ pub(crate) fn tell_sender<C: Context, G: TsvalSource>(
     ensures told { TellsOf (C.facts cx.now) unmet ip.now bytes.now sockets.old.slots.items limit.old out.old result
         limit.new out.new }
     ensures bounds { sockets.new.bounds ≡ sockets.old.bounds }
+    ensures ended { sockets.new.ended ≡ sockets.old.ended }
 {
     let mtu = cx.ip_mtu();
     let own = cx.has_ip_addr(ip.dst_addr());

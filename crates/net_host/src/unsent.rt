@@ -61,6 +61,7 @@ pub(crate) fn pass_at<C: Context, G: TsvalSource>(
     ensures len { length sockets.new.slots.items ≡ length sockets.old.slots.items }
     ensures touched { Touches sockets.old.bounds sockets.old.slots.items sockets.new.bounds
         sockets.new.slots.items }
+    ensures ended { sockets.new.ended ≡ sockets.old.ended }
 {
     sockets.lend(i);
     pass_there(&mut sockets.slots, i, cx)

@@ -21,7 +21,7 @@ macro_rules! lend {
     ($h:ident, $id:ident, $out:ident, $kind:path, $place:ident) => {{
         let id = named($id);
         let sockets = &mut $h.host().sockets;
-        sockets.lend(id.index);
+        sockets.lend_out(id.index);
         match sockets.get(id) {
             Some($kind(socket)) => {
                 *$out = $place(socket);
@@ -133,7 +133,7 @@ pub extern "C" fn smoltcp_host_at_nonnull(
     }
 }
 
-/// Writes the first place from one on whose socket took a TCP segment or was lent since `emit` last asked it, into
+/// Writes the first place from one on whose socket took a packet or was lent since `emit` last asked it, into
 /// `out`, and answers 1; 0 where there is none, with `out` as it was.
 #[unsafe(no_mangle)]
 pub extern "C" fn smoltcp_host_touched_nonnull(

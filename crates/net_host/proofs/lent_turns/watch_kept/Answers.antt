@@ -16,4 +16,5 @@ invariant_of-sockets g c = record {
   asleep = marked_changes (λ u b s. sleeps u b s) _ c.args.sockets.now.terms c.set.new.self c.args.sockets.now.slots.items c.keep_there.new.slots.items c.args.i (ap (λ bs. bound_at bs c.args.i) c.set.ensures ∙ marked_there c.args.sockets.now.bounds c.args.i) c.keep_there.ensures (subst (λ bs. AreAsleep (λ u b s. sleeps u b s) c.args.sockets.now.terms bs c.args.sockets.now.slots.items) (sym c.set.ensures) (marked_set (λ u b s. sleeps u b s) c.args.sockets.now.terms c.args.sockets.now.bounds c.args.sockets.now.slots.items c.args.i c.args.sockets.now.asleep));
   as_many = ap length c.set.ensures ∙ length-set c.args.sockets.now.bounds c.args.i at_once ∙ c.args.sockets.now.as_many ∙ sym (changed_len _ c.args.sockets.now.slots.items c.keep_there.new.slots.items c.args.i c.keep_there.ensures);
   kept = unsettled refl;
+  as_marked = c.args.sockets.now.as_marked;
 }

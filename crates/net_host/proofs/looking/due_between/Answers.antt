@@ -1,4 +1,4 @@
-use Rattle.std.proofs.Common.{rules, to_z, of_z, w64, ◌≡◌, ◌∙◌, ℕ, ◌<◌, ◌≤◌, length, true, false, ap, subst, arith}
+use Rattle.std.proofs.Common.{rules, to_z, of_z, w64, ◌≡◌, ◌∙◌, ℕ, ◌<◌, ◌≤◌, length, true, false, refl, ap, subst, arith}
 use Rattle.std.specs.Prelude.{IfSome, slice_get, ◌<ℤ◌}
 use Rattle.host_bounds.specs.Bounding.{bound_at}
 use Rattle.sock_tcp.specs.View.{moment_of}
@@ -7,7 +7,8 @@ use Rattle.net_host.specs.Turns.{Watches}
 use Rattle.net_host.specs.Walks.{ChangesAt}
 use Rattle.net_host.proofs.Polls.{due_if}
 use Rattle.net_host.proofs.Sleepers.{each_len}
-use Rattle.net_host.proofs.Walking.{ends_quiet, ends_there, goes_on, over_now, passes_to}
+use Rattle.net_host.proofs.Telling.{tells_none, tells_then}
+use Rattle.net_host.proofs.Walking.{begins, ends_quiet, ends_there, goes_on, over_now, passes_to}
 use Rattle.net_host.proofs.looking.due_between.Goals as goal
 
 pub next-requires : goal.next-requires
@@ -46,6 +47,7 @@ loop-i-preserved g c =
       passes = goes_on f st c.args.start c.args.end c.args.sockets.now.slots.items c.loop-i.from c.loop-i.sockets.slots.items c.loop-i.invariant.passes c.in-Some.i c.look_at.new.sockets.slots.items c.in-Some.ensures.behind looked c.in-Some.ensures.within
           (passes_to f st c.args.start c.args.end c.args.sockets.now.slots.items c.loop-i.from c.loop-i.sockets.slots.items c.loop-i.invariant.passes c.in-Some.i more)
           (due_if f (slice_get c.look_at.new.sockets.slots.items c.in-Some.i) c.look_at.result false c.if-look_at.false c.look_at.ensures.due);
+      ends = tells_then _ _ _ _ _ _ c.loop-i.invariant.ends c.look_at.ensures.ends;
     }
 
 pub returns-clause-looked : goal.returns-clause-looked
@@ -56,3 +58,9 @@ returns-clause-looked g c =
     let mtu : c.loop-i.sockets.terms.mtu ≡ f.mtu = ap (λ u. u.mtu) c.loop-i.invariant.terms ∙ c.requires.mtu in
     ends_quiet f st c.args.start c.args.end c.args.sockets.now.slots.items c.loop-i.from c.loop-i.sockets.slots.items c.loop-i.invariant.passes
     (λ k h l. subst (λ u. IfSome (slice_get c.loop-i.sockets.slots.items k) (λ s. Astir f u.guards s → ⊥)) c.loop-i.invariant.terms (over_now f c.loop-i.sockets.terms c.loop-i.sockets.bounds c.loop-i.sockets.slots.items c.now-now.ensures.lawful.0 mtu c.loop-i.sockets.asleep k (subst (λ z. z <ℤ bound_at c.loop-i.sockets.bounds k) (now_is ∙ c.now-now.ensures.value) (c.in_default.ensures k h l))))
+
+pub returns-then-look_at-clause-ends : goal.returns-then-look_at-clause-ends
+returns-then-look_at-clause-ends g c = tells_then _ _ _ _ _ _ c.loop-i.invariant.ends c.look_at.ensures.ends
+
+pub loop-i-init : goal.loop-i-init
+loop-i-init g c = record { terms = refl; passes = begins _ _ _ _ _; ends = tells_none _ _ _ _ refl refl }

@@ -1,4 +1,5 @@
 use Rattle.std.proofs.Common.{◌≡◌, ◌-◌}
+use Rattle.net_host.specs.Telling.{TellsEnds}
 use Rattle.net_host.proofs.Walking.{Passes}
 use Rattle.net_host.proofs.looking.due_between.Given as goal
 
@@ -6,6 +7,7 @@ abbrev pub invariant-loop-i : goal.invariant-loop-i
 invariant-loop-i g l = record {
   terms : l.sockets.terms ≡ l.fn.sockets.terms;
   passes : Passes (g.C.Context.facts l.cx) l.fn.sockets.terms.guards l.fn.start l.end l.fn.sockets.slots.items l.from l.sockets.slots.items;
+  ends : TellsEnds l.fn.sockets.slots.items l.fn.sockets.ended l.sockets.slots.items l.sockets.ended;
 }
 
 abbrev pub decreases-loop-i : goal.decreases-loop-i

@@ -1,9 +1,10 @@
-use Rattle.std.proofs.Common.{rules, to_z, of_z, w64, ◌≡◌, ◌∙◌, ◌<◌, min, length, sym, subst, arith}
+use Rattle.std.proofs.Common.{rules, to_z, of_z, w64, ◌≡◌, ◌∙◌, ◌<◌, min, length, refl, sym, subst, arith}
 use Rattle.std.specs.Prelude.{◌<ℤ◌}
 use Rattle.host_bounds.specs.Bounding.{bound_at}
 use Rattle.sock_tcp.specs.View.{moment_of}
 use Rattle.net_host.specs.Looking.{LooksIn, MayLook}
 use Rattle.net_host.proofs.Sleepers.{each_len}
+use Rattle.net_host.proofs.Telling.{tells_none, tells_then}
 use Rattle.net_host.proofs.Walking.{all_rest, over_now, second_goes}
 use Rattle.net_host.proofs.looking.next_due.Goals as goal
 
@@ -28,3 +29,9 @@ returns-then-are_after-clause-looked g c =
     all_rest (g.C.Context.facts c.args.cx.now) c.args.sockets.now.terms.guards c.args.turn c.args.sockets.now.slots.items
     (λ k l. over_now (g.C.Context.facts c.args.cx.now) c.args.sockets.now.terms c.args.sockets.now.bounds c.args.sockets.now.slots.items c.now.ensures.lawful.0 c.requires c.args.sockets.now.asleep k
     (subst (λ z. z <ℤ bound_at c.args.sockets.now.bounds k) (now_is ∙ c.now.ensures.value) (c.are_after.ensures c.if-are_after.true k (subst (λ n. k < n) (sym c.args.sockets.now.as_many) l))))
+
+pub returns-in-None-clause-ends : goal.returns-in-None-clause-ends
+returns-in-None-clause-ends g c = tells_then _ _ _ _ _ _ c.due_between.ensures.ends c.due_between-in-None.ensures.ends
+
+pub returns-then-are_after-clause-ends : goal.returns-then-are_after-clause-ends
+returns-then-are_after-clause-ends g c = tells_none _ _ _ _ refl refl

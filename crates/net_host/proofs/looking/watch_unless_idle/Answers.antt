@@ -1,8 +1,9 @@
-use Rattle.std.proofs.Common.{rules, ◌≡◌, true, subst}
+use Rattle.std.proofs.Common.{rules, ◌≡◌, true, refl, subst}
 use Rattle.std.specs.Prelude.{IfSome, slice_get}
 use Rattle.net_host.specs.Turns.{Watches}
 use Rattle.net_host.proofs.Polls.{seen_there}
 use Rattle.net_host.proofs.Each.{changes_nothing}
+use Rattle.net_host.proofs.Telling.{tells_none}
 use Rattle.net_host.proofs.looking.watch_unless_idle.Goals as goal
 
 pub returns-then-not-is_idle_at-clause-seen : goal.returns-then-not-is_idle_at-clause-seen
@@ -14,3 +15,6 @@ returns-else-not-is_idle_at-clause-looked g c =
     let idle : c.is_idle_at.result ≡ true = search rules in
     let looked : IfSome (slice_get c.args.sockets.now.slots.items c.args.i) (λ s. Watches c.args.sockets.now.terms.guards c.args.now s s) = subst (λ xs. IfSome (slice_get xs c.args.i) (λ s. Watches c.args.sockets.now.terms.guards c.args.now s s)) c.deref.ensures.value (c.is_idle_at.ensures.looked idle) in
     changes_nothing (λ b a. Watches c.args.sockets.now.terms.guards c.args.now b a) c.args.sockets.now.slots.items c.args.i c.requires.within looked
+
+pub returns-else-not-is_idle_at-clause-ends : goal.returns-else-not-is_idle_at-clause-ends
+returns-else-not-is_idle_at-clause-ends g c = tells_none _ _ _ _ refl refl

@@ -1,12 +1,12 @@
-use Rattle.std.proofs.Common.{◌≡◌, ◌<◌, ◌≤◌, ℕ, length}
-use Rattle.std.specs.Prelude.{slice_get}
+use Rattle.std.proofs.Common.{◌≡◌, length}
 use Rattle.net_host.specs.RawCopies.{CopiesPacket}
-use Rattle.net_host.specs.Walks.{Both}
+use Rattle.net_host.specs.Touching.{Touches}
+use Rattle.net_host.proofs.Jumps.{Reached}
 use Rattle.net_host.proofs.raw_copies.copy_packet_to_all.Given as goal
 
 abbrev pub invariant-loop-i : goal.invariant-loop-i
 invariant-loop-i g l = record {
-  len : length l.slots.items ≡ length l.fn.slots.items;
-  done : (k : ℕ) → k < l.i → Both (CopiesPacket (g.C.Context.facts l.cx) l.ip l.payload) (slice_get l.fn.slots.items k) (slice_get l.slots.items k);
-  left : (k : ℕ) → l.i ≤ k → slice_get l.slots.items k ≡ slice_get l.fn.slots.items k;
+  reached : Reached (λ b a. CopiesPacket (g.C.Context.facts l.cx) l.ip l.payload b a) l.fn.slots.items l.i l.slots.items;
+  touched : Touches l.fn.bounds l.fn.slots.items l.bounds l.slots.items;
+  len : length l.bounds ≡ length l.fn.bounds;
 }

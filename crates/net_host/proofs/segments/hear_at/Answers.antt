@@ -12,6 +12,7 @@ invariant_of-sockets g c = record {
   asleep = marked_changes (λ u b s. sleeps u b s) _ c.lend.new.self.terms c.lend.new.self.bounds c.lend.new.self.slots.items c.hear_there.new.slots.items c.args.i c.lend.ensures.marked c.hear_there.ensures.heard c.lend.new.self.asleep;
   as_many = c.lend.new.self.as_many ∙ sym (changed_len _ c.lend.new.self.slots.items c.hear_there.new.slots.items c.args.i c.hear_there.ensures.heard);
   kept = unsettled c.lend.ensures.unsettled;
+  as_marked = c.lend.new.self.as_marked;
 }
 
 pub returns-clause-touched : goal.returns-clause-touched

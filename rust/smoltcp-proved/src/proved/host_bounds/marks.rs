@@ -38,6 +38,12 @@ impl Marks {
         set_all(&mut self.words);
     }
 
+    /// No place is marked.
+    pub fn clear(&mut self) {
+        clear_all(&mut self.places);
+        clear_all(&mut self.words);
+    }
+
     /// Whether this place is marked; none is that is not there.
     pub fn is_on(&self, place: usize) -> bool {
         match self.places.get(place / BITS) {
@@ -62,6 +68,11 @@ fn all_ones(alloc: Global, count: usize) -> Result<Vec<u64>, AllocError> {
 // All bits are ones now.
 fn set_all(words: &mut Vec<u64>) {
     words.fill(u64::MAX);
+}
+
+// All bits are zeros now.
+fn clear_all(words: &mut Vec<u64>) {
+    words.fill(0);
 }
 
 // The bit of this place is a one now.

@@ -1,6 +1,7 @@
 // Made from crates/net_host/src/copies.rt by rust/translate: change it there.
 //! What sockets of the other kinds take, in a set with an index.
 
+use crate::proved::host_bounds::Bounds;
 use crate::proved::net_host::datagrams::{first_for_datagram, first_under, hear_found};
 use crate::proved::net_host::filing::{raw_key, udp_key};
 use crate::proved::net_host::messages::{Mail, copy_to};
@@ -30,7 +31,7 @@ pub(crate) fn copy_packet<C: Context, G: TsvalSource>(
     }
     sockets.settled = false;
     let complete = sockets.complete;
-    copy_packet_to(&mut sockets.slots, &sockets.index, complete, cx, ip, payload);
+    copy_packet_to(&mut sockets.slots, &mut sockets.bounds, &sockets.index, complete, cx, ip, payload);
 }
 
 /// Each ICMP socket that accepts the message takes a copy.
@@ -38,7 +39,7 @@ pub(crate) fn copy_mail<C: Context, G: TsvalSource>(sockets: &mut SocketSet<'_, 
     sockets.settle();
     sockets.settled = false;
     let complete = sockets.complete;
-    copy_to(&mut sockets.slots, &sockets.index, complete, cx, mail);
+    copy_to(&mut sockets.slots, &mut sockets.bounds, &sockets.index, complete, cx, mail);
 }
 
 // The first socket that takes the datagram, by the index where it is complete.
@@ -56,6 +57,13 @@ fn datagram_taker<C: Context, G: TsvalSource>(
     }
 }
 
+// The place that is found, if any, is to be asked at once.
+fn touch_found(bounds: &mut Bounds, found: Option<usize>) {
+    if let Some(i) = found {
+        bounds.put_at_once(i);
+    }
+}
+
 /// A datagram arrives: the place of the first socket that takes it, if any.
 pub(crate) fn hear_datagram_of<C: Context, G: TsvalSource>(
     sockets: &mut SocketSet<'_, G>,
@@ -67,6 +75,7 @@ pub(crate) fn hear_datagram_of<C: Context, G: TsvalSource>(
     sockets.settle();
     let found = datagram_taker(sockets, cx, ip, repr);
     sockets.settled = false;
+    touch_found(&mut sockets.bounds, found);
     hear_found(&mut sockets.slots, found, cx, ip, repr, payload);
     found
 }

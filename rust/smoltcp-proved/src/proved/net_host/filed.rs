@@ -35,11 +35,19 @@ pub struct Filed<T: Keyed> {
     pub(crate) terms: Terms,
     // whether the place that was lent is known to be filed and marked as the others
     pub(crate) settled: bool,
+    // the places whose connection ended within `emit`, until their program lends them
+    pub(crate) ended: Marks,
 }
 
 impl<T: Keyed> Filed<T> {
     /// Places without keys, each to be asked at once.
-    pub(crate) fn of_free(slots: Vec<T>, index: Index, free: Marks, bounds: Bounds) -> Filed<T> {
+    pub(crate) fn of_free(
+        slots: Vec<T>,
+        index: Index,
+        free: Marks,
+        ended: Marks,
+        bounds: Bounds,
+    ) -> Filed<T> {
         Filed {
             slots,
             index,
@@ -49,6 +57,7 @@ impl<T: Keyed> Filed<T> {
             bounds,
             terms: Terms { mtu: 0, guards: Limits::of(&GuardSettings::off()) },
             settled: true,
+            ended,
         }
     }
 
@@ -124,9 +133,29 @@ impl<T: Keyed> Filed<T> {
         self.settled = false;
     }
 
-    // The place is to be asked at once.
-    fn mark(&mut self, place: usize) {
+    /// The place is to be asked at once.
+    pub(crate) fn mark(&mut self, place: usize) {
         self.bounds.put_at_once(place);
+    }
+
+    /// This place is lent to its program: it may change, as by `lend`, and no end of its connection is told any more.
+    #[inline(always)]
+    pub fn lend_out(&mut self, place: usize) {
+        self.lend(place);
+        self.hear_end(place);
+    }
+
+    // Its program is told no more that its connection ended.
+    #[inline(always)]
+    fn hear_end(&mut self, place: usize) {
+        if self.ended.is_on(place) {
+            self.ended.take_off(place);
+        }
+    }
+
+    /// The connection at this place ended.
+    pub(crate) fn tell_end(&mut self, place: usize) {
+        self.ended.put_on(place);
     }
 
     /// The places are asked under these terms from now on: all of them at once, where the terms are others than before.
@@ -137,9 +166,9 @@ impl<T: Keyed> Filed<T> {
         }
     }
 
-    /// What stands at this place, lent.
+    /// What stands at this place, lent to its program: once it is given back, each other place is as it was.
     pub(crate) fn place_mut(&mut self, place: usize) -> Option<&mut T> {
-        self.lend(place);
+        self.lend_out(place);
         self.slots.get_mut(place)
     }
 }

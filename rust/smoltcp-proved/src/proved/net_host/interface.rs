@@ -103,6 +103,9 @@ impl<W: Words> Interface<W> {
     /// another MTU or other guards each is asked once. A socket that is due and has nothing to say after all has had
     /// its turn.
     ///
+    /// Where a connection ends, by a timer, its guard or an address that was lost, its place is among those of `ended`
+    /// afterwards; a place that is not has the state that it had.
+    ///
     /// No packet is longer than the MTU, where less than 576 counts as that over IPv6: a longer one is dropped, as by
     /// smoltcp's interface, and counted as `too_long`. Where `out` is too short for the packet, `TooShort`: its socket
     /// offers it again. An `out` of the MTU's length, and of 576 bytes or more, never is.
@@ -174,7 +177,7 @@ impl<W> Interface<W> {
         self.inner.environment.source(dst)
     }
 
-    /// The context of the sockets' calls.
+    /// The context of the sockets' calls. Once it is given back, all else is as it was.
     pub fn context(&mut self) -> &mut InterfaceInner<W> {
         &mut self.inner
     }

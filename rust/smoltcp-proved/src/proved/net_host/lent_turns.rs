@@ -9,9 +9,41 @@ use crate::proved::net_host::set::SocketSet;
 use crate::proved::net_host::sight::Sight;
 use crate::proved::net_host::slot::Slot;
 use crate::proved::net_host::wire::{Sent, TooShort};
+use crate::sockets::Socket;
 use crate::sockets::sock_tcp::TsvalSource;
+use crate::sockets::tcp::State;
 use crate::sockets::time::Instant;
 use crate::sockets::wire::IpAddress;
+
+// Whether there is no connection in this state.
+fn is_over(state: State) -> bool {
+    matches!(state, State::Closed | State::Listen)
+}
+
+impl<'a, G> Slot<'a, G> {
+    // Whether there is a TCP socket with no connection here.
+    fn is_over(&self) -> bool {
+        match &self.socket {
+            Some(Socket::Tcp(tcp)) => is_over(tcp.state()),
+            _ => false,
+        }
+    }
+}
+
+fn is_over_at<G>(slots: &[Slot<'_, G>], i: usize) -> bool {
+    match slots.get(i) {
+        Some(slot) => slot.is_over(),
+        None => false,
+    }
+}
+
+/// The program is told where the TCP socket at this place has no connection after its turn.
+#[inline(always)]
+pub(crate) fn tell_if_over<G: TsvalSource>(sockets: &mut SocketSet<'_, G>, i: usize) {
+    if is_over_at(&sockets.slots, i) {
+        sockets.tell_end(i);
+    }
+}
 
 fn sight_at<G: TsvalSource>(slots: &[Slot<'_, G>], i: usize, limits: &Limits, now: Instant) -> Sight {
     slots[i].sight(limits, now)
@@ -36,7 +68,7 @@ fn watch_there<G: TsvalSource>(
     slots[i].watch(settings, now);
 }
 
-// Not inlined, as few looks come here.
+// The guard of the socket at this place ends its connection. Not inlined, as few looks come here.
 #[inline(never)]
 fn watch_lent<G: TsvalSource>(
     sockets: &mut SocketSet<'_, G>,
@@ -46,6 +78,7 @@ fn watch_lent<G: TsvalSource>(
 ) {
     sockets.lend(i);
     watch_there(&mut sockets.slots, i, settings, now);
+    sockets.tell_end(i);
 }
 
 // What is not ended keeps its keys.

@@ -2,10 +2,12 @@
 //! ICMP messages: which sockets take a copy, and what answers one.
 
 use crate::kit::Vec;
+use crate::proved::host_bounds::Bounds;
 use crate::proved::host_index::Index;
 use crate::proved::net_host::filing::icmp_key;
 use crate::proved::net_host::find::next_under;
 use crate::proved::net_host::slot::Slot;
+use crate::proved::net_host::touched::touch_if;
 use crate::sockets::sock_tcp::TsvalSource;
 use crate::sockets::wire::{
     ChecksumCapabilities, IcmpRepr, Icmpv4Repr, Icmpv6Repr, IpProtocol, IpRepr, Ipv4Repr, Ipv6Repr,
@@ -44,43 +46,61 @@ fn mail_v6<'p>(caps: &ChecksumCapabilities, ip: &Ipv6Repr, bytes: &'p [u8]) -> O
 }
 
 impl<'a, G: TsvalSource> Slot<'a, G> {
-    fn copy_message<C: Context>(&mut self, cx: &C, mail: &Mail<'_>) {
+    // Whether it took one.
+    fn copy_message<C: Context>(&mut self, cx: &C, mail: &Mail<'_>) -> bool {
         match &mut self.socket {
             Some(Socket::Icmp(icmp)) => copy(icmp, cx, mail),
-            _ => {}
+            _ => false,
         }
     }
 }
 
-fn copy<C: Context>(socket: &mut icmp::Socket<'_>, cx: &C, mail: &Mail<'_>) {
+fn copy<C: Context>(socket: &mut icmp::Socket<'_>, cx: &C, mail: &Mail<'_>) -> bool {
     match mail {
         Mail::V4(ip, repr) => {
-            if socket.accepts_v4(cx, ip, repr) {
-                socket.process_v4(cx, ip, repr);
+            if !socket.accepts_v4(cx, ip, repr) {
+                return false;
             }
+            socket.process_v4(cx, ip, repr);
+            true
         }
         Mail::V6(ip, repr) => {
-            if socket.accepts_v6(cx, ip, repr) {
-                socket.process_v6(cx, ip, repr);
+            if !socket.accepts_v6(cx, ip, repr) {
+                return false;
             }
+            socket.process_v6(cx, ip, repr);
+            true
         }
     }
 }
 
 // Each ICMP socket that accepts the message takes a copy: a walk through all places.
-fn copy_to_all<C: Context, G: TsvalSource>(slots: &mut Vec<Slot<'_, G>>, cx: &C, mail: &Mail<'_>) {
+fn copy_to_all<C: Context, G: TsvalSource>(
+    slots: &mut Vec<Slot<'_, G>>,
+    bounds: &mut Bounds,
+    cx: &C,
+    mail: &Mail<'_>,
+) {
     for i in 0..slots.len() {
-        slots[i].copy_message(cx, mail);
+        copy_at(slots, bounds, i, cx, mail);
     }
 }
 
-fn copy_at<C: Context, G: TsvalSource>(slots: &mut Vec<Slot<'_, G>>, i: usize, cx: &C, mail: &Mail<'_>) {
-    slots[i].copy_message(cx, mail);
+fn copy_at<C: Context, G: TsvalSource>(
+    slots: &mut Vec<Slot<'_, G>>,
+    bounds: &mut Bounds,
+    i: usize,
+    cx: &C,
+    mail: &Mail<'_>,
+) {
+    let took = slots[i].copy_message(cx, mail);
+    touch_if(bounds, i, took);
 }
 
 // The same through the places of the ICMP sockets alone, where each place is filed.
 fn copy_to_listed<C: Context, G: TsvalSource>(
     slots: &mut Vec<Slot<'_, G>>,
+    bounds: &mut Bounds,
     index: &Index,
     cx: &C,
     mail: &Mail<'_>,
@@ -89,7 +109,7 @@ fn copy_to_listed<C: Context, G: TsvalSource>(
     let end = slots.len();
     let mut from = 0;
     while let Some(i) = next_under(index, key, from, end) {
-        copy_at(slots, i, cx, mail);
+        copy_at(slots, bounds, i, cx, mail);
         from = i + 1;
     }
 }
@@ -97,15 +117,16 @@ fn copy_to_listed<C: Context, G: TsvalSource>(
 /// Each ICMP socket that accepts the message takes a copy. Where each place is filed, the others are not looked at.
 pub(crate) fn copy_to<C: Context, G: TsvalSource>(
     slots: &mut Vec<Slot<'_, G>>,
+    bounds: &mut Bounds,
     index: &Index,
     complete: bool,
     cx: &C,
     mail: &Mail<'_>,
 ) {
     if complete {
-        copy_to_listed(slots, index, cx, mail);
+        copy_to_listed(slots, bounds, index, cx, mail);
     } else {
-        copy_to_all(slots, cx, mail);
+        copy_to_all(slots, bounds, cx, mail);
     }
 }
 

@@ -52,6 +52,9 @@ impl<'a, G: TsvalSource> Slot<'a, G> {
         repr: &TcpRepr<'_>,
         reply: &mut Option<Reply>,
     ) {
+        if listening && opens(repr) {
+            self.opened = self.opened.wrapping_add(1);
+        }
         match &mut self.socket {
             Some(Socket::Tcp(tcp)) => match tcp.process(cx, ip, repr) {
                 // apart, as mostly nothing is answered, and a copy of nothing is as long as one of an answer
@@ -70,6 +73,7 @@ impl<'a, G: TsvalSource> Slot<'a, G> {
         repr: &TcpRepr<'_>,
         reply: &mut Option<Reply>,
     ) {
+        self.opened = self.opened.wrapping_add(1);
         match &mut self.socket {
             Some(Socket::Tcp(tcp)) => {
                 let _ = tcp.listen(tcp.listen_endpoint());

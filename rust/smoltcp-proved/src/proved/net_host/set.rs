@@ -25,8 +25,10 @@ impl<'a, G: TsvalSource> Filed<Slot<'a, G>> {
         }
         let index = Index::new(alloc, capacity)?;
         let free = Marks::new(alloc, capacity)?;
+        let mut ended = Marks::new(alloc, capacity)?;
+        ended.clear();
         let bounds = Bounds::new(alloc, capacity)?;
-        Ok(Filed::of_free(slots, index, free, bounds))
+        Ok(Filed::of_free(slots, index, free, ended, bounds))
     }
 
     /// How many sockets it has room for.
@@ -47,7 +49,7 @@ impl<'a, G: TsvalSource> Filed<Slot<'a, G>> {
         match self.first_free() {
             None => Err(socket),
             Some(index) => {
-                self.lend(index);
+                self.lend_out(index);
                 Ok(fill(&mut self.slots, index, socket))
             }
         }
@@ -64,7 +66,7 @@ impl<'a, G: TsvalSource> Filed<Slot<'a, G>> {
 
     /// Takes the socket out; none where the set has no socket of this handle. Afterwards no socket has it.
     pub fn remove(&mut self, handle: SocketHandle) -> Option<Socket<'a, G>> {
-        self.lend(handle.index);
+        self.lend_out(handle.index);
         take_at(&mut self.slots, handle)
     }
 
@@ -74,6 +76,32 @@ impl<'a, G: TsvalSource> Filed<Slot<'a, G>> {
             Some(slot) => slot.held(handle.generation),
             None => None,
         }
+    }
+
+    /// How many SYNs have opened the socket of a handle since it was added, modulo 2^64; `None` where the handle names
+    /// none. Each is a connection of its own: where the number has grown, the one before is over.
+    pub fn opened(&self, handle: SocketHandle) -> Option<u64> {
+        match self.slots.get(handle.index) {
+            Some(slot) => slot.opened(handle.generation),
+            None => None,
+        }
+    }
+
+    /// Calls a function with the socket of a handle, and answers what it answers; `None` where the handle names none. Each
+    /// other socket is as it was, and this one keeps its handle and its guard.
+    pub fn with<R, F: FnOnce(&mut Socket<'a, G>) -> R>(&mut self, handle: SocketHandle, f: F) -> Option<R> {
+        self.lend_out(handle.index);
+        with_at(&mut self.slots, handle, f)
+    }
+
+    /// The same with a TCP socket; `None` where the handle names none of this kind.
+    pub fn with_tcp<R, F: FnOnce(&mut tcp::Socket<'a, G>) -> R>(
+        &mut self,
+        handle: SocketHandle,
+        f: F,
+    ) -> Option<R> {
+        self.lend_out(handle.index);
+        with_tcp_at(&mut self.slots, handle, f)
     }
 
     /// Borrows the socket of a handle for writing; `None` where the handle names none.
@@ -157,6 +185,28 @@ fn fill<'a, G: TsvalSource>(
     socket: Socket<'a, G>,
 ) -> SocketHandle {
     slots[index].fill(index, socket)
+}
+
+fn with_at<'a, G: TsvalSource, R, F: FnOnce(&mut Socket<'a, G>) -> R>(
+    slots: &mut Vec<Slot<'a, G>>,
+    handle: SocketHandle,
+    f: F,
+) -> Option<R> {
+    if slots.len() <= handle.index {
+        return None;
+    }
+    slots[handle.index].with(handle.generation, f)
+}
+
+fn with_tcp_at<'a, G: TsvalSource, R, F: FnOnce(&mut tcp::Socket<'a, G>) -> R>(
+    slots: &mut Vec<Slot<'a, G>>,
+    handle: SocketHandle,
+    f: F,
+) -> Option<R> {
+    if slots.len() <= handle.index {
+        return None;
+    }
+    slots[handle.index].with_tcp(handle.generation, f)
 }
 
 fn take_at<'a, G: TsvalSource>(slots: &mut Vec<Slot<'a, G>>, handle: SocketHandle) -> Option<Socket<'a, G>> {

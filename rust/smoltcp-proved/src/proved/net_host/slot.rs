@@ -2,8 +2,8 @@
 //! One place of a set of sockets.
 
 use crate::proved::net_host::guard::Guard;
-use crate::sockets::Socket;
 use crate::sockets::sock_tcp::{Generator, TsvalSource};
+use crate::sockets::{Socket, tcp};
 
 /// Names a socket of a set. A socket that is put where another one was removed has another handle.
 #[derive(Debug, Clone, Copy, PartialEq, Eq)]
@@ -21,12 +21,14 @@ pub struct Slot<'a, G = Generator> {
     pub(crate) generation: u64,
     pub(crate) socket: Option<Socket<'a, G>>,
     pub(crate) guard: Guard,
+    // how many SYNs opened the socket that is here
+    pub(crate) opened: u64,
 }
 
 impl<'a, G> Slot<'a, G> {
     /// A place with no socket.
     pub(crate) fn free() -> Slot<'a, G> {
-        Slot { generation: 1, socket: None, guard: Guard::new() }
+        Slot { generation: 1, socket: None, guard: Guard::new(), opened: 0 }
     }
 
     /// Whether there is no socket.
@@ -49,6 +51,14 @@ impl<'a, G> Slot<'a, G> {
         }
         self.socket.as_ref()
     }
+
+    /// How many SYNs opened the socket that is here under this generation.
+    pub(crate) fn opened(&self, generation: u64) -> Option<u64> {
+        match &self.socket {
+            Some(_) if self.generation == generation => Some(self.opened),
+            _ => None,
+        }
+    }
 }
 
 impl<'a, G: TsvalSource> Slot<'a, G> {
@@ -56,7 +66,34 @@ impl<'a, G: TsvalSource> Slot<'a, G> {
     pub(crate) fn fill(&mut self, index: usize, socket: Socket<'a, G>) -> SocketHandle {
         self.socket = Some(socket);
         self.guard = Guard::new();
+        self.opened = 0;
         SocketHandle { index, generation: self.generation }
+    }
+
+    /// Calls a function with the socket that is here under this generation.
+    pub(crate) fn with<R, F: FnOnce(&mut Socket<'a, G>) -> R>(&mut self, generation: u64, f: F) -> Option<R> {
+        if self.generation != generation {
+            return None;
+        }
+        match &mut self.socket {
+            Some(socket) => Some(f(socket)),
+            None => None,
+        }
+    }
+
+    /// The same with a TCP socket alone.
+    pub(crate) fn with_tcp<R, F: FnOnce(&mut tcp::Socket<'a, G>) -> R>(
+        &mut self,
+        generation: u64,
+        f: F,
+    ) -> Option<R> {
+        if self.generation != generation {
+            return None;
+        }
+        match &mut self.socket {
+            Some(Socket::Tcp(tcp)) => Some(f(tcp)),
+            _ => None,
+        }
     }
 
     /// Takes the socket out that is here under this generation.

@@ -5,7 +5,7 @@ use crate::proved::host_context::Words;
 use crate::proved::net_host::counters::Counters;
 use crate::proved::net_host::environment::Environment;
 use crate::proved::net_host::inner::InterfaceInner;
-use crate::proved::net_host::lent_turns::turn_there;
+use crate::proved::net_host::lent_turns::{tell_if_over, turn_there};
 use crate::proved::net_host::looking::next_due;
 use crate::proved::net_host::set::SocketSet;
 use crate::proved::net_host::wire::{Sent, TooShort};
@@ -48,6 +48,7 @@ fn speak_on<W: Words, G: TsvalSource>(
     while let Some(i) = next_due(sockets, cx, *turn) {
         *turn = i + 1;
         let (answer, sent) = turn_at(sockets, i, &cx.environment, out);
+        tell_if_over(sockets, i);
         if answer.is_err() {
             return Err(TooShort);
         }

@@ -1,4 +1,4 @@
-use Rattle.std.proofs.Common.{◌≡◌, true, sym, subst}
+use Rattle.std.proofs.Common.{◌≡◌, ◌∙◌, true, sym, subst}
 use Rattle.std.specs.Prelude.{slice_get}
 use Rattle.net_host.specs.Indexing.{IsIndexed, IsSettled, is_filed, is_noted_of}
 use Rattle.net_host.proofs.Places.{lent_room, settled}
@@ -16,7 +16,7 @@ invariant_of-self g c =
     (subst (λ xs. c.refile_at-filed.result ≡ true → is_filed g.T.Keyed.keys_of c.refile_at-filed.new.index c.in-Some.place (slice_get xs c.in-Some.place) ≡ true) c.deref.ensures.value c.refile_at-filed.ensures.filed)
     c.refile_at-filed.ensures.marks
     (subst (λ xs. is_noted_of g.T.Keyed.keys_of c.refile_at-filed.new.free c.in-Some.place (slice_get xs c.in-Some.place) ≡ true) c.deref.ensures.value c.refile_at-filed.ensures.noted)) in
-    record { indexed = now; asleep = c.args.self.now.asleep; as_many = c.args.self.now.as_many; kept = λ e. now }
+    record { indexed = now; asleep = c.args.self.now.asleep; as_many = c.args.self.now.as_many; kept = λ e. now; as_marked = c.args.self.now.as_marked ∙ sym c.refile_at-filed.ensures.marks.len }
 
 pub returns-in_default-clause-settled : goal.returns-in_default-clause-settled
 returns-in_default-clause-settled g c = subst (λ l. IsIndexed g.T.Keyed.keys_of c.args.self.now.complete l c.args.self.now.slots.items c.args.self.now.index c.args.self.now.free) c.in_default.is c.args.self.now.indexed

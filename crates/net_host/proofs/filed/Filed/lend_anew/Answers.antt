@@ -11,6 +11,7 @@ invariant_of-self g c = record {
   asleep = c.settle.new.self.asleep;
   as_many = c.settle.new.self.as_many;
   kept = unsettled refl;
+  as_marked = c.settle.new.self.as_marked;
 }
 
 pub returns-clause-lent : goal.returns-clause-lent

@@ -11,6 +11,7 @@ invariant_of-self g c = record {
   asleep = subst (λ bs. AreAsleep g.T.Keyed.sleeps c.args.self.now.terms bs c.args.self.now.slots.items) (sym c.put_at_once.ensures) (marked_set g.T.Keyed.sleeps c.args.self.now.terms c.args.self.now.bounds c.args.self.now.slots.items c.args.place c.args.self.now.asleep);
   as_many = ap length c.put_at_once.ensures ∙ length-set c.args.self.now.bounds c.args.place at_once ∙ c.args.self.now.as_many;
   kept = c.args.self.now.kept;
+  as_marked = c.args.self.now.as_marked;
 }
 
 pub returns-clause-marked : goal.returns-clause-marked

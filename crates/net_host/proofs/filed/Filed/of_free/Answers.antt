@@ -8,4 +8,5 @@ invariant_of-result g c = record {
   asleep = all_marked g.T.Keyed.sleeps _ c.args.bounds c.args.slots.items c.requires.marked;
   as_many = c.requires.as_many;
   kept = λ e. nothing_indexed g.T.Keyed.keys_of c.args.slots.items c.args.index c.args.free c.requires.free c.requires.noted;
+  as_marked = c.requires.as_marked;
 }

@@ -1,7 +1,8 @@
-use Rattle.std.proofs.Common.{refl, subst}
+use Rattle.std.proofs.Common.{refl, subst, ap}
 use Rattle.ip_wire.specs.contracts.address.IpAddressPartialEq.TheImpl.{eq-value}
 use Rattle.net_host.specs.Facts.{facts_by}
 use Rattle.net_host.specs.Speaking.{Speaks}
+use Rattle.net_host.proofs.Telling.{tells_none, tells_then}
 use Rattle.net_host.proofs.interface.Interface.emit_at.Goals as goal
 
 pub returns-clause-table : goal.returns-clause-table
@@ -19,3 +20,6 @@ returns-clause-table g c = record {
   cookies = c.set_now.ensures.cookies;
   groups = c.set_now.ensures.groups;
 }
+
+pub returns-clause-ends : goal.returns-clause-ends
+returns-clause-ends g c = tells_then _ _ _ _ _ _ (tells_none _ _ _ _ (ap (λ v. v.items) c.heed.ensures.slots) c.heed.ensures.ended) c.speak.ensures.ends

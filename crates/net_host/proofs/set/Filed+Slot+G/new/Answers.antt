@@ -1,4 +1,4 @@
-use Rattle.std.proofs.Common.{◌≡◌, ◌/◌, ◌<◌, length, rules, sym, subst, ap, arith}
+use Rattle.std.proofs.Common.{◌≡◌, ◌∙◌, ◌/◌, ◌<◌, length, rules, sym, subst, ap, arith}
 use Rattle.std.specs.List.{All}
 use Rattle.std.proofs.lemmas.List.Elements.{All-push, All-weaker}
 use Rattle.net_host.specs.Filing.{keys_in, keys_of}
@@ -21,5 +21,8 @@ of_free-requires-clause-noted g c = λ k within.
     let room : k / 64 < length c.in_ok-free.free = omega (arith, within, c.loop.invariant.count, c.in_ok-free.ensures.room) in
     noted_on c.in_ok-free.free k room (c.in_ok-free.ensures.marked k room)
 
+pub of_free-requires-clause-as_marked : goal.of_free-requires-clause-as_marked
+of_free-requires-clause-as_marked g c = c.clear.ensures.len ∙ c.in_ok-ended.ensures.len ∙ sym c.in_ok-free.ensures.len
+
 pub returns-clause-free : goal.returns-clause-free
-returns-clause-free g c = subst (λ v. All (λ s. IsFirstFree s) v.items) (sym c.of_free.ensures) c.loop.invariant.free
+returns-clause-free g c = subst (λ v. All (λ s. IsFirstFree s) v.items) (sym c.of_free.ensures.slots) c.loop.invariant.free
