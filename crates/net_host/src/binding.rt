@@ -84,7 +84,7 @@ impl<'a, G: TsvalSource> Filed<Slot<'a, G>> {
         if !self.has_udp(handle) {
             return Err(OpenError::NoSocket);
         }
-        self.lend(handle.index);
+        self.lend_out(handle.index);
         bind_there(&mut self.slots, handle.index, addr, port)
     }
 }

@@ -111,7 +111,7 @@ impl<'a, G: TsvalSource> Filed<Slot<'a, G>> {
         if !self.has_tcp(handle) {
             return Err(OpenError::NoSocket);
         }
-        self.lend(handle.index);
+        self.lend_out(handle.index);
         open_there(&mut self.slots, handle.index, cx, remote, local)
     }
 }
