@@ -4,19 +4,19 @@ ghost use Rattle.net_host.specs.Bindings.{BindsBy};
 ghost use Rattle.net_host.specs.Facts.{facts_by};
 ghost use Rattle.net_host.specs.Openings.{Opens, local_address};
 ghost use Rattle.smoltcp_c.specs.Answers.{error_address, error_memory};
-ghost use Rattle.smoltcp_c.specs.Host.{KeepsSockets, are_addresses, cidr_in, interface, named, slots};
+ghost use Rattle.smoltcp_c.specs.Host.{KeepsSockets, are_addresses, cidr_in, interface, named, slots, slots_of};
 ghost use Rattle.smoltcp_c.specs.HostOpening.{bound_answer, opened_answer, refusal};
 ghost use Rattle.smoltcp_c.specs.Numbers.{endpoint_in, listen_in};
 ghost use Rattle.smoltcp_c.specs.Tcp.{Answers};
 
 use crate::answers::{ERROR_ADDRESS, ERROR_IN_USE, ERROR_MEMORY, ERROR_SOCKET, ERROR_STATE, OK};
 use crate::endpoints::{Endpoint, endpoint_in, listen_in};
-use crate::host::HostHandle;
+use crate::host::{Host, HostHandle};
 use crate::host_numbers::{Cidr, SocketId, named};
 use crate::host_setup::{addresses_in, are_addresses};
 use host_context::Words;
-use ip_wire::{IpAddress, IpEndpoint};
-use net_host::{OpenError, Secret};
+use ip_wire::{IpAddress, IpEndpoint, IpListenEndpoint};
+use net_host::{OpenError, Secret, SocketHandle};
 use std::alloc::Global;
 
 /// Opens a connection of the TCP socket of this name, from `local`: with version 0 of its address from that from which
@@ -43,11 +43,31 @@ pub extern "C" fn smoltcp_host_connect_nonnull(
     ensures at { h.new.at ≡ h.old.at }
 {
     let host = h.host();
-    let (remote, local) = (endpoint_in(remote), listen_in(local));
-    let answer = host
-        .interface
-        .connect(&mut host.sockets, named(id), remote, local);
+    let answer = connect(host, named(id), endpoint_in(remote), listen_in(local));
     opened_answer(answer)
+}
+
+fn connect(
+    host: &mut Host,
+    handle: SocketHandle,
+    remote: IpEndpoint,
+    local: IpListenEndpoint,
+) -> Result<IpEndpoint, OpenError>
+    ensures opened { Opens (λ c. facts_by ⟦<IpAddress as PartialEq>⟧.eq c.environment)
+        (λ c k. ⟦<Secret as Words>⟧.word_at c.words k)
+        (local_address ⟦<IpAddress as PartialEq>⟧.eq host.old.interface.inner.environment.addresses.items local.addr
+        remote.addr) local.port (slots_of host.old) handle host.old.interface.inner remote result (slots_of host.new)
+        host.new.interface.inner }
+    ensures interface { (host.new.interface.turn ≡ host.old.interface.turn)
+        × (host.new.interface.resets ≡ host.old.interface.resets)
+        × (host.new.interface.errors ≡ host.old.interface.errors)
+        × (host.new.interface.counters ≡ host.old.interface.counters)
+        × (host.new.interface.guards ≡ host.old.interface.guards)
+        × (host.new.interface.cookies ≡ host.old.interface.cookies)
+        × (host.new.interface.groups ≡ host.old.interface.groups) }
+{
+    host.interface
+        .connect(&mut host.sockets, handle, remote, local)
 }
 
 fn opened_answer(answer: Result<IpEndpoint, OpenError>) -> i64
