@@ -169,7 +169,7 @@ fn pass_one(
     if on_a.ended(0).is_some() {
         return Err(AllocError);
     }
-    let _ = b.receive(&mut on_b, now, &packet[..count], &mut reply);
+    let _ = b.receive(&mut on_b, now, &packet[..count.min(1500)], &mut reply);
     Ok((before, on_b.touched(0)))
 }
 
