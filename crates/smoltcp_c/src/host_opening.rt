@@ -29,11 +29,13 @@ pub extern "C" fn smoltcp_host_connect_nonnull(
     remote: &Endpoint,
     local: &Endpoint,
 ) -> i64
-    ensures opened { Answers (λ r. opened_answer r) (λ r. Opens (λ c. facts_by ⟦<IpAddress as PartialEq>⟧.eq c.environment)
+    ensures opened { Answers (λ r. opened_answer r) (λ r. Opens
+        (λ c. facts_by ⟦<IpAddress as PartialEq>⟧.eq c.environment)
         (λ c k. ⟦<Secret as Words>⟧.word_at c.words k)
         (local_address ⟦<IpAddress as PartialEq>⟧.eq (interface h.old).inner.environment.addresses.items
         (listen_in local.now).addr (endpoint_in remote.now).addr) (listen_in local.now).port (slots h.old)
-        (named id.now) (interface h.old).inner (endpoint_in remote.now) r (slots h.new) (interface h.new).inner) result }
+        (named id.now) (interface h.old).inner (endpoint_in remote.now) r (slots h.new) (interface h.new).inner)
+        result }
     ensures interface { ((interface h.new).turn ≡ (interface h.old).turn)
         × ((interface h.new).resets ≡ (interface h.old).resets) × ((interface h.new).errors ≡ (interface h.old).errors)
         × ((interface h.new).counters ≡ (interface h.old).counters)
@@ -98,7 +100,8 @@ pub extern "C" fn smoltcp_host_bind_udp_nonnull(
     id: &SocketId,
     local: &Endpoint,
 ) -> i64
-    ensures bound { Answers (λ r. bound_answer r) (λ r. BindsBy (λ c. facts_by ⟦<IpAddress as PartialEq>⟧.eq c.environment)
+    ensures bound { Answers (λ r. bound_answer r) (λ r. BindsBy
+        (λ c. facts_by ⟦<IpAddress as PartialEq>⟧.eq c.environment)
         (λ c k. ⟦<Secret as Words>⟧.word_at c.words k) (slots h.old) (named id.now) (listen_in local.now)
         (interface h.old).inner r (slots h.new) (interface h.new).inner) result }
     ensures interface { ((interface h.new).turn ≡ (interface h.old).turn)

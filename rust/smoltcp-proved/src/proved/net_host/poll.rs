@@ -41,8 +41,8 @@ fn have_room(mtu: usize, packet: &[u8], reply: &[u8]) -> bool {
 impl<W: Words> Interface<W> {
     /// Takes the packets that arrived at the device, and then gives the sockets that are due their turns, until the
     /// device has no room: at most `POLL_BURST` of each, and each by a `receive` or an `emit` at this moment, whose
-    /// answer the device sends. How many of both; 0 where none arrived and none was due. Fewer packets are taken only where
-    /// the device has no room or no packet more, and fewer turns given only where it has no room or no socket is due; so
+    /// answer the device sends. How many of both; 0 if none arrived and none was due. Fewer packets are taken only if
+    /// the device has no room or no packet more, and fewer turns given only if it has no room or no socket is due; so
     /// whatever arrives, sockets have their turns.
     ///
     /// The MTU becomes the device's. Where fewer than `POLL_BURST` are answered and the device has room, no socket is

@@ -12,8 +12,8 @@ pub(crate) fn touch_if(bounds: &mut Bounds, i: usize, took: bool) {
 }
 
 impl<T: Keyed> Filed<T> {
-    /// The first place from one on whose socket took a segment, a datagram, a message or a copy of a packet, was lent or
-    /// was put there since `emit` last asked it; none behind the last of them. So between `receive` and `emit` a program
+    /// The first place from one on whose socket took a segment, a datagram, a message or a packet's copy, was lent or
+    /// put there since `emit` last asked it; none behind the last of them. So between `receive` and `emit` a program
     /// need not look at each of its sockets: a packet leaves each socket that is not touched as it was.
     pub fn touched(&self, from: usize) -> Option<usize> {
         self.bounds.next(from, self.bounds.len(), i64::MIN)
