@@ -96,7 +96,7 @@ static void make(struct record *r) {
     if (r->kind == TCP) {
         done("tcp_init", smoltcp_tcp_init(&r->tcp, r->buffers[0], len[0], r->buffers[1], len[1]));
         if (draw(2)) done("rules", smoltcp_tcp_set_rules(&r->tcp, draw(2)));
-        if (draw(4) == 0) done("keep_alive", smoltcp_tcp_set_keep_alive(&r->tcp, draw(2000000)));
+        if (draw(4) == 0) done("keep_alive", smoltcp_tcp_set_keep_alive(&r->tcp, 1 + draw(2000000)));
     } else if (r->kind == UDP) {
         struct smoltcp_udp_buffer in = {(struct smoltcp_udp_place *)r->places[0], count[0], r->buffers[0], len[0]};
         struct smoltcp_udp_buffer out = {(struct smoltcp_udp_place *)r->places[1], count[1], r->buffers[1], len[1]};
@@ -280,7 +280,8 @@ static void set(struct end *e, int which) {
     struct smoltcp_counters counters;
     struct smoltcp_context cx;
     struct smoltcp_key key;
-    struct smoltcp_socket_id id;
+    struct smoltcp_socket_id id = {draw(SLOTS + 1), draw(3)};
+    uint64_t opened;
     size_t place, i;
     memset(&key, (int)draw(256), sizeof key);
     switch (draw(10)) {
@@ -300,6 +301,8 @@ static void set(struct end *e, int which) {
     default:
         named("at", smoltcp_host_at(&e->host, draw(SLOTS + 1), &id), 1);
         named("touched", smoltcp_host_touched(&e->host, draw(SLOTS + 1), &place), 1);
+        named("ended", smoltcp_host_ended(&e->host, draw(SLOTS + 1), &place), 1);
+        named("opened", smoltcp_host_opened(&e->host, &id, &opened), 0);
         named("free", smoltcp_host_free_slots(&e->host), SLOTS);
     }
 }

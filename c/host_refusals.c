@@ -254,6 +254,7 @@ static void nulls(void) {
     struct smoltcp_context cx;
     struct smoltcp_endpoint at = {{0, {0}, {0}}, 80};
     uint8_t packet[MTU];
+    uint64_t opened;
     size_t place;
     NULLS(smoltcp_host_init((struct smoltcp_host *)NULL, 1, &address, 1, &key));
     NULLS(smoltcp_host_init(&host, 1, NULL, 1, &key));
@@ -297,6 +298,11 @@ static void nulls(void) {
     NULLS(smoltcp_host_at(&host, 0, NULL));
     NULLS(smoltcp_host_touched(NULL, 0, &place));
     NULLS(smoltcp_host_touched(&host, 0, NULL));
+    NULLS(smoltcp_host_ended(NULL, 0, &place));
+    NULLS(smoltcp_host_ended(&host, 0, NULL));
+    NULLS(smoltcp_host_opened(NULL, &id, &opened));
+    NULLS(smoltcp_host_opened(&host, NULL, &opened));
+    NULLS(smoltcp_host_opened(&host, &id, NULL));
     want("release", smoltcp_host_release(&host), SMOLTCP_OK);
 }
 

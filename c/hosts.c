@@ -233,6 +233,8 @@ static void touched(void) {
     struct side *server = &sides[1];
     uint8_t packet[MTU], reply[MTU];
     struct smoltcp_counters counters;
+    struct smoltcp_socket_id nobody = {0, 0};
+    uint64_t opened;
     size_t place = 77;
     int64_t len, n;
     begin();
@@ -255,7 +257,14 @@ static void touched(void) {
             want("no RST", reply[20 + 13] & 4, 0);
         }
     }
+    want("ended", smoltcp_host_ended(&server->host, 0, &place), 1);
+    want("the first", (int64_t)place, 0);
+    want("none ended behind it", smoltcp_host_ended(&server->host, 1, &place), 0);
+    want("opened", smoltcp_host_opened(&server->host, &server->ids[0], &opened), SMOLTCP_OK);
+    want("once", (int64_t)opened, 1);
     want("it listens again", smoltcp_tcp_state(tcp_at(server, 0)), SMOLTCP_LISTEN);
+    want("told once", smoltcp_host_ended(&server->host, 0, &place), 0);
+    want("nobody's name", smoltcp_host_opened(&server->host, &nobody, &opened), SMOLTCP_ERROR_SOCKET);
     n = smoltcp_host_receive(&server->host, server->now, packet, 40, reply, MTU);
     want("a cut packet", n, 0);
     want("counters", smoltcp_host_counters(&server->host, &counters), SMOLTCP_OK);

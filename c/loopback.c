@@ -397,6 +397,7 @@ int main(void) {
     want("timeout b", smoltcp_tcp_set_timeout(&b, 60000000), SMOLTCP_OK);
     want("keep-alive b", smoltcp_tcp_set_keep_alive(&b, 15000000), SMOLTCP_OK);
     want("too long", smoltcp_tcp_set_keep_alive(&b, INT64_MAX), SMOLTCP_ERROR_RANGE);
+    want("without end", smoltcp_tcp_set_keep_alive(&b, 0), SMOLTCP_ERROR_RANGE);
     want("ack delay", smoltcp_tcp_set_ack_delay(&b, -1), SMOLTCP_OK);
     want("nagle", smoltcp_tcp_set_nagle_enabled(&a, 0), SMOLTCP_OK);
     want("hop limit", smoltcp_tcp_set_hop_limit(&a, 32), SMOLTCP_OK);

@@ -35,7 +35,7 @@ extern "C" {
 
 /* Memory for a host, for these calls alone; from smoltcp_host_init on it stays where it is. It lies at a multiple of
  * 16, as the compiler and malloc put it, since the library has numbers of 128 bits in it. */
-enum { SMOLTCP_HOST_SIZE = 1248, SMOLTCP_HOST_RESETS = 4 };
+enum { SMOLTCP_HOST_SIZE = 1264, SMOLTCP_HOST_RESETS = 4 };
 struct smoltcp_host {
     union { uint64_t opaque[SMOLTCP_HOST_SIZE / 8]; long double aligned; } memory;
     uint64_t mark; /* of a host that init made here */
@@ -76,12 +76,13 @@ struct smoltcp_guards { int64_t handshake, closing, window, timeout; };
  * malformed: no IP packet, a wrong length or header checksum, or a fragment. source: from what no single other host
  * has. destination: to no address of the host, no broadcast and no group that it joined. protocol: of none that it
  * speaks. segment, datagram, message: of TCP, UDP, ICMP, with a wrong header, length or checksum. busy: a SYN for a
- * port that is served, while no socket is free. nobody: for no socket. Then SYNs that were answered without a socket,
- * and acknowledgements of such answers that took a socket, or that answered none. too_long: packets of sockets that
- * were dropped, as they were longer than the MTU. */
+ * port that is served, while no socket is free. nobody: for no socket. full: a UDP datagram whose socket has no room
+ * for it. Then SYNs that were answered without a socket, and acknowledgements of such answers that took a socket, or
+ * that answered none. too_long: packets of sockets that were dropped, as they were longer than the MTU. unsent: what a
+ * UDP, ICMP or raw socket was to send, where no own address has the destination's version, or it is no such packet. */
 struct smoltcp_counters {
-    uint64_t malformed, source, destination, protocol, segment, datagram, message, busy, nobody;
-    uint64_t cookies_sent, cookies_taken, cookies_wrong, too_long;
+    uint64_t malformed, source, destination, protocol, segment, datagram, message, busy, nobody, full;
+    uint64_t cookies_sent, cookies_taken, cookies_wrong, too_long, unsent;
 };
 
 /* The size of a host that the library has, in bytes. */
@@ -320,10 +321,25 @@ int64_t smoltcp_host_at(const struct smoltcp_host *host, size_t index, struct sm
 
 /* Writes the first place from one on whose socket may have changed since emit last asked it into out, and answers 1: it
  * took a packet, or was lent or put in. 0 where there is none, with out as it was. So between receive and emit a
- * program need not look at each of its sockets. All places of a new host are marked, as is one whose socket was removed.
+ * program need not look at each of its sockets. All places of a new host are marked, as is one whose socket was
+ * removed, until an emit that answers 0.
  *
  * Errors: SMOLTCP_ERROR_NULL. */
 int64_t smoltcp_host_touched(const struct smoltcp_host *host, size_t from, size_t *out);
+
+/* Writes the first place from one on whose TCP connection ended within emit since it was lent last into out, and
+ * answers 1: by a timer, its guard or an own address that was lost. 0 where there is none, with out as it was. A
+ * connection that a packet ends is touched.
+ *
+ * Errors: SMOLTCP_ERROR_NULL. */
+int64_t smoltcp_host_ended(const struct smoltcp_host *host, size_t from, size_t *out);
+
+/* Writes how many SYNs have opened the socket of this name since it was added into out. Each is a connection of its
+ * own: where the number has grown, the one before is over. SMOLTCP_ERROR_SOCKET where the host has no socket of this
+ * name, with out as it was.
+ *
+ * Errors: SMOLTCP_ERROR_SOCKET, SMOLTCP_ERROR_NULL. */
+int64_t smoltcp_host_opened(const struct smoltcp_host *host, const struct smoltcp_socket_id *id, uint64_t *out);
 
 #ifdef __cplusplus
 }

@@ -18,7 +18,7 @@ SMOLTCP_INLINE int64_t smoltcp_host_emit(struct smoltcp_host *host, int64_t now,
     if (cap < len) return SMOLTCP_ERROR_ROOM;
     for (i = 0; i < len; i++) out[i] = host->resets[0].bytes[i];
     host->waiting--;
-    for (i = 0; i < host->waiting; i++) host->resets[i] = host->resets[i + 1];
+    for (i = 1; i < SMOLTCP_HOST_RESETS; i++) host->resets[i - 1] = host->resets[i];
     return (int64_t)len;
 }
 

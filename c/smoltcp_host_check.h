@@ -100,6 +100,10 @@ static inline int64_t smoltcp_checked_host_icmp(struct smoltcp_host *host, const
     (smoltcp_host_at)(smoltcp_checked_const_host((s), 0, "smoltcp_host_at"), __VA_ARGS__)
 #define smoltcp_host_touched(s, ...) \
     (smoltcp_host_touched)(smoltcp_checked_const_host((s), 0, "smoltcp_host_touched"), __VA_ARGS__)
+#define smoltcp_host_ended(s, ...) \
+    (smoltcp_host_ended)(smoltcp_checked_const_host((s), 0, "smoltcp_host_ended"), __VA_ARGS__)
+#define smoltcp_host_opened(s, ...) \
+    (smoltcp_host_opened)(smoltcp_checked_const_host((s), 0, "smoltcp_host_opened"), __VA_ARGS__)
 
 /* The answer is an error where no host lies there. */
 static inline int64_t smoltcp_checked_host_release(struct smoltcp_host *host) {

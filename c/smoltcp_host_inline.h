@@ -26,6 +26,12 @@ SMOLTCP_INLINE int64_t smoltcp_host_counters(const struct smoltcp_host *host, st
     return smoltcp_host_counters_nonnull(&h, out);
 }
 
+SMOLTCP_INLINE int64_t smoltcp_host_ended(const struct smoltcp_host *host, size_t from, size_t *out) {
+    struct smoltcp_host_handle h = {SMOLTCP_AT(host)};
+    if (!host || !out) return SMOLTCP_ERROR_NULL;
+    return smoltcp_host_ended_nonnull(&h, from, out);
+}
+
 SMOLTCP_INLINE int64_t smoltcp_host_join(struct smoltcp_host *host, const struct smoltcp_address *group) {
     struct smoltcp_host_handle h = {SMOLTCP_AT(host)};
     if (!host || !group) return SMOLTCP_ERROR_NULL;
@@ -36,6 +42,13 @@ SMOLTCP_INLINE int64_t smoltcp_host_leave(struct smoltcp_host *host, const struc
     struct smoltcp_host_handle h = {SMOLTCP_AT(host)};
     if (!host || !group) return SMOLTCP_ERROR_NULL;
     return smoltcp_host_leave_nonnull(&h, group);
+}
+
+SMOLTCP_INLINE int64_t smoltcp_host_opened(const struct smoltcp_host *host, const struct smoltcp_socket_id *id,
+                                           uint64_t *out) {
+    struct smoltcp_host_handle h = {SMOLTCP_AT(host)};
+    if (!host || !id || !out) return SMOLTCP_ERROR_NULL;
+    return smoltcp_host_opened_nonnull(&h, id, out);
 }
 
 SMOLTCP_INLINE int64_t smoltcp_host_receive(struct smoltcp_host *host, int64_t now, const uint8_t *packet, size_t len,

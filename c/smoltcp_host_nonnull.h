@@ -18,7 +18,7 @@ struct smoltcp_socket_at { uint8_t *at; };
 /* The sizes that the library's structs have, and those of a host. */
 #if defined(__STDC_VERSION__) && __STDC_VERSION__ >= 201112L
 _Static_assert(sizeof(struct smoltcp_cidr) == 22, "cidr");
-_Static_assert(sizeof(struct smoltcp_counters) == 104, "counters");
+_Static_assert(sizeof(struct smoltcp_counters) == 120, "counters");
 _Static_assert(sizeof(struct smoltcp_guards) == 32, "guards");
 _Static_assert(sizeof(struct smoltcp_host_handle) == 8, "host_handle");
 _Static_assert(sizeof(struct smoltcp_key) == 32, "key");
@@ -45,12 +45,14 @@ int64_t smoltcp_host_context_nonnull(struct smoltcp_host_handle *h, const struct
                                      struct smoltcp_context *out);
 int64_t smoltcp_host_counters_nonnull(struct smoltcp_host_handle *h, struct smoltcp_counters *out);
 int64_t smoltcp_host_emit_nonnull(struct smoltcp_host_handle *h, int64_t now, uint8_t *out, size_t cap);
+int64_t smoltcp_host_ended_nonnull(struct smoltcp_host_handle *h, size_t from, size_t *out);
 int64_t smoltcp_host_icmp_nonnull(struct smoltcp_host_handle *h, const struct smoltcp_socket_id *id,
                                   struct smoltcp_socket_at *out);
 int64_t smoltcp_host_init_nonnull(struct smoltcp_host_handle *room, size_t capacity,
                                   const struct smoltcp_cidr *addresses, size_t count, const struct smoltcp_key *key);
 int64_t smoltcp_host_join_nonnull(struct smoltcp_host_handle *h, const struct smoltcp_address *group);
 int64_t smoltcp_host_leave_nonnull(struct smoltcp_host_handle *h, const struct smoltcp_address *group);
+int64_t smoltcp_host_opened_nonnull(struct smoltcp_host_handle *h, const struct smoltcp_socket_id *id, uint64_t *out);
 int64_t smoltcp_host_poll_at_nonnull(struct smoltcp_host_handle *h, int64_t *at);
 int64_t smoltcp_host_raw_nonnull(struct smoltcp_host_handle *h, const struct smoltcp_socket_id *id,
                                  struct smoltcp_socket_at *out);

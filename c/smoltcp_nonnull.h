@@ -68,7 +68,7 @@ int64_t smoltcp_tcp_negotiated_nonnull(struct smoltcp_tcp_handle *h, struct smol
 int64_t smoltcp_tcp_pause_synack_nonnull(struct smoltcp_tcp_handle *h, uint8_t pause);
 int64_t smoltcp_tcp_peek_nonnull(struct smoltcp_tcp_handle *h, size_t size, struct smoltcp_place *out);
 int64_t smoltcp_tcp_peek_slice_nonnull(struct smoltcp_tcp_handle *h, uint8_t *data, size_t cap);
-int64_t smoltcp_tcp_poll_at_nonnull(struct smoltcp_tcp_handle *h, const struct smoltcp_context *cx, int64_t *at);
+int64_t smoltcp_tcp_poll_at_nonnull(struct smoltcp_tcp_handle *h, const struct smoltcp_context *cx);
 int64_t smoltcp_tcp_process_nonnull(struct smoltcp_tcp_handle *h, const struct smoltcp_context *cx,
                                     const uint8_t *packet, size_t len, uint8_t *reply, size_t cap);
 int64_t smoltcp_tcp_recv_nonnull(struct smoltcp_tcp_handle *h, uint8_t *data, size_t cap);

@@ -211,7 +211,8 @@ int64_t smoltcp_tcp_set_timeout(struct smoltcp_tcp *s, int64_t micros);
 int64_t smoltcp_tcp_set_min_rto(struct smoltcp_tcp *s, int64_t micros);
 
 /* Asks an idle peer whether it is there every so many microseconds, at most 2^61; below 0: never, as in a new socket
- * (RFC 9293, section 3.8.4). Shorter than the timeout, by a factor of four, say, and never 0.
+ * (RFC 9293, section 3.8.4). Shorter than the timeout, by a factor of four, say. SMOLTCP_ERROR_RANGE for 0 too, with
+ * nothing changed.
  *
  * Errors: SMOLTCP_ERROR_RANGE, SMOLTCP_ERROR_NULL. */
 int64_t smoltcp_tcp_set_keep_alive(struct smoltcp_tcp *s, int64_t micros);

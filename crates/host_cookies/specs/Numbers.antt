@@ -1,5 +1,5 @@
 -- The number of an answer to a SYN.
-use Rattle.std.specs.Prelude.{ℕ, ℤ, pos, ◌+◌, ◌-◌, ◌*◌, ◌/◌, ◌%◌, ◌^◌, ◌==◌, ◌||◌, ◌+ℤ◌, unsigned_abs, List, Option}
+use Rattle.std.specs.Prelude.{ℕ, ℤ, pos, ◌+◌, ◌-◌, ◌*◌, ◌/◌, ◌%◌, ◌^◌, ◌==◌, ◌||◌, ◌&&◌, ◌+ℤ◌, unsigned_abs, List, Option}
 use Rattle.std.specs.Prelude.{Some, None, Bool, false, nat_le, if◌then◌else◌}
 use Rattle.std.specs.Int.{from_be_bytes, w32, w128}
 use Rattle.ip_wire.specs.declared.address.IpAddress.{IpAddress}
@@ -17,9 +17,16 @@ unfoldable pub number_of : IpAddress → ℕ
 number_of (address.Ipv4 a) = from_be_bytes w32 a.0 + 281470681743360
 number_of (address.Ipv6 a) = from_be_bytes w128 a.0
 
+abbrev pub mixed_wide : List ℕ → (remote local : ℕ) → ℕ
+mixed_wide key remote local =
+    mixed key (mixed key (mixed key (remote / 2 ^ 64) (remote % 2 ^ 64)) (local / 2 ^ 64)) (local % 2 ^ 64)
+
+-- two addresses of IPv4 tell one place of the stream, others one after the other
 abbrev pub addresses_of : List ℕ → (remote local : ℕ) → ℕ
 addresses_of key remote local =
-    mixed key (mixed key (mixed key (remote / 2 ^ 64) (remote % 2 ^ 64)) (local / 2 ^ 64)) (local % 2 ^ 64)
+    if (remote / 2 ^ 64 == 0) && (local / 2 ^ 64 == 0)
+    then mixed key (remote % 2 ^ 64) (local % 2 ^ 64)
+    else mixed_wide key remote local
 
 abbrev pub tag_of : List ℕ → Call → ℕ
 tag_of key c =

@@ -1,6 +1,6 @@
 //! A keyed function of a call: words of ChaCha20 at a place that the call tells.
 ghost use Rattle.std.specs.Prelude.{◌≡◌, ◌+◌, ◌*◌, ◌%◌, ◌/◌, ◌^◌};
-ghost use Rattle.host_cookies.specs.Numbers.{addresses_of, mixed, number_of, tag_of};
+ghost use Rattle.host_cookies.specs.Numbers.{addresses_of, mixed, mixed_wide, number_of, tag_of};
 
 use crate::call::Call;
 use ip_wire::IpAddress;
@@ -31,12 +31,22 @@ fn number_of(addr: &IpAddress) -> u128
     }
 }
 
-// Both addresses of a call.
+// Both addresses of a call: two of IPv4 fit one place.
 fn addresses_of(words: &mut ChaCha20Rng, call: &Call) -> u64
     ensures value { result ≡ addresses_of words.old.key (number_of call.now.remote) (number_of call.now.local) }
     ensures key { words.new.key ≡ words.old.key }
 {
     let (remote, local) = (number_of(&call.remote), number_of(&call.local));
+    if high_of(remote) == 0 && high_of(local) == 0 {
+        return mixed(words, low_of(remote), low_of(local));
+    }
+    mixed_wide(words, remote, local)
+}
+
+fn mixed_wide(words: &mut ChaCha20Rng, remote: u128, local: u128) -> u64
+    ensures value { result ≡ mixed_wide words.old.key remote local }
+    ensures key { words.new.key ≡ words.old.key }
+{
     let one = mixed(words, high_of(remote), low_of(remote));
     let two = mixed(words, one, high_of(local));
     mixed(words, two, low_of(local))

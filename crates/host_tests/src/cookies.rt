@@ -7,6 +7,7 @@ use net_host::SynCookies;
 use smoltcp_socket::storage::RingBuffer;
 use smoltcp_socket::tcp::{self, State};
 use smoltcp_socket::time::Duration;
+use smoltcp_socket::wire::ChecksumCapabilities;
 use std::alloc::AllocError;
 
 // What came of cookies, the state of the socket, and how many bytes wait there to be read.
@@ -96,8 +97,8 @@ fn with_cookies<'a>(
     Ok(host)
 }
 
-// The client opens a connection to the server by a cookie, and sends a byte, which is acknowledged. What it sends of its
-// own 20 seconds later, which is a keep-alive, goes to a host that is the server begun anew, under its key; `heard`
+// The client opens a connection to the server by a cookie, and sends a byte, which is acknowledged. What it sends of
+// its own 20 seconds later, which is a keep-alive, goes to a host that is the server begun anew, under its key; `heard`
 // says whether that has answered the SYN, too.
 fn keeps_alive(
     client: &mut OneSocket<'_>,
@@ -149,5 +150,51 @@ fn the_octet_of_a_keep_alive_is_not_taken(rt: HostRuntime) -> Result<(), AllocEr
 #[test]
 fn nobody_is_believed_where_no_answer_went_out(rt: HostRuntime) -> Result<(), AllocError> {
     assert!(rt; came_anew(&rt, false)? == ([0, 0, 0], Some(State::Listen), 0));
+    Ok(())
+}
+
+fn ignore_checksums(host: &mut OneSocket<'_>) {
+    host.interface
+        .set_checksums(ChecksumCapabilities::ignored());
+}
+
+// Once an answer is awaited, the client's acknowledgement of another number comes, to that port of the server: the
+// length of what answers it, and how many are counted as wrong.
+fn stray(
+    rt: &HostRuntime,
+    client: tcp::Socket<'_>,
+    server: tcp::Socket<'_>,
+    closed: bool,
+) -> Result<(usize, u64), AllocError> {
+    let mut client = Host::new(rt, CLIENT, client)?;
+    let mut server = with_cookies(rt, server)?;
+    ignore_checksums(&mut client);
+    ignore_checksums(&mut server);
+    let (mut packet, mut reply) = ([0u8; 1500], [0u8; 1500]);
+    connect(&mut client);
+    let count = emit(&mut client, 0, &mut packet);
+    let count = receive(&mut server, 1, &packet[..count], &mut reply);
+    receive(&mut client, 1, &reply[..count], &mut packet);
+    let count = emit(&mut client, 1, &mut packet);
+    packet[28] = packet[28].wrapping_add(1);
+    if closed {
+        packet[23] = 8;
+    }
+    let count = receive(&mut server, 1, &packet[..count], &mut reply);
+    Ok((count, server.interface.counters().cookies_wrong))
+}
+
+fn came_astray(rt: &HostRuntime, closed: bool) -> Result<(usize, u64), AllocError> {
+    let (mut rx_a, mut tx_a) = ([0u8; 64], [0u8; 64]);
+    let (mut rx_b, mut tx_b) = ([0u8; 64], [0u8; 64]);
+    let client = tcp::Socket::new(RingBuffer::new(&mut rx_a), RingBuffer::new(&mut tx_a));
+    let server = tcp::Socket::new(RingBuffer::new(&mut rx_b), RingBuffer::new(&mut tx_b));
+    stray(rt, client, server, closed)
+}
+
+#[test]
+fn no_number_is_tested_for_a_port_that_nobody_serves(rt: HostRuntime) -> Result<(), AllocError> {
+    assert!(rt; came_astray(&rt, false)? == (40, 1));
+    assert!(rt; came_astray(&rt, true)? == (40, 0));
     Ok(())
 }

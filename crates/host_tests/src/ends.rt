@@ -123,7 +123,8 @@ fn a_connection_in_place_of_another_is_counted(rt: HostRuntime) -> Result<(), Al
 
 // ---- datagrams
 
-fn one_udp<'a>(
+/// A host with one UDP socket, bound to port 5000.
+pub(crate) fn one_udp<'a>(
     rt: &HostRuntime,
     address: IpAddress,
     mut socket: udp::Socket<'a>,

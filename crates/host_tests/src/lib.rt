@@ -14,6 +14,8 @@ mod hosts;
 #[cfg(test)]
 mod limits;
 #[cfg(test)]
+mod lost;
+#[cfg(test)]
 mod sizes;
 #[cfg(test)]
 mod sources;

@@ -4,9 +4,9 @@ use smoltcp_socket::tcp;
 use std::mem::size_of;
 
 // As the headers of C ask for it, which live/header compares with these.
-const HOST_SIZE: usize = 1248;
+const HOST_SIZE: usize = 1264;
 
-const TCP_SIZE: usize = 664;
+const TCP_SIZE: usize = 584;
 
 // As the clock of a socket of C.
 #[derive(Debug, Clone, Copy)]

@@ -248,24 +248,24 @@ last_one s n xs h k =
 pub no_one : (s n : ℕ) (xs : List ℕ) → length xs % 2 ≡ 0 → swapped_word s n ≡ sum_after (swapped_word s n) (drop (length xs / 2 * 2) xs)
 no_one s n xs k = ap (sum_after (swapped_word s n)) (sym (drop_all (length xs / 2 * 2) xs (omega (arith, k))))
 
--- the 20 octets of a header
-pub twenty_octets : (xs : List ℕ) → ((k : ℕ) → k < length xs → get_or xs k 0 < 256) → length xs ≡ 20
-    → swapped_word 0 (le32_at xs 0 + le32_at xs 4 + le32_at xs 8 + le32_at xs 12 + le32_at xs 16) ≡ sum_after 0 xs
-twenty_octets xs h e =
+-- the 20 octets of a header, behind what was summed before
+pub twenty_octets : (s : ℕ) (xs : List ℕ) → s < 65536 → ((k : ℕ) → k < length xs → get_or xs k 0 < 256) → length xs ≡ 20
+    → swapped_word s (le32_at xs 0 + le32_at xs 4 + le32_at xs 8 + le32_at xs 12 + le32_at xs 16) ≡ sum_after s xs
+twenty_octets s xs small h e =
     let a = le32_at xs 0 in
     let b = le32_at xs 4 in
     let c = le32_at xs 8 in
     let d = le32_at xs 12 in
-    let zero-start : swapped_word 0 0 ≡ 0 = swapped_word_zero 0 (omega arith) in
+    let start : swapped_word s 0 ≡ s = swapped_word_zero s small in
     let all : 0 + a + b + c + d + le32_at xs 16 ≡ a + b + c + d + le32_at xs 16 = omega arith in
-    sym (ap (λ v. sum_after v xs) (sym zero-start)
-    ∙ number_more 0 0 xs 0 4 h (omega (arith, e)) refl
-    ∙ number_more 0 (0 + a) xs 4 8 h (omega (arith, e)) refl
-    ∙ number_more 0 (0 + a + b) xs 8 12 h (omega (arith, e)) refl
-    ∙ number_more 0 (0 + a + b + c) xs 12 16 h (omega (arith, e)) refl
-    ∙ number_more 0 (0 + a + b + c + d) xs 16 20 h (omega (arith, e)) refl
-    ∙ ap (sum_after (swapped_word 0 (0 + a + b + c + d + le32_at xs 16))) (drop_all 20 xs (omega (arith, e)))
-    ∙ ap (swapped_word 0) all)
+    sym (ap (λ v. sum_after v xs) (sym start)
+    ∙ number_more s 0 xs 0 4 h (omega (arith, e)) refl
+    ∙ number_more s (0 + a) xs 4 8 h (omega (arith, e)) refl
+    ∙ number_more s (0 + a + b) xs 8 12 h (omega (arith, e)) refl
+    ∙ number_more s (0 + a + b + c) xs 12 16 h (omega (arith, e)) refl
+    ∙ number_more s (0 + a + b + c + d) xs 16 20 h (omega (arith, e)) refl
+    ∙ ap (sum_after (swapped_word s (0 + a + b + c + d + le32_at xs 16))) (drop_all 20 xs (omega (arith, e)))
+    ∙ ap (swapped_word s) all)
 
 -- the four octets of an address
 pub four_swapped : (s n : ℕ) (xs : List ℕ) → ((k : ℕ) → k < length xs → get_or xs k 0 < 256) → length xs ≡ 4

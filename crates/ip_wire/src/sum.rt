@@ -238,8 +238,20 @@ pub fn sum_of_twenty(octets: &[u8]) -> u16
     requires { length octets.now ≡ 20 }
     ensures { result ≡ sum_after 0 octets.now }
 {
+    sum_of_twenty_after(0, octets)
+}
+
+/// The sum of 20 bytes, as [`sum_of_twenty`], and of what was summed before.
+#[inline(always)]
+pub fn sum_of_twenty_after(start: u16, octets: &[u8]) -> u16
+    requires { length octets.now ≡ 20 }
+    ensures { result ≡ sum_after start octets.now }
+{
     let first = le32_at(octets, 0) + le32_at(octets, 4) + le32_at(octets, 8);
-    swapped_word(0, first + le32_at(octets, 12) + le32_at(octets, 16))
+    swapped_word(
+        start as u64,
+        first + le32_at(octets, 12) + le32_at(octets, 16),
+    )
 }
 
 /// The checksum of `bytes`, and of what was summed before: the complement of the sum.
@@ -251,6 +263,8 @@ pub fn checksum_after(start: u16, bytes: &[u8]) -> u16
 
 /// The sum of the pseudo header of a packet whose payload has `length` bytes, of this protocol (RFC 8200, section 8.1;
 /// for IPv4 RFC 9293, section 3.1).
+// Inlined, so that no address is put into a value of either version for it.
+#[inline(always)]
 pub fn pseudo_sum(src: &IpAddress, dst: &IpAddress, protocol: u8, length: usize) -> u16
     ensures { result ≡ pseudo_sum src.now dst.now protocol length }
 {

@@ -398,6 +398,8 @@ impl<'a, H: Copy> PacketBuffer<'a, H> {
     /// `part` lends them. `None` where there is no packet.
     ///
     /// The two steps of `dequeue`, for a caller that lends the bytes on and says what it then is.
+    // Inlined, so that a caller that wants no header copies none.
+    #[inline(always)]
     pub fn take_first(&mut self) -> Option<(H, (usize, usize))>
         ensures variant { IsSome result ↔ (0 < length (packets self.old.entries)) }
         ensures after { Dequeues self.old self.new }

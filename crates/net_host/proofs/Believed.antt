@@ -1,6 +1,7 @@
 -- The acknowledgement of an answer is believed.
 use Rattle.std.proofs.Common.{◌≡◌, ◌∙◌, ℕ, ℤ, refl, ⊎_elim, ◌+◌, ◌*◌, ◌%◌, ◌<◌, ◌≤◌, Bool, true, false, Option, Some, None, ap, arith}
-use Rattle.std.specs.Prelude.{if◌then◌else◌, nat_le, ◌⊎◌}
+use Rattle.std.specs.Prelude.{if◌then◌else◌, nat_le, ◌⊎◌, ◌&&◌}
+use Rattle.std.proofs.lemmas.Bool.{and_parts}
 use Rattle.ip_wire.specs.declared.address.IpAddress.{IpAddress}
 use Rattle.ip_wire.specs.declared.repr.IpRepr.{IpRepr}
 use Rattle.control_wire.specs.Segment.{Segment}
@@ -13,7 +14,7 @@ use Rattle.host_cookies.specs.Numbers.{awaited, mixed, recognised, step_of, tag_
 use Rattle.host_cookies.specs.declared.call.Call.{Call}
 use Rattle.host_cookies.specs.declared.cookies.SynCookies.{SynCookies}
 use Rattle.net_host.specs.Cookies.{AnswersAreBelieved, answer_number, believed_if, call_of, class_told, doubted_by}
-use Rattle.net_host.specs.Cookies.{BelievesAwaited, kept_or, tested_if}
+use Rattle.net_host.specs.Cookies.{BelievesAwaited, is_anybody, kept_or, tested_if}
 use Rattle.net_host.specs.declared.cookies.Course.{Course}
 use Rattle.net_host.specs.declared.cookies.Course.TheVariants as course
 use Rattle.net_host.specs.declared.segments.Taker.TheVariants as taker
@@ -43,14 +44,15 @@ not_late : (heard sent last : ℕ) → (heard ≡ sent) ⊎ (heard ≡ sent + 1)
 not_late heard sent last step before = ⊎_elim (λ h. grind (arith, h, before)) (λ h. grind (arith, h, before)) step
 
 pub believed : AnswersAreRecognised → AnswersAreBelieved
-believed law c sent last heard ip ip' s a small noted before ans step =
+believed law c again sent last heard ip ip' s a small anybody noted before ans step =
     let awaits : awaited c.answered heard ≡ true = ap (λ o. awaited o heard) noted ∙ not_late (step_of heard) (step_of sent) (step_of last) step before in
     let within : answer_number c sent ip s < 4294967296 = number_small (class_of s.max_seg_size) (mixed (key_of c.key) (tag_of (key_of c.key) (call_of ip s s.seq_number)) (step_of sent * 8 + class_of s.max_seg_size)) (class_small s.max_seg_size) in
     let first : seq_minus a.seq_number 1 ≡ s.seq_number = ap (λ x. seq_minus x 1) ans.number ∙ back s.seq_number.0 small in
     let call : call_of ip' a (seq_minus a.seq_number 1) ≡ call_of ip s s.seq_number = same_call _ _ _ _ _ _ _ _ _ _ ans.remote ans.local ans.src_port ans.dst_port (ap (λ (x : TcpSeqNumber). x.0) first) in
     let told : class_told c heard ip' a (seq_of (answer_number c sent ip s)) ≡ Some (class_of s.max_seg_size) = ap (λ k. recognised (key_of c.key) k (step_of heard) (answer_number c sent ip s)) call ∙ law (key_of c.key) (call_of ip s s.seq_number) s.max_seg_size (step_of sent) (step_of heard) step in
     let known : believed_if (class_told c heard ip' a (seq_of (answer_number c sent ip s))) (answer_number c sent ip s) ≡ course.Believed (class_of s.max_seg_size) (answer_number c sent ip s) = ap (λ o. believed_if o (answer_number c sent ip s)) told in
-    ap (λ b. tested_if b c heard ip' a) awaits
+    ap (λ b. tested_if (b && is_anybody again) c heard ip' a) awaits
+    ∙ ap (λ b. tested_if b c heard ip' a) anybody
     ∙ ap (doubted_by c heard ip' a) ans.acked
     ∙ ap (λ x. believed_if (class_told c heard ip' a x) x.0) (back (answer_number c sent ip s) within)
     ∙ known
@@ -70,9 +72,9 @@ kept_not true k n class number e = let no : false ≡ true = ap is_it e in cc
 kept_not false k n class number e = let no : false ≡ true = ap is_it e in cc
 
 pub only_awaited : BelievesAwaited
-only_awaited c (taker.Listener k) now ip s class number e = absurd (kept_not _ k _ class number e)
-only_awaited c taker.Nobody now ip s class number e = only_tested (awaited c.answered now) c now ip s class number e
-only_awaited c (taker.Connection k) now ip s class number e = let no : false ≡ true = ap is_it e in cc
-only_awaited c (taker.Reopened k) now ip s class number e = let no : false ≡ true = ap is_it e in cc
-only_awaited c (taker.Reused k) now ip s class number e = let no : false ≡ true = ap is_it e in cc
-only_awaited c taker.Busy now ip s class number e = let no : false ≡ true = ap is_it e in cc
+only_awaited c (taker.Listener k) again now ip s class number e = absurd (kept_not _ k _ class number e)
+only_awaited c taker.Nobody again now ip s class number e = and_parts (awaited c.answered now) (is_anybody again) (only_tested (awaited c.answered now && is_anybody again) c now ip s class number e)
+only_awaited c (taker.Connection k) again now ip s class number e = let no : false ≡ true = ap is_it e in cc
+only_awaited c (taker.Reopened k) again now ip s class number e = let no : false ≡ true = ap is_it e in cc
+only_awaited c (taker.Reused k) again now ip s class number e = let no : false ≡ true = ap is_it e in cc
+only_awaited c taker.Busy again now ip s class number e = let no : false ≡ true = ap is_it e in cc

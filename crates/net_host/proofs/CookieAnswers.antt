@@ -9,8 +9,9 @@ use Rattle.control_wire.specs.Segment.{Segment}
 use Rattle.sock_core.specs.Facts.{Facts}
 use Rattle.sock_tcp.specs.Replies.{reply_ip}
 use Rattle.host_cookies.specs.declared.cookies.SynCookies.{SynCookies}
-use Rattle.net_host.specs.Cookies.{answer_of, answer_segment, course_of}
+use Rattle.net_host.specs.Cookies.{answer_of, answer_segment, class_if, course_of}
 use Rattle.net_host.specs.declared.cookies.Course.TheVariants as course
+use Rattle.net_host.specs.declared.segments.Taker.{Taker}
 use Rattle.net_host.specs.declared.segments.Taker.TheVariants as taker
 
 no_scale : ForSome None (λ n. n ≤ 14)
@@ -26,6 +27,10 @@ packet_fits f room number (header.Ipv6 p) s = record { header = header_fits f ro
 pub answer_fits : (f : Facts) (room number : ℕ) (ip : IpRepr) (s : Segment) (out : IpRepr × Segment) → out ≡ answer_of f room number ip s → FitsPacket out.0 out.1
 answer_fits f room number ip s out e = subst (λ (r : IpRepr × Segment). FitsPacket r.0 r.1) (sym e) (packet_fits f room number ip s)
 
-pub connection_is_plain : (o : Option SynCookies) (i : ℕ) (now : ℤ) (ip : IpRepr) (s : Segment) → course.Plain ≡ course_of o (taker.Connection i) now ip s
-connection_is_plain None i now ip s = refl
-connection_is_plain (Some c) i now ip s = refl
+pub connection_is_plain : (o : Option SynCookies) (i : ℕ) (again : Taker) (now : ℤ) (ip : IpRepr) (s : Segment) → course.Plain ≡ course_of o (taker.Connection i) again now ip s
+connection_is_plain None i again now ip s = refl
+connection_is_plain (Some c) i again now ip s = refl
+
+pub connection_has_no_class : (o : Option SynCookies) (i : ℕ) (now : ℤ) (s : Segment) → class_if o (taker.Connection i) now s ≡ None
+connection_has_no_class None i now s = refl
+connection_has_no_class (Some c) i now s = refl

@@ -12,16 +12,16 @@ use Rattle.sock_core.specs.declared.context.PollAt.TheVariants as poll
 use Rattle.sock_tcp.specs.Polls.{earlier, earlier_moment, is_reached}
 use Rattle.sock_tcp.specs.Timers.{after}
 use Rattle.sock_tcp.specs.View.{moment_of}
-use Rattle.host_bounds.specs.Bounding.{IsBelowAll, IsGreatest, at_once, bound_at, latest}
+use Rattle.host_bounds.specs.Bounding.{IsBelowAll, IsGreatest, bound_at, latest}
 use Rattle.host_guard.specs.Guarding.{later_moment, not_before}
-use Rattle.net_host.specs.Looking.{asked_under, bound_of, is_at_most, is_bound, is_seen, never, sleeps}
+use Rattle.net_host.specs.Looking.{asked_under, bound_of, is_at_most, is_bound, is_seen, never, sleeps, soonest}
 use Rattle.net_host.specs.Sleeping.{AreAsleep, is_marked, sleeps_at}
 use Rattle.net_host.specs.Speaking.{Due, earliest}
 use Rattle.net_host.specs.Turns.{asked_of, delayed, may_speak, slot_poll}
 use Rattle.net_host.specs.Walks.{Nowhere}
 use Rattle.net_host.specs.declared.slot.Slot.{Slot}
 use Rattle.net_host.specs.declared.terms.Terms.{Terms}
-use Rattle.net_host.proofs.Polls.{asks_under, bound_is}
+use Rattle.net_host.proofs.Polls.{asks_under, bound_is, time_bound}
 
 -- the second is not before the first, which is a moment or never comes
 abbrev NotBefore : PollAt → PollAt → Type 0
@@ -126,20 +126,20 @@ delayed_behind : (p q : PollAt) (may : Bool) (now : Instant) → NotBefore p q �
 delayed_behind p q true now h = h
 delayed_behind p q false now h = not_sooner p q (after now (record { micros = 1 })) h
 
-bound_behind : (p q : PollAt) (least b : ℤ) → at_once <ℤ least → is_at_most p least ≡ true → least ≤ℤ b → b ≡ bound_of q → NotBefore p q
+bound_behind : (p q : PollAt) (least b : ℤ) → soonest <ℤ least → is_at_most p least ≡ true → least ≤ℤ b → b ≡ bound_of q → NotBefore p q
 bound_behind poll.Now q least b clear most below h = absurd (no most)
   where
     no : false ≡ true → ⊥
     no e = cc
 bound_behind (poll.Time t) poll.Now least b clear most below h = absurd (grind (arith, ints, clear, below, h))
-bound_behind (poll.Time t) (poll.Time u) least b clear most below h = go (int_lt u.micros never) refl h
+bound_behind (poll.Time t) (poll.Time u) least b clear most below h = go (int_lt u.micros never) refl (time_bound u b (grind (arith, ints, clear, below)) h)
   where
     go : (d : Bool) → int_lt u.micros never ≡ d → b ≡ (if d then u.micros else pos 9223372036854775806) → t.micros ≤ℤ u.micros
     go true e is = grind (arith, ints, most, below, is)
     go false e is = grind (arith, ints, most, below, is, e)
 bound_behind (poll.Time t) poll.Ingress least b clear most below h = tt
 bound_behind poll.Ingress poll.Now least b clear most below h = absurd (grind (arith, ints, clear, below, h))
-bound_behind poll.Ingress (poll.Time u) least b clear most below h = absurd (go (int_lt u.micros never) refl h)
+bound_behind poll.Ingress (poll.Time u) least b clear most below h = absurd (go (int_lt u.micros never) refl (time_bound u b (grind (arith, ints, clear, below)) h))
   where
     go : (d : Bool) → int_lt u.micros never ≡ d → b ≡ (if d then u.micros else pos 9223372036854775806) → ⊥
     go true e is = absurd (grind (arith, ints, most, below, is, e))
@@ -147,7 +147,7 @@ bound_behind poll.Ingress (poll.Time u) least b clear most below h = absurd (go 
 bound_behind poll.Ingress poll.Ingress least b clear most below h = tt
 
 module _ {G : Type 0} (f : Facts) (t : Terms) (bs : List ℤ) (ss : List (Slot G)) (p : PollAt) (least : ℤ) where
-  one_behind : (b : ℤ) (s : Slot G) → t.mtu ≡ f.mtu → at_once <ℤ least → is_at_most p least ≡ true → least ≤ℤ b → (is_marked b || sleeps t b s) ≡ true → NotBefore p (slot_poll s f)
+  one_behind : (b : ℤ) (s : Slot G) → t.mtu ≡ f.mtu → soonest <ℤ least → is_at_most p least ≡ true → least ≤ℤ b → (is_marked b || sleeps t b s) ≡ true → NotBefore p (slot_poll s f)
   one_behind b s same clear most below h =
       let no : is_marked b ≡ false = grind (arith, ints, clear, below) in
       let all : sleeps t b s ≡ true = subst (λ z. (z || sleeps t b s) ≡ true) no h in
@@ -155,7 +155,7 @@ module _ {G : Type 0} (f : Facts) (t : Terms) (bs : List ℤ) (ss : List (Slot G
       delayed_behind p (asked_of s.guard.phase s.guard.end s.guard.last s.socket f) (may_speak s (moment_of f)) (moment_of f)
       (subst (λ q. NotBefore p q) (sym (asks_under s f t.mtu same)) (bound_behind p (asked_under t.mtu s) least b clear most below (bound_is b (asked_under t.mtu s) parts.0)))
 
-  pub all_behind : t.mtu ≡ f.mtu → at_once <ℤ least → is_at_most p least ≡ true → IsBelowAll least bs → length bs ≡ length ss → AreAsleep (λ u b s. sleeps u b s) t bs ss → (k : ℕ) → IfSome (slice_get ss k) (λ s. NotBefore p (slot_poll s f))
+  pub all_behind : t.mtu ≡ f.mtu → soonest <ℤ least → is_at_most p least ≡ true → IsBelowAll least bs → length bs ≡ length ss → AreAsleep (λ u b s. sleeps u b s) t bs ss → (k : ℕ) → IfSome (slice_get ss k) (λ s. NotBefore p (slot_poll s f))
   all_behind same clear most below many asleep k = go (slice_get ss k) refl (asleep k)
     where
       go : (o : Option (Slot G)) → slice_get ss k ≡ o → (is_marked (bound_at bs k) || sleeps_at (λ u b s. sleeps u b s) t (bound_at bs k) o) ≡ true → IfSome o (λ s. NotBefore p (slot_poll s f))
@@ -170,7 +170,7 @@ module _ {G : Type 0} (f : Facts) (t : Terms) (bs : List ℤ) (ss : List (Slot G
   starts_behind (poll.Time u) h = tt
   starts_behind poll.Ingress h = tt
 
-  pub is_earliest : (i : ℕ) → t.mtu ≡ f.mtu → at_once <ℤ least → is_at_most p least ≡ true → IsBelowAll least bs → length bs ≡ length ss → AreAsleep (λ u b s. sleeps u b s) t bs ss → i < length ss → IfSome (slice_get ss i) (λ s. p ≡ slot_poll s f) → p ≡ earliest f ss
+  pub is_earliest : (i : ℕ) → t.mtu ≡ f.mtu → soonest <ℤ least → is_at_most p least ≡ true → IsBelowAll least bs → length bs ≡ length ss → AreAsleep (λ u b s. sleeps u b s) t bs ss → i < length ss → IfSome (slice_get ss i) (λ s. p ≡ slot_poll s f) → p ≡ earliest f ss
   is_earliest i same clear most below many asleep within is = sym (comes_first f p ss poll.Ingress i (starts_behind p most) (all_behind same clear most below many asleep) within is)
 
 -- ---- by the least bound alone, where it is still to come
@@ -191,9 +191,9 @@ find_least (b ∷ bs) m Goal some none below = go (int_le b m) refl (λ none. fi
     go false e rest = rest (λ h. none (by e h))
 
 -- what asks for that moment
-told_by : (least : ℤ) (q : PollAt) → at_once <ℤ least → least <ℤ pos 9223372036854775806 → least ≡ bound_of q → q ≡ poll.Time (record { micros = least })
+told_by : (least : ℤ) (q : PollAt) → soonest <ℤ least → least <ℤ pos 9223372036854775806 → least ≡ bound_of q → q ≡ poll.Time (record { micros = least })
 told_by least poll.Now clear soon is = absurd (grind (arith, ints, clear, is))
-told_by least (poll.Time t) clear soon is = go (int_lt t.micros never) refl is
+told_by least (poll.Time t) clear soon is = go (int_lt t.micros never) refl (time_bound t least clear is)
   where
     go : (d : Bool) → int_lt t.micros never ≡ d → least ≡ (if d then t.micros else pos 9223372036854775806) → poll.Time t ≡ poll.Time (record { micros = least })
     go true e h = ap (λ m. poll.Time (record { micros = m })) (sym h)
@@ -209,7 +209,7 @@ module _ {G : Type 0} (f : Facts) (t : Terms) (bs : List ℤ) (ss : List (Slot G
   abbrev coming : PollAt
   coming = poll.Time (record { micros = least })
 
-  asks_for_it : (s : Slot G) → t.mtu ≡ f.mtu → at_once <ℤ least → least <ℤ pos 9223372036854775806 → f.now <ℤ least → (is_marked least || sleeps t least s) ≡ true → coming ≡ slot_poll s f
+  asks_for_it : (s : Slot G) → t.mtu ≡ f.mtu → soonest <ℤ least → least <ℤ pos 9223372036854775806 → f.now <ℤ least → (is_marked least || sleeps t least s) ≡ true → coming ≡ slot_poll s f
   asks_for_it s same clear soon later h =
       let no : is_marked least ≡ false = grind (arith, ints, clear) in
       let all : sleeps t least s ≡ true = subst (λ z. (z || sleeps t least s) ≡ true) no h in
@@ -218,14 +218,14 @@ module _ {G : Type 0} (f : Facts) (t : Terms) (bs : List ℤ) (ss : List (Slot G
       let asked : asked_of s.guard.phase s.guard.end s.guard.last s.socket f ≡ coming = asks_under s f t.mtu same ∙ told in
       sym (ap (λ q. delayed (may_speak s (moment_of f)) (moment_of f) q) asked ∙ not_later (may_speak s (moment_of f)) (moment_of f) (record { micros = least }) (grind (arith, ints, later)))
 
-  there_asks : (i : ℕ) → t.mtu ≡ f.mtu → at_once <ℤ least → least <ℤ pos 9223372036854775806 → f.now <ℤ least → AreAsleep (λ u b s. sleeps u b s) t bs ss → bound_at bs i ≡ least → IfSome (slice_get ss i) (λ s. coming ≡ slot_poll s f)
+  there_asks : (i : ℕ) → t.mtu ≡ f.mtu → soonest <ℤ least → least <ℤ pos 9223372036854775806 → f.now <ℤ least → AreAsleep (λ u b s. sleeps u b s) t bs ss → bound_at bs i ≡ least → IfSome (slice_get ss i) (λ s. coming ≡ slot_poll s f)
   there_asks i same clear soon later asleep is = go (slice_get ss i) (subst (λ b. (is_marked b || sleeps_at (λ u b s. sleeps u b s) t b (slice_get ss i)) ≡ true) is (asleep i))
     where
       go : (o : Option (Slot G)) → (is_marked least || sleeps_at (λ u b s. sleeps u b s) t least o) ≡ true → IfSome o (λ s. coming ≡ slot_poll s f)
       go None h = tt
       go (Some s) h = asks_for_it s same clear soon later h
 
-  pub comes_at_least : t.mtu ≡ f.mtu → at_once <ℤ least → least <ℤ pos 9223372036854775806 → f.now <ℤ least → IsBelowAll least bs → IsGreatest least bs → length bs ≡ length ss → AreAsleep (λ u b s. sleeps u b s) t bs ss → coming ≡ earliest f ss
+  pub comes_at_least : t.mtu ≡ f.mtu → soonest <ℤ least → least <ℤ pos 9223372036854775806 → f.now <ℤ least → IsBelowAll least bs → IsGreatest least bs → length bs ≡ length ss → AreAsleep (λ u b s. sleeps u b s) t bs ss → coming ≡ earliest f ss
   comes_at_least same clear soon later below greatest many asleep = find_least bs least (coming ≡ earliest f ss)
       (λ i within is. is_earliest f t bs ss coming least i same clear (grind (arith, ints)) below many asleep (subst (λ n. i < n) many within) (there_asks i same clear soon later asleep is))
       (λ above. let room : (least +ℤ pos 1) ≤ℤ latest = grind (arith, ints, soon) in let no : (least +ℤ pos 1) ≤ℤ least = greatest (least +ℤ pos 1) room above in absurd (grind (arith, ints, no)))

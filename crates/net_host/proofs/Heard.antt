@@ -13,13 +13,13 @@ use Rattle.net_host.proofs.Each.{elsewhere, there}
 use Rattle.net_host.proofs.Sleepers.{changed_len}
 use Rattle.net_host.proofs.Touching.{touches_at, touches_none}
 
-pub heard_len : {G : Type 0} (found : Option ℕ) (ip : IpRepr) (u : UdpRepr) (payload : List ℕ) (ss ts : List (Slot G)) → HeardBy found ss ip u payload ts → length ts ≡ length ss
-heard_len None ip u payload ss ts c = ap length c
-heard_len (Some i) ip u payload ss ts c = changed_len (λ b a. Hears ip u payload b a) ss ts i c
+pub heard_len : {G : Type 0} (found : Option ℕ) (ip : IpRepr) (u : UdpRepr) (payload : List ℕ) (room : Bool) (ss ts : List (Slot G)) → HeardBy found ss ip u payload room ts → length ts ≡ length ss
+heard_len None ip u payload room ss ts c = ap length c
+heard_len (Some i) ip u payload room ss ts c = changed_len (λ b a. Hears ip u payload room b a) ss ts i c
 
-pub heard_touches : {G : Type 0} (found : Option ℕ) (ip : IpRepr) (u : UdpRepr) (payload : List ℕ) (bs : List ℤ) (ss : List (Slot G)) (cs : List ℤ) (ts : List (Slot G)) → IfSome found (λ i. cs ≡ slice_set bs i at_once) → IfNone found (cs ≡ bs) → HeardBy found ss ip u payload ts → Touches bs ss cs ts
-heard_touches None ip u payload bs ss cs ts some none c = touches_none bs ss cs ts none c
-heard_touches (Some i) ip u payload bs ss cs ts some none c = touches_at (λ b a. Hears ip u payload b a) bs ss cs ts i some c
+pub heard_touches : {G : Type 0} (found : Option ℕ) (ip : IpRepr) (u : UdpRepr) (payload : List ℕ) (room : Bool) (bs : List ℤ) (ss : List (Slot G)) (cs : List ℤ) (ts : List (Slot G)) → IfSome found (λ i. cs ≡ slice_set bs i at_once) → IfNone found (cs ≡ bs) → HeardBy found ss ip u payload room ts → Touches bs ss cs ts
+heard_touches None ip u payload room bs ss cs ts some none c = touches_none bs ss cs ts none c
+heard_touches (Some i) ip u payload room bs ss cs ts some none c = touches_at (λ b a. Hears ip u payload room b a) bs ss cs ts i some c
 
 -- a place is touched where its socket took something, and is as it was where it took nothing
 pub touches_where : {G : Type 0} (took : Bool) (bs : List ℤ) (ss : List (Slot G)) (cs : List ℤ) (ts : List (Slot G)) (i : ℕ) → cs ≡ touched_if took i bs → ChangesAt (λ b a. took ≡ false → a ≡ b) ss i ts → Touches bs ss cs ts

@@ -105,20 +105,20 @@ mail_keeps f m None t h = ap keys_in h
 pub mails_keep : {G : Type 0} (f : Facts) (m : AnyMail) (complete : Bool) (lent : Option ℕ) (ss ts : List (Slot G)) (es : List Entry) (ws : List ℕ) → ChangesEach (λ b a. messages.Copies f m b a) ss ts → IsIndexed (λ s. keys_of s) complete lent ss es ws → IsIndexed (λ s. keys_of s) complete lent ts es ws
 mails_keep f m complete lent ss ts es ws c h = each_keeps (λ s. keys_of s) (λ b a. messages.Copies f m b a) complete lent ss ts es ws (λ b a w. mail_keeps f m b.socket a.socket w.copied) c h
 
-datagram_keeps : {G : Type 0} (ip : IpRepr) (u : UdpRepr) (payload : List ℕ) (s t : Option (Socket G)) → datagrams.SocketHears s ip u payload t → keys_in t ≡ keys_in s
-datagram_keeps ip u payload (Some (socket.Udp x)) (Some (socket.Udp y)) h = ap (λ (v : udp.View). one_key (udp_key v.endpoint.port)) h.0
-datagram_keeps ip u payload (Some (socket.Udp x)) (Some (socket.Tcp y)) h = absurd h
-datagram_keeps ip u payload (Some (socket.Udp x)) (Some (socket.Icmp y)) h = absurd h
-datagram_keeps ip u payload (Some (socket.Udp x)) (Some (socket.Raw y)) h = absurd h
-datagram_keeps ip u payload (Some (socket.Udp x)) None h = absurd h
-datagram_keeps ip u payload (Some (socket.Tcp x)) t h = absurd h
-datagram_keeps ip u payload (Some (socket.Icmp x)) t h = absurd h
-datagram_keeps ip u payload (Some (socket.Raw x)) t h = absurd h
-datagram_keeps ip u payload None t h = absurd h
+datagram_keeps : {G : Type 0} (ip : IpRepr) (u : UdpRepr) (payload : List ℕ) (room : Bool) (s t : Option (Socket G)) → datagrams.SocketHears s ip u payload room t → keys_in t ≡ keys_in s
+datagram_keeps ip u payload room (Some (socket.Udp x)) (Some (socket.Udp y)) h = ap (λ (v : udp.View). one_key (udp_key v.endpoint.port)) h.0.0
+datagram_keeps ip u payload room (Some (socket.Udp x)) (Some (socket.Tcp y)) h = absurd h
+datagram_keeps ip u payload room (Some (socket.Udp x)) (Some (socket.Icmp y)) h = absurd h
+datagram_keeps ip u payload room (Some (socket.Udp x)) (Some (socket.Raw y)) h = absurd h
+datagram_keeps ip u payload room (Some (socket.Udp x)) None h = absurd h
+datagram_keeps ip u payload room (Some (socket.Tcp x)) t h = absurd h
+datagram_keeps ip u payload room (Some (socket.Icmp x)) t h = absurd h
+datagram_keeps ip u payload room (Some (socket.Raw x)) t h = absurd h
+datagram_keeps ip u payload room None t h = absurd h
 
-pub heard_keeps : {G : Type 0} (found : Option ℕ) (ip : IpRepr) (u : UdpRepr) (payload : List ℕ) (complete : Bool) (lent : Option ℕ) (ss ts : List (Slot G)) (es : List Entry) (ws : List ℕ) → datagrams.HeardBy found ss ip u payload ts → IsIndexed (λ s. keys_of s) complete lent ss es ws → IsIndexed (λ s. keys_of s) complete lent ts es ws
-heard_keeps None ip u payload complete lent ss ts es ws c h = subst (λ us. IsIndexed (λ s. keys_of s) complete lent us es ws) (sym c) h
-heard_keeps (Some i) ip u payload complete lent ss ts es ws c h = keeps_keys (λ s. keys_of s) (λ b a. datagrams.Hears ip u payload b a) complete lent ss ts es ws i (λ b a w. datagram_keeps ip u payload b.socket a.socket w.heard) c h
+pub heard_keeps : {G : Type 0} (found : Option ℕ) (ip : IpRepr) (u : UdpRepr) (payload : List ℕ) (room complete : Bool) (lent : Option ℕ) (ss ts : List (Slot G)) (es : List Entry) (ws : List ℕ) → datagrams.HeardBy found ss ip u payload room ts → IsIndexed (λ s. keys_of s) complete lent ss es ws → IsIndexed (λ s. keys_of s) complete lent ts es ws
+heard_keeps None ip u payload room complete lent ss ts es ws c h = subst (λ us. IsIndexed (λ s. keys_of s) complete lent us es ws) (sym c) h
+heard_keeps (Some i) ip u payload room complete lent ss ts es ws c h = keeps_keys (λ s. keys_of s) (λ b a. datagrams.Hears ip u payload room b a) complete lent ss ts es ws i (λ b a w. datagram_keeps ip u payload room b.socket a.socket w.heard) c h
 
 -- ---- where the first key is no raw socket's, only the place that was lent may have one
 

@@ -25,7 +25,7 @@ use Rattle.net_host.specs.declared.interface.Interface.{Interface}
 use Rattle.net_host.specs.declared.limit.Limit.{Limit}
 use Rattle.net_host.specs.declared.segments.Taker.TheVariants as taker
 use Rattle.net_host.specs.declared.slot.Slot.{Slot}
-use Rattle.net_host.proofs.CookieAnswers.{connection_is_plain}
+use Rattle.net_host.proofs.CookieAnswers.{connection_has_no_class, connection_is_plain}
 
 facts_kept : {C : Type 0} (facts : C → Facts) (word_at : C → ℕ → ℕ) (old new : C) (b : Bool) → Draws b facts word_at old new → facts new ≡ facts old
 facts_kept facts word_at old new true h = h.same
@@ -65,12 +65,12 @@ known_answers facts word_at tells ss ts i cx cx' ip s out out' n c l = record {
 -- what is for a connection goes on by no cookie, and is not counted
 pub known_taken : {W G : Type 0} (is : IpAddress → IpAddress → Bool) (word_at : W → ℕ → ℕ) (tells : G → ℕ → Type 0) (i : Interface W) (inner : InterfaceInner W) (ss us ts : List (Slot G)) (k : ℕ) (ip : IpRepr) (s : Segment) (out out' : List ℕ) (n : ℕ) → IsTaker ss ip s (taker.Connection k) → us ≡ ss → ((l : Limit) → AnswersSegment (facts_of is word_at tells) (words_of is word_at tells) tells course.Plain (taker.Connection k) taker.Nobody us i.inner l ip s out n ts inner l out') → TakesSegment is word_at tells ip s i ss out n (record i { inner = inner }) ts out'
 known_taken is word_at tells i inner ss us ts k ip s out out' n takes same h =
-    let plain : course.Plain ≡ course_of i.cookies (taker.Connection k) (facts_of is word_at tells i.inner).now ip s = connection_is_plain i.cookies k _ ip s in
+    let plain : course.Plain ≡ course_of i.cookies (taker.Connection k) taker.Nobody (facts_of is word_at tells i.inner).now ip s = connection_is_plain i.cookies k taker.Nobody _ ip s in
     record {
       taker = taker.Connection k;
       takes = takes;
       again = taker.Nobody;
-      believes = subst (λ c. IsAgain c ss ip s taker.Nobody) plain refl;
+      believes = subst (λ c. IsAgain c ss ip s taker.Nobody) (sym (connection_has_no_class i.cookies k (facts_of is word_at tells i.inner).now s)) refl;
       answers = subst (λ c. AnswersSegment (facts_of is word_at tells) (words_of is word_at tells) tells c (taker.Connection k) taker.Nobody ss i.inner i.resets ip s out n ts inner i.resets out') plain (subst (λ xs. AnswersSegment (facts_of is word_at tells) (words_of is word_at tells) tells course.Plain (taker.Connection k) taker.Nobody xs i.inner i.resets ip s out n ts inner i.resets out') same (h i.resets));
       counters = ap (λ c. counted_on c (taker.Connection k) taker.Nobody i.counters) plain;
       turn = refl;

@@ -40,3 +40,5 @@ pub mod Polled
 pub mod Telling
 pub mod Touching
 pub mod KnownAnswers
+pub mod Opens
+pub mod Unmarked

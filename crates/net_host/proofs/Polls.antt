@@ -22,9 +22,8 @@ use Rattle.sock_tcp.specs.View.{View, moment_of}
 use Rattle.smoltcp_socket.specs.Kinds.{polls}
 use Rattle.smoltcp_socket.specs.declared.socket.Socket.{Socket}
 use Rattle.smoltcp_socket.specs.declared.socket.Socket.TheVariants as socket
-use Rattle.host_bounds.specs.Bounding.{at_once}
 use Rattle.net_host.specs.Guards.{end_in, end_of, ended, ended_if, given_up, guarded_poll, lawful_limit, limit_of, moment_left, phase_left, phase_of, since_in, with_timeout}
-use Rattle.net_host.specs.Looking.{asked_under, bound_of, facts_under, has_timeout, is_bound, is_moment, is_phase, is_seen, never, rests, seen_in, seen_with, sleeps}
+use Rattle.net_host.specs.Looking.{asked_under, bound_of, facts_under, has_timeout, is_bound, is_moment, is_phase, is_seen, never, rests, seen_in, seen_with, sleeps, soonest}
 use Rattle.net_host.specs.Sleeping.{is_marked, sleeps_at}
 use Rattle.net_host.specs.Walks.{ChangesAt}
 use Rattle.net_host.specs.Turns.{Watches, WatchesIn, asked_of, delayed, is_due, may_speak}
@@ -71,9 +70,21 @@ bounds_it p = grind (arith, ints)
 pub bound_is : (b : ℤ) (p : PollAt) → is_bound b p ≡ true → b ≡ bound_of p
 bound_is b p h = grind (arith, ints, h)
 
-not_yet : (b now : ℤ) (p : PollAt) → at_once ≤ℤ now → now <ℤ b → b ≡ bound_of p → is_reached p (record { micros = now }) ≡ false
+-- a moment that is asked for, of a bound that is not the first
+pub time_bound : (t : Instant) (b : ℤ) → soonest <ℤ b → b ≡ bound_of (poll.Time t) → b ≡ (if int_lt t.micros never then t.micros else pos 9223372036854775806)
+time_bound t b h is = go (int_lt t.micros never) is
+  where
+    by : (c : Bool) → b ≡ (if c then t.micros else soonest) → b ≡ t.micros
+    by true e = e
+    by false e = absurd (grind (arith, ints, h, e))
+
+    go : (d : Bool) → b ≡ (if d then (if int_lt soonest t.micros then t.micros else soonest) else pos 9223372036854775806) → b ≡ (if d then t.micros else pos 9223372036854775806)
+    go true e = by (int_lt soonest t.micros) e
+    go false e = e
+
+not_yet : (b now : ℤ) (p : PollAt) → soonest ≤ℤ now → now <ℤ b → b ≡ bound_of p → is_reached p (record { micros = now }) ≡ false
 not_yet b now poll.Now from below h = absurd (grind (arith, ints, from, below, h))
-not_yet b now (poll.Time t) from below h = go (int_lt t.micros never) refl h
+not_yet b now (poll.Time t) from below h = go (int_lt t.micros never) refl (time_bound t b (grind (arith, ints, from, below)) h)
   where
     go : (d : Bool) → int_lt t.micros never ≡ d → b ≡ (if d then t.micros else pos 9223372036854775806) → is_reached (poll.Time t) (record { micros = now }) ≡ false
     go true e is = grind (arith, ints, below, is)
@@ -86,7 +97,7 @@ not_delayed false now p h = not_reached now p
 
 pub not_due : {G : Type 0} (f : Facts) (mtu : ℕ) (b : ℤ) (s : Slot G) → IsMoment f.now → mtu ≡ f.mtu → f.now <ℤ b → is_bound b (asked_under mtu s) ≡ true → is_due f s ≡ false
 not_due f mtu b s lawful same below h =
-    let from : at_once ≤ℤ f.now = grind (arith, ints, lawful.0) in
+    let from : soonest ≤ℤ f.now = grind (arith, ints, lawful.0) in
     not_delayed (may_speak s (moment_of f)) (moment_of f) (asked_of s.guard.phase s.guard.end s.guard.last s.socket f)
     (subst (λ p. is_reached p (moment_of f) ≡ false) (sym (asks_under s f mtu same)) (not_yet b f.now (asked_under mtu s) from below (bound_is b (asked_under mtu s) h)))
 
@@ -220,10 +231,14 @@ or_true : (b : Bool) → (b || true) ≡ true
 or_true true = refl
 or_true false = refl
 
-pub noted : {G : Type 0} (f : Facts) (t : Terms) (p : PollAt) (b : ℤ) (o : Option (Slot G)) → b ≡ bound_of p → t.mtu ≡ f.mtu → IfSome o (λ s. p ≡ asked_of s.guard.phase s.guard.end s.guard.last s.socket f) → IfSome o (λ s. is_seen t.guards s ≡ true) → (is_marked b || sleeps_at (λ u b s. sleeps u b s) t b o) ≡ true
-noted f t p b None is same asked seen = or_true (is_marked b)
-noted f t p b (Some s) is same asked seen =
-    let under : p ≡ asked_under t.mtu s = asked ∙ asks_under s f t.mtu same in
+-- what a socket asks for
+pub asks_there : {G : Type 0} (f : Facts) (mtu : ℕ) (p : PollAt) (o : Option (Slot G)) → mtu ≡ f.mtu → IfSome o (λ s. p ≡ asked_of s.guard.phase s.guard.end s.guard.last s.socket f) → IfSome o (λ s. p ≡ asked_under mtu s)
+asks_there f mtu p None same asked = tt
+asks_there f mtu p (Some s) same asked = asked ∙ asks_under s f mtu same
+
+pub noted : {G : Type 0} (t : Terms) (p : PollAt) (b : ℤ) (o : Option (Slot G)) → b ≡ bound_of p → IfSome o (λ s. p ≡ asked_under t.mtu s) → IfSome o (λ s. is_seen t.guards s ≡ true) → (is_marked b || sleeps_at (λ u b s. sleeps u b s) t b o) ≡ true
+noted t p b None is under seen = or_true (is_marked b)
+noted t p b (Some s) is under seen =
     let bound : is_bound b (asked_under t.mtu s) ≡ true = subst (λ q. is_bound b q ≡ true) under (subst (λ m. is_bound m p ≡ true) (sym is) (bounds_it p)) in
     ap (λ z. is_marked b || z) (both (is_bound b (asked_under t.mtu s)) (is_seen t.guards s) bound seen) ∙ or_true (is_marked b)
 

@@ -1,8 +1,9 @@
 -- One turn, and what it makes of the walk.
 use Rattle.std.proofs.Common.{◌≡◌, ℕ, ◌+◌, ◌<◌, List, true, false, Some, None, subst, ap, arith}
-use Rattle.std.specs.Prelude.{Result, Ok, Err, is_err}
+use Rattle.std.specs.Prelude.{Result, Ok, Err, is_err, slice_get}
 use Rattle.sock_core.specs.Facts.{Facts}
-use Rattle.net_host.specs.Counts.{lost_if}
+use Rattle.net_host.specs.Counts.{lost_by}
+use Rattle.net_host.specs.Kinds.{is_tcp_at}
 use Rattle.net_host.specs.Looking.{LooksNext, Unseen}
 use Rattle.net_host.specs.Speaking.{Due, Packet, Quiet, Quiets, Readies, Short, Silent, Speaks, TurnAt}
 use Rattle.net_host.specs.Walks.{Nowhere}
@@ -20,7 +21,7 @@ ok_of (Err x) = 1
 abbrev ok : ℕ → Result ℕ TooShort
 ok n = Ok n
 
-not_zero : (n : ℕ) → 0 < n → ok n ≡ ok 0 → ⊥
+pub not_zero : (n : ℕ) → 0 < n → ok n ≡ ok 0 → ⊥
 not_zero n some e = let z : n ≡ 0 = ap ok_of e in omega (arith, some, z)
 
 module _ {G : Type 0} (f : Facts) (st : GuardSettings) (ss seen : List (Slot G)) (turn : ℕ) where
@@ -39,7 +40,7 @@ module _ {G : Type 0} (f : Facts) (tells : G → ℕ → Type 0) (st : GuardSett
   packet (Ok u) next h e some = Packet ss seen us turn i n k out mid next h some
   packet (Err x) next h e some = cc
 
-  pub silent : (r : Result (Unit {0}) TooShort) → Readies f st ss turn i seen → TurnAt f tells seen i out r n us mid → is_err r ≡ false → n.len ≡ 0 → (q : Result ℕ TooShort) (ts : List (Slot G)) (turn' : ℕ) (k' : Counters) (out' : List ℕ) → Speaks f tells st us (i + 1) (lost_if n.lost k) mid q ts turn' k' out' → Speaks f tells st ss turn k out q ts turn' k' out'
+  pub silent : (r : Result (Unit {0}) TooShort) → Readies f st ss turn i seen → TurnAt f tells seen i out r n us mid → is_err r ≡ false → n.len ≡ 0 → (q : Result ℕ TooShort) (ts : List (Slot G)) (turn' : ℕ) (k' : Counters) (out' : List ℕ) → Speaks f tells st us (i + 1) (lost_by n.lost (is_tcp_at (slice_get us i)) k) mid q ts turn' k' out' → Speaks f tells st ss turn k out q ts turn' k' out'
   silent (Ok u) next h e none q ts turn' k' out' rest = Silent ss seen us ts turn i turn' n k k' out mid out' q next h none rest
   silent (Err x) next h e none q ts turn' k' out' rest = cc
 
@@ -49,4 +50,4 @@ module _ {G : Type 0} (f : Facts) (tells : G → ℕ → Type 0) (st : GuardSett
   nobody_left ss ts turn turn' k k' out out' r (Quiet _ _ _ _ _ h) e = (h.none, h.all)
   nobody_left ss ts turn turn' k k' out out' r (Packet _ _ _ _ _ n _ _ _ next h some) e = absurd (not_zero n.len some e)
   nobody_left ss ts turn turn' k k' out out' r (Short _ _ _ _ _ _ _ _ _ x next h) e = cc
-  nobody_left ss ts turn turn' k k' out out' r (Silent _ _ us _ _ i _ n _ _ _ mid _ _ next h none rest) e = nobody_left us ts (i + 1) turn' (lost_if n.lost k) k' mid out' r rest e
+  nobody_left ss ts turn turn' k k' out out' r (Silent _ _ us _ _ i _ n _ _ _ mid _ _ next h none rest) e = nobody_left us ts (i + 1) turn' (lost_by n.lost (is_tcp_at (slice_get us i)) k) k' mid out' r rest e

@@ -1,5 +1,5 @@
 -- SYN cookies: who is answered without a socket, and whose answer is believed (RFC 4987, section 3.6).
-use Rattle.std.specs.Prelude.{ℕ, ℤ, ◌≡◌, ◌+◌, ◌<◌, ◌≤◌, ◌-◌, ◌⊎◌, ◌==◌, min, nat_le, List, [], length, Option, Some}
+use Rattle.std.specs.Prelude.{ℕ, ℤ, ◌≡◌, ◌+◌, ◌<◌, ◌≤◌, ◌-◌, ◌/◌, ◌⊎◌, ◌==◌, min, nat_le, List, [], length, Option, Some}
 use Rattle.std.specs.Prelude.{None, Bool, true, false, ◌&&◌, Result, IfSome, option_map, slice_get, if◌then◌else◌}
 use Rattle.ip_wire.specs.IpHeader.{dst_addr_of, src_addr_of}
 use Rattle.ip_wire.specs.declared.repr.IpRepr.{IpRepr}
@@ -101,22 +101,41 @@ abbrev pub doubted_by : SynCookies → ℤ → IpRepr → Segment → Option Tcp
 doubted_by c now ip s None = course.Plain
 doubted_by c now ip s (Some ack) = believed_if (class_told c now ip s (seq_minus ack 1)) (seq_minus ack 1).0
 
+-- the class that a segment tells that no socket takes, where it may acknowledge an answer and one is awaited
+abbrev pub class_awaited : Bool → Option TcpSeqNumber → Option ℕ
+class_awaited true (Some ack) = Some ((seq_minus ack 1).0 / 536870912)
+class_awaited _ ack = None
+
+abbrev pub class_under : SynCookies → Taker → ℤ → Segment → Option ℕ
+class_under c taker.Nobody now s = class_awaited (awaited c.answered now) (acked_by s)
+class_under c _ now s = None
+
+abbrev pub class_if : Option SynCookies → Taker → ℤ → Segment → Option ℕ
+class_if None t now s = None
+class_if (Some c) t now s = class_under c t now s
+
+abbrev pub is_anybody : Taker → Bool
+is_anybody taker.Nobody = false
+is_anybody _ = true
+
 -- as long as an answer is awaited
 abbrev pub tested_if : Bool → SynCookies → ℤ → IpRepr → Segment → Course
 tested_if true c now ip s = doubted_by c now ip s (acked_by s)
 tested_if false c now ip s = course.Plain
 
 -- A SYN that only a socket which is kept listens for is answered. An acknowledgement that no socket takes is believed
--- where it answers such an answer, as long as one that went out may be acknowledged.
-abbrev pub course_under : SynCookies → Taker → ℤ → IpRepr → Segment → Course
-course_under c (taker.Listener k) now ip s =
+-- where it answers such an answer, as long as one that went out may be acknowledged, and the SYN before it is not for
+-- nobody.
+abbrev pub course_under : SynCookies → (t again : Taker) → ℤ → IpRepr → Segment → Course
+course_under c (taker.Listener k) again now ip s =
     kept_or (nat_le c.kept_from k && is_opening s) k (answer_number c now ip s)
-course_under c taker.Nobody now ip s = tested_if (awaited c.answered now) c now ip s
-course_under c _ now ip s = course.Plain
+course_under c taker.Nobody again now ip s =
+    tested_if (awaited c.answered now && is_anybody again) c now ip s
+course_under c _ again now ip s = course.Plain
 
-abbrev pub course_of : Option SynCookies → Taker → ℤ → IpRepr → Segment → Course
-course_of None t now ip s = course.Plain
-course_of (Some c) t now ip s = course_under c t now ip s
+abbrev pub course_of : Option SynCookies → (t again : Taker) → ℤ → IpRepr → Segment → Course
+course_of None t again now ip s = course.Plain
+course_of (Some c) t again now ip s = course_under c t again now ip s
 
 -- an answer that goes out is noted
 abbrev pub noted : ℤ → Option SynCookies → Option SynCookies
@@ -129,10 +148,15 @@ noted_on course.Doubted now o = o
 noted_on (course.Answered k number) now o = noted now o
 noted_on (course.Believed class number) now o = o
 
--- who takes the SYN before an acknowledgement that is believed
-abbrev pub IsAgain : {G : Type 0} → Course → List (Slot G) → IpRepr → Segment → Taker → Type 0
-IsAgain (course.Believed class number) ss ip s again = IsTaker ss ip (syn_before s class) again
-IsAgain _ ss ip s again = again ≡ taker.Nobody
+-- who takes the SYN before an acknowledgement that may be believed
+abbrev pub IsAgain : {G : Type 0} → Option ℕ → List (Slot G) → IpRepr → Segment → Taker → Type 0
+IsAgain (Some class) ss ip s again = IsTaker ss ip (syn_before s class) again
+IsAgain None ss ip s again = again ≡ taker.Nobody
+
+-- the same of one that is believed
+abbrev pub OpensOn : {G : Type 0} → Course → List (Slot G) → IpRepr → Segment → Taker → Type 0
+OpensOn (course.Believed class number) ss ip s again = IsTaker ss ip (syn_before s class) again
+OpensOn _ ss ip s again = Unit {0}
 
 -- ---- the answer
 
@@ -236,17 +260,19 @@ pub record AnswersCookie (c : SynCookies) (sent : ℤ) (ip : IpRepr) (s : Segmen
     pub number : a.seq_number ≡ seq_add s.seq_number 1
     pub acked : acked_by a ≡ Some (seq_add (seq_of (answer_number c sent ip s)) 1)
 
--- where no socket takes it, it is believed in the answer's count of 64 seconds, and in the next, where an answer of
--- that count or of a later one was noted last
+-- where no socket takes it, and one takes its SYN or serves its port, it is believed in the answer's count of 64
+-- seconds, and in the next, where an answer of that count or of a later one was noted last
 abbrev pub AnswersAreBelieved : Type 0
 AnswersAreBelieved =
-    (c : SynCookies) (sent last heard : ℤ) (ip ip' : IpRepr) (s a : Segment) → s.seq_number.0 < 4294967296
-    → c.answered ≡ Some last → step_of sent ≤ step_of last
+    (c : SynCookies) (again : Taker) (sent last heard : ℤ) (ip ip' : IpRepr) (s a : Segment)
+    → s.seq_number.0 < 4294967296 → is_anybody again ≡ true → c.answered ≡ Some last → step_of sent ≤ step_of last
     → AnswersCookie c sent ip s ip' a → (step_of heard ≡ step_of sent) ⊎ (step_of heard ≡ step_of sent + 1)
-    → course_under c taker.Nobody heard ip' a ≡ course.Believed (class_of s.max_seg_size) (answer_number c sent ip s)
+    → course_under c taker.Nobody again heard ip' a
+    ≡ course.Believed (class_of s.max_seg_size) (answer_number c sent ip s)
 
--- nothing is believed once no answer is awaited
+-- nothing is believed once no answer is awaited, nor where the SYN before it is for nobody
 abbrev pub BelievesAwaited : Type 0
 BelievesAwaited =
-    (c : SynCookies) (t : Taker) (now : ℤ) (ip : IpRepr) (s : Segment) (class number : ℕ)
-    → course_under c t now ip s ≡ course.Believed class number → awaited c.answered now ≡ true
+    (c : SynCookies) (t again : Taker) (now : ℤ) (ip : IpRepr) (s : Segment) (class number : ℕ)
+    → course_under c t again now ip s ≡ course.Believed class number
+    → (awaited c.answered now ≡ true) × (is_anybody again ≡ true)

@@ -1,5 +1,5 @@
 -- How many packets were dropped, by their reasons.
-use Rattle.std.specs.Prelude.{ℕ, ◌+◌, ◌%◌, ◌^◌, Bool, if◌then◌else◌}
+use Rattle.std.specs.Prelude.{ℕ, ◌+◌, ◌%◌, ◌^◌, Bool, true, false}
 use Rattle.net_host.specs.declared.counters.Counters.{Counters}
 use Rattle.net_host.specs.declared.counters.Reason.{Reason}
 use Rattle.net_host.specs.declared.counters.Reason.TheVariants as reason
@@ -15,10 +15,12 @@ no_counts = record {
   message = 0;
   busy = 0;
   nobody = 0;
+  full = 0;
   cookies_sent = 0;
   cookies_taken = 0;
   cookies_wrong = 0;
   too_long = 0;
+  unsent = 0;
 }
 
 abbrev pub next : ℕ → ℕ
@@ -34,6 +36,7 @@ counted reason.Datagram k = record k { datagram = next k.datagram }
 counted reason.Message k = record k { message = next k.message }
 counted reason.Busy k = record k { busy = next k.busy }
 counted reason.Nobody k = record k { nobody = next k.nobody }
+counted reason.Full k = record k { full = next k.full }
 
 -- ---- cookies
 
@@ -48,6 +51,8 @@ wrong k = record k { cookies_wrong = next k.cookies_wrong }
 
 -- ---- packets of sockets
 
--- one that was longer than the MTU, if it was
-abbrev pub lost_if : Bool → Counters → Counters
-lost_if lost k = if lost then record k { too_long = next k.too_long } else k
+-- a turn that gave no packet: what was longer than the MTU, and what a socket beside TCP had, of which none can be made
+abbrev pub lost_by : (lost of_tcp : Bool) → Counters → Counters
+lost_by true of_tcp k = record k { too_long = next k.too_long }
+lost_by false true k = k
+lost_by false false k = record k { unsent = next k.unsent }

@@ -35,8 +35,8 @@ module _ {G : Type 0} (f : Facts) (tells : G → ℕ → Type 0) (st : GuardSett
       turn_of f st ss turn i seen next ∷ turns_of us (i + 1) _ mid r ts turn' k' out' rest
 
 module _ {G : Type 0} where
-  -- Each walk begins behind the place that had its turn last. This is the place from which the first begins, and the one
-  -- from which the next will.
+  -- Each walk begins behind the place that had its turn last. This is the place from which the first begins, and the
+  -- one from which the next will.
   abbrev pub Follow : ℕ → List (Turn G) → ℕ → Type 0
   Follow t [] t' = t' ≡ t
   Follow t (u ∷ us) t' = (u.from ≡ t) × Follow (u.place + 1) us t'

@@ -1,5 +1,5 @@
 -- What a guard has seen of its socket, and until when the socket need not be asked.
-use Rattle.std.specs.Prelude.{ℕ, ℤ, pos, ◌≡◌, ◌&&◌, ◌==◌, ◌⊎◌, nat_le, nat_lt, int_le, int_lt, not, IfSome, Bool, true}
+use Rattle.std.specs.Prelude.{ℕ, ℤ, negsuc, pos, ◌≡◌, ◌&&◌, ◌==◌, ◌⊎◌, nat_le, nat_lt, int_le, int_lt, not, IfSome, Bool, true}
 use Rattle.std.specs.Prelude.{false, List, Option, Some, None, slice_get, if◌then◌else◌}
 use Rattle.std.specs.Ordering.{int_eq}
 use Rattle.ip_wire.specs.Checksum.{all_checksums}
@@ -13,7 +13,6 @@ use Rattle.sock_core.specs.declared.context.PollAt.TheVariants as poll
 use Rattle.sock_tcp.specs.View.{View, moment_of}
 use Rattle.smoltcp_socket.specs.declared.socket.Socket.{Socket}
 use Rattle.smoltcp_socket.specs.declared.socket.Socket.TheVariants as socket
-use Rattle.host_bounds.specs.Bounding.{at_once}
 use Rattle.net_host.specs.Addresses.{no_address_v6}
 use Rattle.net_host.specs.Guards.{end_of, lawful_limit, limit_of, phase_of}
 use Rattle.net_host.specs.Turns.{Watches, asked_of, is_due}
@@ -65,10 +64,15 @@ is_seen st s = seen_in st s.socket s.guard
 abbrev pub never : ℤ
 never = pos 9223372036854775807
 
--- that moment as a number
+-- the moment behind the least, which marks a place that may have changed
+abbrev pub soonest : ℤ
+soonest = negsuc 9223372036854775806
+
+-- that moment as a number, which is no mark
 abbrev pub bound_of : PollAt → ℤ
-bound_of poll.Now = at_once
-bound_of (poll.Time t) = if int_lt t.micros never then t.micros else pos 9223372036854775806
+bound_of poll.Now = soonest
+bound_of (poll.Time t) =
+    if int_lt t.micros never then (if int_lt soonest t.micros then t.micros else soonest) else pos 9223372036854775806
 bound_of poll.Ingress = never
 
 abbrev pub is_bound : ℤ → PollAt → Bool

@@ -13,7 +13,7 @@ use Rattle.segment_wire.specs.Tcp.{tcp_parsed}
 use Rattle.sock_core.specs.Facts.{Facts}
 use Rattle.segment_wire.specs.Udp.{Datagram, udp_parsed}
 use Rattle.net_host.specs.Arrivals.{kind_of, refusal}
-use Rattle.net_host.specs.Cookies.{AnswersSegment, IsAgain, course_of, noted_on}
+use Rattle.net_host.specs.Cookies.{AnswersSegment, IsAgain, class_if, course_of, noted_on}
 use Rattle.net_host.specs.Counts.{counted, sent, taken, wrong}
 use Rattle.net_host.specs.Datagrams.{HeardBy, TakesDatagram}
 use Rattle.net_host.specs.Facts.{facts_by}
@@ -55,9 +55,11 @@ counted_on course.Doubted t again k = wrong (counted_for t k)
 counted_on (course.Answered i number) t again k = sent k
 counted_on (course.Believed class number) t again k = counted_again again k
 
-abbrev pub counted_if : Option ℕ → Counters → Counters
-counted_if None k = counted reason.Nobody k
-counted_if (Some i) k = k
+-- a datagram that no socket takes, or whose socket has no room for it, is counted
+abbrev pub counted_if : Option ℕ → (room : Bool) → Counters → Counters
+counted_if None room k = counted reason.Nobody k
+counted_if (Some i) true k = k
+counted_if (Some i) false k = counted reason.Full k
 
 -- the UDP datagram that stands behind a header
 unfoldable pub datagram_in : ChecksumCapabilities → IpRepr → List ℕ → Option Datagram
@@ -78,8 +80,8 @@ module _ {W G : Type 0} (is : IpAddress → IpAddress → Bool) (word_at : W →
     pub sockets : ts ≡ ss
     pub reply : out' ≡ out
 
-  abbrev pub course_in : Interface W → Taker → IpRepr → Segment → Course
-  course_in i t ip s = course_of i.cookies t (facts_of i.inner).now ip s
+  abbrev pub course_in : Interface W → (t again : Taker) → IpRepr → Segment → Course
+  course_in i t again ip s = course_of i.cookies t again (facts_of i.inner).now ip s
 
   -- the segment goes to its taker, or is refused, or what cookies want is done
   pub record TakesSegment (ip : IpRepr) (s : Segment) (i : Interface W) (ss : List (Slot G)) (out : List ℕ) (n : ℕ)
@@ -87,14 +89,14 @@ module _ {W G : Type 0} (is : IpAddress → IpAddress → Bool) (word_at : W →
     pub taker : Taker
     pub takes : IsTaker ss ip s taker
     pub again : Taker
-    pub believes : IsAgain (course_in i taker ip s) ss ip s again
-    pub answers : AnswersSegment facts_of words_of tells (course_in i taker ip s) taker again ss i.inner i.resets ip s
-        out n ts j.inner j.resets out'
-    pub counters : j.counters ≡ counted_on (course_in i taker ip s) taker again i.counters
+    pub believes : IsAgain (class_if i.cookies taker (facts_of i.inner).now s) ss ip s again
+    pub answers : AnswersSegment facts_of words_of tells (course_in i taker again ip s) taker again ss i.inner i.resets
+        ip s out n ts j.inner j.resets out'
+    pub counters : j.counters ≡ counted_on (course_in i taker again ip s) taker again i.counters
     pub turn : j.turn ≡ i.turn
     pub errors : j.errors ≡ i.errors
     pub guards : j.guards ≡ i.guards
-    pub cookies : j.cookies ≡ noted_on (course_in i taker ip s) (facts_of i.inner).now i.cookies
+    pub cookies : j.cookies ≡ noted_on (course_in i taker again ip s) (facts_of i.inner).now i.cookies
     pub groups : j.groups ≡ i.groups
 
   -- no segment has a payload of more than 65535 octets
@@ -126,9 +128,10 @@ module _ {W G : Type 0} (is : IpAddress → IpAddress → Bool) (word_at : W →
       (out : List ℕ) (n : ℕ) (j : Interface W) (ts : List (Slot G)) (out' : List ℕ) : Type 0 where
     pub found : Option ℕ
     pub finds : Finds (TakesDatagram (facts_of i.inner) ip d.header) ss found
-    pub heard : HeardBy found ss ip d.header d.payload ts
+    pub room : Bool
+    pub heard : HeardBy found ss ip d.header d.payload room ts
     pub told : TellsIf found (facts_of i.inner) ip octets ts i.errors out n j.errors out'
-    pub interface : j ≡ record i { counters = counted_if found i.counters; errors = j.errors }
+    pub interface : j ≡ record i { counters = counted_if found room i.counters; errors = j.errors }
 
   abbrev pub ByDatagram : IpRepr → List ℕ → Option Datagram → Interface W → List (Slot G) → List ℕ → ℕ → Interface W
       → List (Slot G) → List ℕ → Type 0

@@ -6,7 +6,8 @@ use Rattle.sock_core.specs.declared.context.PollAt.TheVariants as poll
 use Rattle.sock_tcp.specs.Polls.{earlier}
 use Rattle.sock_tcp.specs.View.{moment_of}
 use Rattle.std.specs.List.{fold}
-use Rattle.net_host.specs.Counts.{lost_if}
+use Rattle.net_host.specs.Counts.{lost_by}
+use Rattle.net_host.specs.Kinds.{is_tcp_at}
 use Rattle.net_host.specs.Looking.{MayLook, Unseen}
 use Rattle.net_host.specs.Turns.{TakesTurn, Watches, is_due, slot_poll}
 use Rattle.net_host.specs.Walks.{Both, ChangesAt, ChangesEach, IsNext, Nowhere}
@@ -44,8 +45,8 @@ module _ {G : Type 0} (facts : Facts) (st : GuardSettings) where
 
 module _ {G : Type 0} (facts : Facts) (tells : G → ℕ → Type 0) (st : GuardSettings) where
   -- From the place whose turn it is, the sockets that are due have their turns one after the other, until one of them
-  -- has written a packet or its packet does not fit, or none is due; the next turn is that of the place behind. What
-  -- the MTU has no room for is counted.
+  -- has written a packet or its packet does not fit, or none is due; the next turn is that of the place behind. A
+  -- packet that was dropped is counted.
   pub data Speaks : List (Slot G) → ℕ → Counters → List ℕ → Result ℕ TooShort → List (Slot G) → ℕ → Counters → List ℕ
       → Type 0 where
     Quiet : (ss seen : List (Slot G)) (turn : ℕ) (k : Counters) (out : List ℕ)
@@ -58,4 +59,5 @@ module _ {G : Type 0} (facts : Facts) (tells : G → ℕ → Type 0) (st : Guard
         → Speaks ss turn k out (Err e) ts (i + 1) k out'
     Silent : (ss seen us ts : List (Slot G)) (turn i turn' : ℕ) (n : Sent) (k k' : Counters) (out mid out' : List ℕ)
         (r : Result ℕ TooShort) → Readies facts st ss turn i seen → TurnAt facts tells seen i out (Ok tt) n us mid
-        → n.len ≡ 0 → Speaks us (i + 1) (lost_if n.lost k) mid r ts turn' k' out' → Speaks ss turn k out r ts turn' k' out'
+        → n.len ≡ 0 → Speaks us (i + 1) (lost_by n.lost (is_tcp_at (slice_get us i)) k) mid r ts turn' k' out'
+        → Speaks ss turn k out r ts turn' k' out'

@@ -135,8 +135,8 @@ fn bind_by<C: Context, G: TsvalSource>(
 }
 
 impl<W: Words> Interface<W> {
-    /// Binds a UDP socket of the set, and returns its port: the port given, or of 0 one that no UDP socket of the set is
-    /// bound to, of 49152 to 65535, the first from a random one on (RFC 6056, section 3.3.1). Then as `bind` of the
+    /// Binds a UDP socket of the set, and returns its port: the port given, or of 0 one that no UDP socket of the set
+    /// is bound to, of 49152 to 65535, the first from a random one on (RFC 6056, section 3.3.1). Then as `bind` of the
     /// socket, at the address given, or at any.
     ///
     /// In this order: `InUse` where another UDP socket of the set is bound to the port, at whichever address, or all

@@ -1,5 +1,5 @@
 //! SYN cookies: a SYN is answered and no socket holds it, and who answers that is believed (RFC 4987, section 3.6).
-ghost use Rattle.std.specs.Prelude.{◌≡◌, ◌<◌, ◌≤◌, ◌-◌, IfSome, length, [], min, option_map, slice_get, Some};
+ghost use Rattle.std.specs.Prelude.{◌≡◌, ◌<◌, ◌≤◌, ◌-◌, ◌&&◌, IfSome, length, [], min, nat_le, option_map, slice_get, Some};
 ghost use Rattle.std.specs.Option.{ForSome};
 ghost use Rattle.control_wire.specs.Fits.{FitsPacket};
 ghost use Rattle.control_wire.specs.Segment.{segment_of};
@@ -7,8 +7,10 @@ ghost use Rattle.sock_core.specs.Bounds.{IsMtu};
 ghost use Rattle.sock_tcp.specs.Due.{ip_header_len, mtu_for};
 ghost use Rattle.sock_tcp.specs.Process.{reply_of};
 ghost use Rattle.host_cookies.specs.Numbers.{awaited};
-ghost use Rattle.net_host.specs.Cookies.{AnswersAreBelieved, BelievesAwaited, acked_by, answer_of, answer_segment};
-ghost use Rattle.net_host.specs.Cookies.{call_of, class_told, course_of, course_under, doubted_by, is_garbage, noted};
+ghost use Rattle.net_host.specs.Cookies.{AnswersAreBelieved, BelievesAwaited, acked_by, answer_number, answer_of};
+ghost use Rattle.net_host.specs.Cookies.{answer_segment, kept_or};
+ghost use Rattle.net_host.specs.Cookies.{call_of, class_awaited, class_if, class_told, course_of, course_under};
+ghost use Rattle.net_host.specs.Cookies.{doubted_by, is_anybody, is_garbage, noted};
 ghost use Rattle.net_host.specs.Cookies.{noted_on, opening_of, room_at, room_in, syn_before, tested_if};
 ghost use Rattle.net_host.specs.Resting.{is_opening};
 
@@ -16,7 +18,7 @@ use crate::rest::opens;
 use crate::segments::Taker;
 use crate::slot::Slot;
 use control_wire::TcpSeqNumber;
-use host_cookies::cookies::answers_are_recognised;
+use host_cookies::cookies::{answers_are_recognised, class_in};
 use host_cookies::{Call, SynCookies, class_of, mss_of};
 use smoltcp_socket::time::Instant;
 use smoltcp_socket::wire::{
@@ -153,12 +155,55 @@ fn doubted_by(cookies: &SynCookies, now: Instant, ip: &IpRepr, repr: &TcpRepr<'_
     }
 }
 
-// As long as an answer is awaited.
-fn tested(cookies: &SynCookies, now: Instant, ip: &IpRepr, repr: &TcpRepr<'_>) -> Course
-    ensures { result ≡ tested_if (awaited cookies.now.answered now.micros) cookies.now now.micros ip.now
-        (segment_of repr.now) }
+/// The class that a segment tells that no socket takes, where it may acknowledge an answer and one is awaited.
+pub(crate) fn class_if<C: Context>(
+    cookies: &Option<SynCookies>,
+    taker: Taker,
+    cx: &C,
+    repr: &TcpRepr<'_>,
+) -> Option<u8>
+    ensures value { result ≡ class_if cookies.now taker (C.facts cx.now).now (segment_of repr.now) }
+    ensures bound { IfSome result (λ n. n < 8) }
 {
-    if cookies.awaits(now.micros) {
+    match (cookies, taker) {
+        (Some(cookies), Taker::Nobody) => class_awaited(cookies, cx.now(), repr),
+        _ => None,
+    }
+}
+
+fn class_awaited(cookies: &SynCookies, now: Instant, repr: &TcpRepr<'_>) -> Option<u8>
+    ensures value { result
+        ≡ class_awaited (awaited cookies.now.answered now.micros) (acked_by (segment_of repr.now)) }
+    ensures bound { IfSome result (λ n. n < 8) }
+{
+    if !cookies.awaits(now.micros) {
+        return None;
+    }
+    match acked_by(repr) {
+        Some(ack) => Some(class_in(ack.minus(1).0)),
+        None => None,
+    }
+}
+
+fn is_anybody(taker: Taker) -> bool
+    ensures { result ≡ is_anybody taker }
+{
+    !matches!(taker, Taker::Nobody)
+}
+
+// As long as an answer is awaited, and where the SYN before it is not for nobody: a stray segment to a port that nobody
+// serves costs no test of its number.
+fn tested(
+    cookies: &SynCookies,
+    again: Taker,
+    now: Instant,
+    ip: &IpRepr,
+    repr: &TcpRepr<'_>,
+) -> Course
+    ensures { result ≡ tested_if (awaited cookies.now.answered now.micros && is_anybody again) cookies.now now.micros
+        ip.now (segment_of repr.now) }
+{
+    if cookies.awaits(now.micros) && is_anybody(again) {
         doubted_by(cookies, now, ip, repr)
     } else {
         Course::Plain
@@ -210,7 +255,8 @@ fn kept_or(
     ip: &IpRepr,
     repr: &TcpRepr<'_>,
 ) -> Course
-    ensures { result ≡ course_under cookies.now (Taker.Listener place) now.micros ip.now (segment_of repr.now) }
+    ensures { result ≡ kept_or (nat_le cookies.now.kept_from place && is_opening (segment_of repr.now)) place
+        (answer_number cookies.now now.micros ip.now (segment_of repr.now)) }
 {
     if cookies.kept_from() <= place && opens(repr) {
         let call = call_of(ip, repr, repr.seq_number);
@@ -224,32 +270,34 @@ fn kept_or(
 fn course_under(
     cookies: &SynCookies,
     taker: Taker,
+    again: Taker,
     now: Instant,
     ip: &IpRepr,
     repr: &TcpRepr<'_>,
 ) -> Course
-    ensures { result ≡ course_under cookies.now taker now.micros ip.now (segment_of repr.now) }
+    ensures { result ≡ course_under cookies.now taker again now.micros ip.now (segment_of repr.now) }
 {
     match taker {
         Taker::Listener(place) => kept_or(cookies, place, now, ip, repr),
-        Taker::Nobody => tested(cookies, now, ip, repr),
+        Taker::Nobody => tested(cookies, again, now, ip, repr),
         _ => Course::Plain,
     }
 }
 
-/// What becomes of a segment that this taker has.
+/// What becomes of a segment that this taker has, and the SYN before it this one.
 pub(crate) fn course_of<C: Context>(
     cookies: &Option<SynCookies>,
     taker: Taker,
+    again: Taker,
     cx: &C,
     ip: &IpRepr,
     repr: &TcpRepr<'_>,
 ) -> Course
-    ensures { result ≡ course_of cookies.now taker (C.facts cx.now).now ip.now (segment_of repr.now) }
+    ensures { result ≡ course_of cookies.now taker again (C.facts cx.now).now ip.now (segment_of repr.now) }
 {
     match cookies {
         None => Course::Plain,
-        Some(cookies) => course_under(cookies, taker, cx.now(), ip, repr),
+        Some(cookies) => course_under(cookies, taker, again, cx.now(), ip, repr),
     }
 }
 
@@ -333,8 +381,8 @@ pub(crate) fn answer_of<C: Context>(
 }
 
 /// Where no socket takes it, the acknowledgement of an answer is believed within 64 seconds: as of the class that the
-/// SYN told, and of the number of the answer. None is believed once no answer is awaited, 128 seconds after the last.
-#[tactic(auto, using(crate::proofs::Believed::believed, crate::proofs::Believed::only_awaited))]
+/// SYN told, and of the number of the answer. None is believed once no answer is awaited, 128 seconds after the last,
+/// nor where the SYN before it is for nobody.
 pub fn answers_are_believed()
     ensures believed { AnswersAreBelieved }
     ensures awaited { BelievesAwaited }

@@ -115,16 +115,17 @@ fn touch_found(bounds: &mut Bounds, found: Option<usize>)
     }
 }
 
-/// A datagram arrives: the place of the first socket that takes it, if any.
+/// A datagram arrives: the place of the first socket that takes it, if any, and whether there was room for it there.
 pub(crate) fn hear_datagram_of<C: Context, G: TsvalSource>(
     sockets: &mut SocketSet<'_, G>,
     cx: &C,
     ip: &IpRepr,
     repr: &UdpRepr,
     payload: &[u8],
-) -> Option<usize>
-    ensures finds { Finds (TakesDatagram (C.facts cx.now) ip.now repr.now) sockets.old.slots.items result }
-    ensures heard { HeardBy result sockets.old.slots.items ip.now repr.now payload.now sockets.new.slots.items }
+) -> (Option<usize>, bool)
+    ensures finds { Finds (TakesDatagram (C.facts cx.now) ip.now repr.now) sockets.old.slots.items result.0 }
+    ensures heard { HeardBy result.0 sockets.old.slots.items ip.now repr.now payload.now result.1
+        sockets.new.slots.items }
     ensures touched { Touches sockets.old.bounds sockets.old.slots.items sockets.new.bounds
         sockets.new.slots.items }
     ensures ended { sockets.new.ended ≡ sockets.old.ended }
@@ -133,6 +134,6 @@ pub(crate) fn hear_datagram_of<C: Context, G: TsvalSource>(
     let found = datagram_taker(sockets, cx, ip, repr);
     sockets.settled = false;
     touch_found(&mut sockets.bounds, found);
-    hear_found(&mut sockets.slots, found, cx, ip, repr, payload);
-    found
+    let room = hear_found(&mut sockets.slots, found, cx, ip, repr, payload);
+    (found, room)
 }

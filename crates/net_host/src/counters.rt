@@ -1,6 +1,6 @@
 //! What came of the packets that arrived, and of those of the sockets.
 ghost use Rattle.std.specs.Prelude.{◌≡◌};
-ghost use Rattle.net_host.specs.Counts.{counted, lost_if, next, sent, taken, wrong};
+ghost use Rattle.net_host.specs.Counts.{counted, lost_by, next, sent, taken, wrong};
 
 /// Why a packet is dropped.
 #[derive(Debug, Clone, Copy, PartialEq, Eq)]
@@ -23,6 +23,8 @@ pub enum Reason {
     Busy,
     /// It carries a segment or a datagram that no socket takes.
     Nobody,
+    /// It carries a UDP datagram whose socket has no room for it.
+    Full,
 }
 
 /// How many packets were dropped, by their reasons. A number that is full begins anew.
@@ -37,14 +39,19 @@ pub struct Counters {
     pub message: u64,
     pub busy: u64,
     pub nobody: u64,
+    pub full: u64,
     /// SYNs that were answered without a socket; no packet of these three kinds counts as dropped for that.
     pub cookies_sent: u64,
     /// Acknowledgements of such answers that took a socket.
     pub cookies_taken: u64,
-    /// Acknowledgements that no socket takes, of no such answer, while one may be acknowledged.
+    /// Acknowledgements that no socket takes, of no such answer, while one may be acknowledged, to a port that a socket
+    /// serves.
     pub cookies_wrong: u64,
     /// Packets of sockets that were dropped, as they were longer than the MTU.
     pub too_long: u64,
+    /// Turns of UDP, ICMP and raw sockets that gave no packet, though one was due: there is no source address of the
+    /// destination's version, or what was to be sent is no packet of its kind.
+    pub unsent: u64,
 }
 
 impl Counters {
@@ -69,12 +76,14 @@ impl Counters {
         self.cookies_wrong = next(self.cookies_wrong);
     }
 
-    /// One packet more of a socket was longer than the MTU, where one was.
-    pub(crate) fn count_lost(&mut self, lost: bool)
-        ensures { self.new ≡ lost_if lost self.old }
+    /// A socket's turn gave no packet: whether that was longer than the MTU, and whether the socket is one of TCP.
+    pub(crate) fn count_lost(&mut self, lost: bool, of_tcp: bool)
+        ensures { self.new ≡ lost_by lost of_tcp self.old }
     {
         if lost {
             self.too_long = next(self.too_long);
+        } else if !of_tcp {
+            self.unsent = next(self.unsent);
         }
     }
 
@@ -92,6 +101,7 @@ impl Counters {
             Reason::Message => self.message = next(self.message),
             Reason::Busy => self.busy = next(self.busy),
             Reason::Nobody => self.nobody = next(self.nobody),
+            Reason::Full => self.full = next(self.full),
         }
     }
 }

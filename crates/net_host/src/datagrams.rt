@@ -21,13 +21,20 @@ impl<'a, G: TsvalSource> Slot<'a, G> {
         }
     }
 
-    fn hear_datagram<C: Context>(&mut self, cx: &C, ip: &IpRepr, repr: &UdpRepr, payload: &[u8])
+    // Whether there was room for it.
+    fn hear_datagram<C: Context>(
+        &mut self,
+        cx: &C,
+        ip: &IpRepr,
+        repr: &UdpRepr,
+        payload: &[u8],
+    ) -> bool
         requires { TakesDatagram (C.facts cx.now) ip.now repr.now self.old }
-        ensures { Hears ip.now repr.now payload.now self.old self.new }
+        ensures { Hears ip.now repr.now payload.now result self.old self.new }
     {
         match &mut self.socket {
-            Some(Socket::Udp(udp)) => udp.process(cx, ip, repr, payload),
-            _ => {}
+            Some(Socket::Udp(udp)) => udp.queue_datagram(ip, repr, payload),
+            _ => true,
         }
     }
 }
@@ -56,15 +63,15 @@ fn hear_datagram_at<C: Context, G: TsvalSource>(
     ip: &IpRepr,
     repr: &UdpRepr,
     payload: &[u8],
-)
+) -> bool
     requires within { i < length slots.old.items }
     requires accepted { IfSome (slice_get slots.old.items i) (TakesDatagram (C.facts cx.now) ip.now repr.now) }
-    ensures { HeardBy (Some i) slots.old.items ip.now repr.now payload.now slots.new.items }
+    ensures { HeardBy (Some i) slots.old.items ip.now repr.now payload.now result slots.new.items }
 {
-    slots[i].hear_datagram(cx, ip, repr, payload);
+    slots[i].hear_datagram(cx, ip, repr, payload)
 }
 
-/// The datagram goes to the first socket that takes it, if any.
+/// The datagram goes to the first socket that takes it, if any. Whether there was room for it there.
 pub(crate) fn hear_found<C: Context, G: TsvalSource>(
     slots: &mut Vec<Slot<'_, G>>,
     found: Option<usize>,
@@ -72,12 +79,13 @@ pub(crate) fn hear_found<C: Context, G: TsvalSource>(
     ip: &IpRepr,
     repr: &UdpRepr,
     payload: &[u8],
-)
+) -> bool
     requires { Finds (TakesDatagram (C.facts cx.now) ip.now repr.now) slots.old.items found }
-    ensures { HeardBy found slots.old.items ip.now repr.now payload.now slots.new.items }
+    ensures { HeardBy found slots.old.items ip.now repr.now payload.now result slots.new.items }
 {
-    if let Some(i) = found {
-        hear_datagram_at(slots, i, cx, ip, repr, payload);
+    match found {
+        Some(i) => hear_datagram_at(slots, i, cx, ip, repr, payload),
+        None => true,
     }
 }
 

@@ -4,8 +4,8 @@ ghost use Rattle.std.specs.Option.{ForSome};
 ghost use Rattle.control_wire.specs.Fits.{FitsPacket};
 ghost use Rattle.control_wire.specs.Segment.{segment_of};
 ghost use Rattle.sock_tcp.specs.Process.{reply_of};
-ghost use Rattle.net_host.specs.Cookies.{AnswersSegment, BelievedBy, HearsBoth, HearsIf, HearsSyn, IsAgain, TakenOn};
-ghost use Rattle.net_host.specs.Cookies.{course_of, syn_before};
+ghost use Rattle.net_host.specs.Cookies.{AnswersSegment, BelievedBy, HearsBoth, HearsIf, HearsSyn, IsAgain, OpensOn};
+ghost use Rattle.net_host.specs.Cookies.{TakenOn, class_if, course_of, syn_before};
 ghost use Rattle.net_host.specs.Filing.{keys_of};
 ghost use Rattle.net_host.specs.Indexing.{IsSettled};
 ghost use Rattle.net_host.specs.Resting.{Rests, anew, is_opening};
@@ -13,7 +13,9 @@ ghost use Rattle.net_host.specs.Segments.{IsTaker, TakesSegment, as_is};
 ghost use Rattle.net_host.specs.Touching.{Touches};
 
 use crate::answered::hear_out_there;
-use crate::cookies::{Course, Told, answer_of, course_of, opening_of, room_at, syn_before};
+use crate::cookies::{
+    Course, Told, answer_of, class_if, course_of, opening_of, room_at, syn_before,
+};
 use crate::filing::connection_key;
 use crate::limit::Limit;
 use crate::replies::put_reply;
@@ -31,24 +33,24 @@ use sock_tcp::{Reply, TsvalSource};
 pub struct Heard {
     pub course: Course,
     pub taker: Taker,
-    /// Who takes the SYN before an acknowledgement that is believed.
+    /// Who takes the SYN before an acknowledgement that may be believed.
     pub again: Taker,
 }
 
 fn who_again<C: Context, G: TsvalSource>(
     sockets: &SocketSet<'_, G>,
     cx: &C,
-    course: Course,
+    class: Option<u8>,
     ip: &IpRepr,
     repr: &TcpRepr<'_>,
 ) -> Taker
     requires { IsSettled (λ s. keys_of s) sockets.now.complete sockets.now.slots.items sockets.now.index
         sockets.now.free }
-    ensures { IsAgain course sockets.now.slots.items ip.now (segment_of repr.now) result }
+    ensures { IsAgain class sockets.now.slots.items ip.now (segment_of repr.now) result }
 {
-    match course {
-        Course::Believed(class, _) => who_opens(sockets, cx, class, ip, repr),
-        _ => Taker::Nobody,
+    match class {
+        Some(class) => who_opens(sockets, cx, class, ip, repr),
+        None => Taker::Nobody,
     }
 }
 
@@ -264,7 +266,7 @@ fn take_heard<C: Context, G: TsvalSource>(
     reply: &mut Option<Reply>,
 )
     requires taker { IsTaker sockets.old.slots.items ip.now (segment_of repr.now) heard.now.taker }
-    requires again { IsAgain heard.now.course sockets.old.slots.items ip.now (segment_of repr.now) heard.now.again }
+    requires opens { OpensOn heard.now.course sockets.old.slots.items ip.now (segment_of repr.now) heard.now.again }
     requires small { length repr.now.payload.now ≤ 65535 }
     ensures taken { TakenOn C.facts C.word_at G.tells heard.now.course heard.now.taker heard.now.again
         sockets.old.slots.items cx.old limit.old ip.now (segment_of repr.now) reply.new sockets.new.slots.items cx.new
@@ -300,14 +302,16 @@ fn heard_by<C: Context, G: TsvalSource>(
 ) -> Heard
     requires { IsSettled (λ s. keys_of s) sockets.now.complete sockets.now.slots.items sockets.now.index
         sockets.now.free }
-    ensures course { result.course ≡ course_of cookies.now result.taker (C.facts cx.now).now ip.now
+    ensures course { result.course ≡ course_of cookies.now result.taker result.again (C.facts cx.now).now ip.now
         (segment_of repr.now) }
     ensures taker { IsTaker sockets.now.slots.items ip.now (segment_of repr.now) result.taker }
-    ensures again { IsAgain result.course sockets.now.slots.items ip.now (segment_of repr.now) result.again }
+    ensures again { IsAgain (class_if cookies.now result.taker (C.facts cx.now).now (segment_of repr.now))
+        sockets.now.slots.items ip.now (segment_of repr.now) result.again }
 {
     let taker = who_takes(sockets, cx, ip, repr);
-    let course = course_of(cookies, taker, cx, ip, repr);
-    let again = who_again(sockets, cx, course, ip, repr);
+    let class = class_if(cookies, taker, cx, repr);
+    let again = who_again(sockets, cx, class, ip, repr);
+    let course = course_of(cookies, taker, again, cx, ip, repr);
     Heard {
         course,
         taker,
@@ -356,10 +360,11 @@ pub(crate) fn hear_sought<C: Context, G: TsvalSource>(
     requires small { length repr.now.payload.now ≤ 65535 }
     requires room { 100 ≤ length out.old }
     ensures within { result.1 ≤ length out.old }
-    ensures course { result.0.course ≡ course_of cookies.now result.0.taker (C.facts cx.old).now ip.now
+    ensures course { result.0.course ≡ course_of cookies.now result.0.taker result.0.again (C.facts cx.old).now ip.now
         (segment_of repr.now) }
     ensures taker { IsTaker sockets.old.slots.items ip.now (segment_of repr.now) result.0.taker }
-    ensures again { IsAgain result.0.course sockets.old.slots.items ip.now (segment_of repr.now) result.0.again }
+    ensures again { IsAgain (class_if cookies.now result.0.taker (C.facts cx.old).now (segment_of repr.now))
+        sockets.old.slots.items ip.now (segment_of repr.now) result.0.again }
     ensures heard { AnswersSegment C.facts C.word_at G.tells result.0.course result.0.taker result.0.again
         sockets.old.slots.items cx.old limit.old ip.now (segment_of repr.now) out.old result.1 sockets.new.slots.items
         cx.new limit.new out.new }

@@ -13,7 +13,7 @@ ghost use Rattle.net_host.specs.Limits.{full_limit};
 ghost use Rattle.net_host.specs.Looking.{Unseen};
 ghost use Rattle.net_host.specs.Speaking.{Due, earliest};
 ghost use Rattle.net_host.specs.Telling.{TellsEnds};
-ghost use Rattle.net_host.specs.Touching.{Touches};
+ghost use Rattle.net_host.specs.Touching.{NoneIsMarked, Touches};
 ghost use Rattle.net_host.specs.Walks.{Nowhere};
 ghost use Rattle.ip_wire.specs.Checksum.{all_checksums};
 ghost use Rattle.ip_wire.specs.declared.checksum.Checksum.TheVariants.{Both};
@@ -137,7 +137,8 @@ impl<W: Words> Interface<W> {
     /// socket is due. The turn goes round: it begins behind the socket that spoke last.
     ///
     /// Before its turn the guard of a TCP socket looks at it, as `Guard::watch`. Where the answer is 0, the guard of
-    /// each has looked at it as it is, so that what only the peer can end comes to its end in time. A socket that was
+    /// each has looked at it as it is, so that what only the peer can end comes to its end in time, and no socket is
+    /// `touched`. A socket that was
     /// not lent, took no segment and asks for a later moment is not asked, so a call costs no more for it; after
     /// another MTU or other guards each is asked once. A socket that is due and has nothing to say after all has had
     /// its turn.
@@ -168,6 +169,7 @@ impl<W: Words> Interface<W> {
             self.new.inner.environment)) ≡ false }
         ensures ends { TellsEnds sockets.old.slots.items sockets.old.ended sockets.new.slots.items
             sockets.new.ended }
+        ensures asleep { result ≡ Ok 0 → NoneIsMarked sockets.new.bounds }
     {
         self.emit_at(sockets, now, out)
     }
@@ -189,6 +191,7 @@ impl<W: Words> Interface<W> {
         ensures seen { result ≡ Ok 0 → Nowhere (Unseen self.old.guards) sockets.new.slots.items }
         ensures ends { TellsEnds sockets.old.slots.items sockets.old.ended sockets.new.slots.items
             sockets.new.ended }
+        ensures asleep { result ≡ Ok 0 → NoneIsMarked sockets.new.bounds }
     {
         self.set_now(now);
         sockets.heed(self.inner.environment.mtu, &self.guards);

@@ -1,5 +1,6 @@
 //! A guard looks at its socket, and a socket has its turn, in a set with an index.
-ghost use Rattle.std.specs.Prelude.{◌≡◌, ◌<◌, ◌≤◌, IfSome, is_err, length, max, slice_get, true, false};
+ghost use Rattle.std.specs.Prelude.{◌≡◌, ◌<◌, ◌≤◌, IfSome, is_err, length, max, slice_get, slice_set, true, false};
+ghost use Rattle.host_bounds.specs.Bounding.{at_once};
 ghost use Rattle.host_bounds.specs.Marking.{Sets};
 ghost use Rattle.sock_core.specs.Bounds.{IsMoment};
 ghost use Rattle.net_host.specs.Facts.{facts_by};
@@ -115,6 +116,7 @@ fn watch_lent<G: TsvalSource>(
     ensures looked { ChangesAt (Watches settings.now now) sockets.old.slots.items i sockets.new.slots.items }
     ensures terms { sockets.new.terms ≡ sockets.old.terms }
     ensures ended { Sets i sockets.old.ended sockets.new.ended }
+    ensures bounds { sockets.new.bounds ≡ slice_set sockets.old.bounds i at_once }
 {
     sockets.lend(i);
     watch_there(&mut sockets.slots, i, settings, now);
@@ -132,8 +134,9 @@ fn watch_kept<G: TsvalSource>(sockets: &mut SocketSet<'_, G>, i: usize, now: Ins
         sockets.new.slots.items }
     ensures terms { sockets.new.terms ≡ sockets.old.terms }
     ensures ended { sockets.new.ended ≡ sockets.old.ended }
+    ensures bounds { sockets.new.bounds ≡ slice_set sockets.old.bounds i at_once }
 {
-    sockets.bounds.set(i, i64::MIN);
+    sockets.bounds.put_at_once(i);
     sockets.settled = false;
     keep_there(&mut sockets.slots, i, &sockets.terms.guards, now, sight);
 }
@@ -146,6 +149,7 @@ pub(crate) fn watch_at<G: TsvalSource>(sockets: &mut SocketSet<'_, G>, i: usize,
         sockets.new.slots.items }
     ensures terms { sockets.new.terms ≡ sockets.old.terms }
     ensures ends { TellsEnds sockets.old.slots.items sockets.old.ended sockets.new.slots.items sockets.new.ended }
+    ensures bounds { sockets.new.bounds ≡ slice_set sockets.old.bounds i at_once }
 {
     let sight = sight_at(&sockets.slots, i, &sockets.terms.guards, now);
     if sight.is_over(now) {

@@ -1,10 +1,12 @@
 //! Guards look at sockets that may want to be asked by now, up to the first that is due.
-ghost use Rattle.std.specs.Prelude.{◌≡◌, ◌<◌, ◌≤◌, IfSome, length, slice_get, true};
-ghost use Rattle.host_bounds.specs.Bounding.{at_once};
+ghost use Rattle.std.specs.Prelude.{ℕ, None, ◌≡◌, ◌<◌, ◌<ℤ◌, ◌≤◌, IfSome, length, slice_get, slice_set, false, true};
+ghost use Rattle.host_bounds.specs.Bounding.{KeepsBut, at_once, bound_at};
 ghost use Rattle.sock_core.specs.Bounds.{IsMoment};
+ghost use Rattle.sock_core.specs.declared.context.PollAt.TheVariants.{Time};
 ghost use Rattle.sock_tcp.specs.View.{moment_of};
-ghost use Rattle.net_host.specs.Looking.{LooksIn, LooksNext, bound_of, is_seen};
+ghost use Rattle.net_host.specs.Looking.{LooksIn, LooksNext, asked_under, bound_of, is_seen};
 ghost use Rattle.net_host.specs.Telling.{TellsEnds};
+ghost use Rattle.net_host.specs.Touching.{NoneIsMarked, UnmarksIn};
 ghost use Rattle.net_host.specs.Turns.{Watches, asked_of, is_due};
 ghost use Rattle.net_host.specs.Walks.{ChangesAt};
 
@@ -17,20 +19,32 @@ use smoltcp_socket::time::Instant;
 use smoltcp_socket::{Context, PollAt};
 use sock_tcp::TsvalSource;
 
+// The bound of a socket that asks for now: a mark is the least, and says that the socket may have changed.
+pub(crate) const SOONEST: i64 = i64::MIN + 1;
+
 /// A moment before which a socket need not be asked that asks for this one.
 pub(crate) fn bound_of(poll: PollAt) -> i64
-    ensures { result ≡ bound_of poll }
+    ensures value { result ≡ bound_of poll }
+    ensures later { at_once <ℤ result }
 {
     match poll {
-        PollAt::Now => i64::MIN,
-        PollAt::Time(at) => {
-            if at.micros < i64::MAX {
-                at.micros
-            } else {
-                i64::MAX - 1
-            }
-        }
+        PollAt::Now => SOONEST,
+        PollAt::Time(at) => bound_by(at),
         PollAt::Ingress => i64::MAX,
+    }
+}
+
+fn bound_by(at: Instant) -> i64
+    ensures value { result ≡ bound_of (Time at) }
+    ensures later { at_once <ℤ result }
+{
+    if i64::MAX <= at.micros {
+        return i64::MAX - 1;
+    }
+    if SOONEST < at.micros {
+        at.micros
+    } else {
+        SOONEST
     }
 }
 
@@ -59,8 +73,23 @@ fn asks_at<C: Context, G: TsvalSource>(slots: &[Slot<'_, G>], i: usize, cx: &C) 
     slots[i].asks(cx)
 }
 
-// The guard at this place has looked: it need not be asked before the moment that its socket asks for. Whether that is
-// due.
+// It need not be asked before the moment that it asks for.
+fn put_off<G: TsvalSource>(sockets: &mut SocketSet<'_, G>, i: usize, asked: PollAt)
+    requires within { i < length sockets.old.slots.items }
+    requires seen { IfSome (slice_get sockets.old.slots.items i) (λ s. is_seen sockets.old.terms.guards s ≡ true) }
+    requires asked { IfSome (slice_get sockets.old.slots.items i) (λ s. asked ≡ asked_under sockets.old.terms.mtu s) }
+    ensures slots { sockets.new.slots ≡ sockets.old.slots }
+    ensures terms { sockets.new.terms ≡ sockets.old.terms }
+    ensures ended { sockets.new.ended ≡ sockets.old.ended }
+    ensures bounds { sockets.new.bounds ≡ slice_set sockets.old.bounds i (bound_of asked) }
+    ensures later { at_once <ℤ bound_of asked }
+{
+    sockets.bounds.set(i, bound_of(asked));
+}
+
+// The guard at this place has looked: it need not be asked before the moment that its socket asks for, unless that is
+// due, as it has its turn then. Whether it is.
+#[inline(always)]
 fn note_at<C: Context, G: TsvalSource>(sockets: &mut SocketSet<'_, G>, i: usize, cx: &C) -> bool
     requires within { i < length sockets.old.slots.items }
     requires mtu { sockets.old.terms.mtu ≡ (C.facts cx.now).mtu }
@@ -69,10 +98,15 @@ fn note_at<C: Context, G: TsvalSource>(sockets: &mut SocketSet<'_, G>, i: usize,
     ensures terms { sockets.new.terms ≡ sockets.old.terms }
     ensures due { IfSome (slice_get sockets.old.slots.items i) (λ s. result ≡ is_due (C.facts cx.now) s) }
     ensures ended { sockets.new.ended ≡ sockets.old.ended }
+    ensures bounds { KeepsBut i sockets.old.bounds sockets.new.bounds }
+    ensures later { result ≡ false → at_once <ℤ bound_at sockets.new.bounds i }
 {
     let (asked, due) = asks_at(&sockets.slots, i, cx);
-    sockets.bounds.set(i, bound_of(asked));
-    due
+    if due {
+        return true;
+    }
+    put_off(sockets, i, asked);
+    false
 }
 
 fn is_idle_at<G: TsvalSource>(
@@ -97,6 +131,7 @@ fn watch_unless_idle<G: TsvalSource>(sockets: &mut SocketSet<'_, G>, i: usize, n
         sockets.new.slots.items }
     ensures terms { sockets.new.terms ≡ sockets.old.terms }
     ensures seen { IfSome (slice_get sockets.new.slots.items i) (λ s. is_seen sockets.old.terms.guards s ≡ true) }
+    ensures bounds { KeepsBut i sockets.old.bounds sockets.new.bounds }
     ensures ends { TellsEnds sockets.old.slots.items sockets.old.ended sockets.new.slots.items sockets.new.ended }
 {
     if !is_idle_at(&sockets.slots, i, &sockets.terms.guards, now) {
@@ -114,6 +149,8 @@ fn look_at<C: Context, G: TsvalSource>(sockets: &mut SocketSet<'_, G>, i: usize,
         i sockets.new.slots.items }
     ensures terms { sockets.new.terms ≡ sockets.old.terms }
     ensures due { IfSome (slice_get sockets.new.slots.items i) (λ s. result ≡ is_due (C.facts cx.now) s) }
+    ensures bounds { KeepsBut i sockets.old.bounds sockets.new.bounds }
+    ensures later { result ≡ false → at_once <ℤ bound_at sockets.new.bounds i }
     ensures ends { TellsEnds sockets.old.slots.items sockets.old.ended sockets.new.slots.items sockets.new.ended }
 {
     watch_unless_idle(sockets, i, cx.now());
@@ -133,6 +170,7 @@ fn due_between<C: Context, G: TsvalSource>(
     requires mtu { sockets.old.terms.mtu ≡ (C.facts cx.now).mtu }
     ensures looked { LooksIn (C.facts cx.now) sockets.old.terms.guards start end sockets.old.slots.items result
         sockets.new.slots.items }
+    ensures unmarked { result ≡ None → UnmarksIn start end sockets.old.bounds sockets.new.bounds }
     ensures terms { sockets.new.terms ≡ sockets.old.terms }
     ensures ends { TellsEnds sockets.old.slots.items sockets.old.ended sockets.new.slots.items sockets.new.ended }
 {
@@ -156,6 +194,7 @@ pub(crate) fn next_due<C: Context, G: TsvalSource>(
     requires { sockets.old.terms.mtu ≡ (C.facts cx.now).mtu }
     ensures looked { LooksNext (C.facts cx.now) sockets.old.terms.guards turn sockets.old.slots.items result
         sockets.new.slots.items }
+    ensures unmarked { result ≡ None → NoneIsMarked sockets.new.bounds }
     ensures terms { sockets.new.terms ≡ sockets.old.terms }
     ensures ends { TellsEnds sockets.old.slots.items sockets.old.ended sockets.new.slots.items sockets.new.ended }
 {

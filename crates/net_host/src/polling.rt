@@ -1,11 +1,12 @@
 //! When the first of the sockets wants to speak.
 ghost use Rattle.std.specs.Prelude.{◌≡◌, ◌<◌, ◌<ℤ◌, IfSome, length, slice_get};
-ghost use Rattle.host_bounds.specs.Bounding.{IsBelowAll, at_once};
+ghost use Rattle.host_bounds.specs.Bounding.{IsBelowAll};
 ghost use Rattle.sock_tcp.specs.Polls.{earlier};
-ghost use Rattle.net_host.specs.Looking.{is_at_most};
+ghost use Rattle.net_host.specs.Looking.{is_at_most, soonest};
 ghost use Rattle.net_host.specs.Speaking.{earliest};
 ghost use Rattle.net_host.specs.Turns.{slot_poll};
 
+use crate::looking::SOONEST;
 use crate::set::SocketSet;
 use crate::slot::Slot;
 use smoltcp_socket::time::Instant;
@@ -28,7 +29,7 @@ fn by_bounds<C: Context, G: TsvalSource>(sockets: &SocketSet<'_, G>, cx: &C) -> 
     ensures { IfSome result (λ p. p ≡ earliest (C.facts cx.now) sockets.now.slots.items) }
 {
     let least = sockets.bounds.least();
-    if least == i64::MIN || sockets.terms.mtu != cx.ip_mtu() {
+    if least <= SOONEST || sockets.terms.mtu != cx.ip_mtu() {
         return None;
     }
     if cx.now().micros < least && least < i64::MAX - 1 {
@@ -54,7 +55,7 @@ fn at_bound<C: Context, G: TsvalSource>(
 ) -> Option<PollAt>
     requires within { i < length sockets.now.slots.items }
     requires mtu { sockets.now.terms.mtu ≡ (C.facts cx.now).mtu }
-    requires clear { at_once <ℤ least }
+    requires clear { soonest <ℤ least }
     requires least { IsBelowAll least sockets.now.bounds }
     ensures { IfSome result (λ p. p ≡ earliest (C.facts cx.now) sockets.now.slots.items) }
 {

@@ -248,8 +248,8 @@ impl<W: Words> Interface<W> {
             sockets.new.slots.items }
         ensures ended { sockets.new.ended ≡ sockets.old.ended }
     {
-        let found = hear_datagram_of(sockets, &self.inner, ip, repr, payload);
-        count_found(&mut self.counters, found);
+        let (found, room) = hear_datagram_of(sockets, &self.inner, ip, repr, payload);
+        count_found(&mut self.counters, found, room);
         self.tell_if(sockets, found, ip, bytes, out)
     }
 
@@ -491,11 +491,16 @@ fn count_heard(counters: &mut Counters, heard: &Heard)
     }
 }
 
-fn count_found(counters: &mut Counters, found: Option<usize>)
-    ensures { counters.new ≡ counted_if found counters.old }
+fn count_found(counters: &mut Counters, found: Option<usize>, room: bool)
+    ensures { counters.new ≡ counted_if found room counters.old }
 {
-    if found.is_none() {
-        counters.count(Reason::Nobody);
+    match found {
+        None => counters.count(Reason::Nobody),
+        Some(_) => {
+            if !room {
+                counters.count(Reason::Full);
+            }
+        }
     }
 }
 

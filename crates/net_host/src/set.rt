@@ -122,8 +122,8 @@ impl<'a, G: TsvalSource> Filed<Slot<'a, G>> {
         }
     }
 
-    /// Calls a function with the socket of a handle, and answers what it answers; `None` where the handle names none. Each
-    /// other socket is as it was, and this one keeps its handle and its guard.
+    /// Calls a function with the socket of a handle, and answers what it answers; `None` where the handle names none.
+    /// Each other socket is as it was, and this one keeps its handle and its guard.
     pub fn with<R, F: FnOnce(&mut Socket<'a, G>) -> R>(
         &mut self,
         handle: SocketHandle,

@@ -1,9 +1,11 @@
 //! Who speaks next.
-ghost use Rattle.std.specs.Prelude.{◌≡◌, ◌<◌, ◌≤◌, ◌+◌, IfOk, Ok, is_err, length, max, true};
+ghost use Rattle.std.specs.Prelude.{◌≡◌, ◌<◌, ◌≤◌, ◌+◌, IfOk, Ok, is_err, length, max, slice_get, true};
 ghost use Rattle.net_host.specs.Facts.{facts_by};
+ghost use Rattle.net_host.specs.Kinds.{is_tcp_at};
 ghost use Rattle.net_host.specs.Speaking.{Due, Speaks, TurnAt};
 ghost use Rattle.net_host.specs.Looking.{Unseen};
 ghost use Rattle.net_host.specs.Telling.{TellsEnds};
+ghost use Rattle.net_host.specs.Touching.{NoneIsMarked};
 ghost use Rattle.net_host.specs.Walks.{Nowhere};
 
 use crate::counters::Counters;
@@ -12,8 +14,10 @@ use crate::inner::InterfaceInner;
 use crate::lent_turns::{tell_if_over, turn_there};
 use crate::looking::next_due;
 use crate::set::SocketSet;
+use crate::slot::Slot;
 use crate::wire::{Sent, TooShort};
 use host_context::Words;
+use smoltcp_socket::Socket;
 use smoltcp_socket::wire::IpAddress;
 use sock_tcp::TsvalSource;
 
@@ -38,10 +42,20 @@ fn turn_at<G: TsvalSource>(
     turn_there(&mut sockets.slots, i, environment, out)
 }
 
+// Whether a TCP socket is at this place.
+fn is_tcp_at<G>(slots: &[Slot<'_, G>], i: usize) -> bool
+    ensures { result ≡ is_tcp_at (slice_get slots.now i) }
+{
+    match slots.get(i) {
+        Some(slot) => matches!(&slot.socket, Some(Socket::Tcp(_))),
+        None => false,
+    }
+}
+
 /// The sockets that are due have their turns, from the place whose turn it is on, until one of them has written a
 /// packet: its length, or 0 where none is due. Before each turn guards look at the sockets that may want to be asked.
-/// A packet that is longer than the MTU is dropped and counted. `TooShort` where the packet does not fit; its socket
-/// offers it again.
+/// A packet that is longer than the MTU, or that cannot be made, is dropped and counted. `TooShort` where the packet
+/// does not fit; its socket offers it again.
 pub(crate) fn speak<W: Words, G: TsvalSource>(
     sockets: &mut SocketSet<'_, G>,
     turn: &mut usize,
@@ -60,6 +74,7 @@ pub(crate) fn speak<W: Words, G: TsvalSource>(
         sockets.new.slots.items }
     ensures seen { result ≡ Ok 0 → Nowhere (Unseen sockets.old.terms.guards) sockets.new.slots.items }
     ensures ends { TellsEnds sockets.old.slots.items sockets.old.ended sockets.new.slots.items sockets.new.ended }
+    ensures asleep { result ≡ Ok 0 → NoneIsMarked sockets.new.bounds }
 {
     speak_on(sockets, turn, counters, cx, out)
 }
@@ -79,6 +94,7 @@ fn speak_on<W: Words, G: TsvalSource>(
         sockets.old.terms.guards sockets.old.slots.items turn.old counters.old out.old result
         sockets.new.slots.items turn.new counters.new out.new }
     ensures ends { TellsEnds sockets.old.slots.items sockets.old.ended sockets.new.slots.items sockets.new.ended }
+    ensures asleep { result ≡ Ok 0 → NoneIsMarked sockets.new.bounds }
 {
     while let Some(i) = next_due(sockets, cx, *turn) {
         *turn = i + 1;
@@ -91,7 +107,8 @@ fn speak_on<W: Words, G: TsvalSource>(
         if len > 0 {
             return Ok(len);
         }
-        counters.count_lost(sent.lost);
+        let of_tcp = is_tcp_at(&sockets.slots, i);
+        counters.count_lost(sent.lost, of_tcp);
     }
     Ok(0)
 }

@@ -55,7 +55,7 @@ impl<'a, G: TsvalSource> Slot<'a, G> {
         }
     }
 
-    /// Does what `watch` does where the state seen at this time has not lasted too long.
+    /// Does what `watch` does where the state seen at this time is not older than its limit.
     pub(crate) fn keep(&mut self, limits: &Limits, now: Instant, sight: &Sight)
         requires moment { IsMoment now.micros }
         requires seen { IsSightOf limits.now now sight.now self.old }

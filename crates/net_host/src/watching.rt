@@ -116,7 +116,7 @@ impl Guard {
             && has_timeout(limits.timeout(), socket.timeout())
     }
 
-    /// Does what `watch` does where the state seen of the socket at this time has not lasted too long.
+    /// Does what `watch` does where the state seen of the socket at this time is not older than its limit.
     #[tactic(auto, using(crate::proofs::Sights::looks))]
     pub(crate) fn keep<G>(
         &mut self,

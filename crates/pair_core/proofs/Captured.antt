@@ -14,7 +14,7 @@ use Rattle.sock_core.specs.Facts.{Facts}
 use Rattle.sock_tcp.proofs.Lending.{lent_at_most}
 use Rattle.sock_tcp.specs.Rfc.Numbers.{numbered, outgoing}
 use Rattle.sock_tcp.specs.Queue.{IsLent}
-use Rattle.sock_tcp.specs.Rfc.TailLoss.{tail_probed}
+use Rattle.sock_tcp.specs.Rfc.TailLoss.{probed_by, tail_probed}
 use Rattle.sock_tcp.specs.View.{View, fresh, moment_of}
 use Rattle.sock_tcp.specs.Begin.{before_emit, fast_retransmission_marked, retransmission_begun, peer_of}
 use Rattle.sock_tcp.specs.Opening.{renewed}
@@ -92,7 +92,7 @@ payload_at_most v t f stamp bytes s one lent e = content_len v t f stamp bytes (
 
 -- a dispatch finds no more bytes queued when it emits than when it begins
 queue_at_most : (v : View) (f : Facts) (n : ℕ) → length v.tx_buffer.bytes ≤ n → length (before_emit v f).view.tx_buffer.bytes ≤ n
-unfolding retransmission_begun fast_retransmission_marked tail_probed renewed fresh
+unfolding retransmission_begun fast_retransmission_marked tail_probed probed_by renewed fresh
 queue_at_most v f n h =
     before_kept (λ w. length w.tx_buffer.bytes ≤ n) f
     (record { remembers = λ w k. k; tells = λ w k. k; times_out = λ w k. k; forgets = λ w k. k; begins_again = λ w at e k. k; marks = λ w e k. k; goes_back = λ w at delay e k. k; probes_tail = λ w at e k. k })

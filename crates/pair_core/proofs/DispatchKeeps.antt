@@ -7,7 +7,7 @@ use Rattle.sock_tcp.specs.Begin.{retransmission_begun, fast_retransmission_marke
 use Rattle.sock_tcp.specs.Content.{content}
 use Rattle.sock_tcp.specs.Due.{is_closed}
 use Rattle.sock_tcp.specs.Opening.{renewed}
-use Rattle.sock_tcp.specs.Rfc.TailLoss.{tail_probed}
+use Rattle.sock_tcp.specs.Rfc.TailLoss.{probed_by, tail_probed}
 use Rattle.sock_tcp.specs.Sent.{after_any, after_probe, snd_nxt_moved}
 use Rattle.sock_tcp.specs.View.{View, moment_of, fresh}
 use Rattle.sock_tcp.specs.declared.state.State.{State}
@@ -42,7 +42,7 @@ unfolding renewed fresh
 reset_keeps v = record { listener = λ n. absurd (n refl); peer = λ t p. inl refl }
 
 beginnings_keep : (v : View) (now : Instant) → KeptByBeginnings (Keeps v) now
-unfolding retransmission_begun fast_retransmission_marked tail_probed
+unfolding retransmission_begun fast_retransmission_marked tail_probed probed_by
 beginnings_keep v now = record {
   remembers = λ w k. record { listener = k.listener; peer = k.peer };
   tells = λ w k. record { listener = k.listener; peer = k.peer };

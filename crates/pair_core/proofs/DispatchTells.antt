@@ -8,7 +8,7 @@ use Rattle.sock_tcp.specs.Content.{Sending, content}
 use Rattle.sock_tcp.specs.Opening.{renewed}
 use Rattle.sock_tcp.specs.Rfc.Numbers.{outgoing}
 use Rattle.sock_tcp.specs.Rfc.Scoreboard.{nothing_told}
-use Rattle.sock_tcp.specs.Rfc.TailLoss.{tail_probed}
+use Rattle.sock_tcp.specs.Rfc.TailLoss.{probed_by, tail_probed}
 use Rattle.sock_tcp.specs.Sent.{after_any, after_probe, snd_nxt_moved}
 use Rattle.sock_tcp.specs.View.{View, moment_of, fresh}
 use Rattle.sock_tcp.specs.declared.scoreboard.Scoreboard.{Scoreboard}
@@ -64,7 +64,7 @@ unfolding renewed fresh
 resets v w k = inr refl
 
 beginnings : (v : View) (now : Instant) → KeptByBeginnings (Stays v) now
-unfolding retransmission_begun fast_retransmission_marked tail_probed
+unfolding retransmission_begun fast_retransmission_marked tail_probed probed_by
 beginnings v now = record {
   remembers = λ w k. via v w _ (record { rx = refl; seq = refl; fin = refl; state = refl; sacked = inl refl; rules = refl }) k;
   tells = λ w k. via v w _ (record { rx = refl; seq = refl; fin = refl; state = refl; sacked = inl refl; rules = refl }) k;

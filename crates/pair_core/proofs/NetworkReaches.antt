@@ -1,12 +1,14 @@
 -- Runs of steps, one after the other and as the other side sees them; and whole calls as runs.
-use Rattle.std.proofs.Common.{◌≡◌, ◌+◌, ◌-◌, refl, sym, ap, subst, arith, List, [], ◌∷◌, ◌++◌, length, map, inl, inr, ◌⊎◌}
+use Rattle.std.proofs.Common.{◌≡◌, ◌+◌, ◌-◌, Bool, true, false, not, ◌&&◌, refl, sym, ap, subst, ◌∙◌, arith, List, [], ◌∷◌, ◌++◌, length, map, inl, inr, ◌⊎◌, ⊎_elim}
+use Rattle.std.specs.Prelude.{if◌then◌else◌}
 use Rattle.std.specs.declared.option.Option.{Option}
 use Rattle.std.specs.declared.option.Option.TheVariants.{Some, None}
-use Rattle.pair_core.specs.Network.{Arrives, Dies, Dispatches, Emits, Hears, IsStamped, Network, Replies, Step, emitted, heard_by, swapped, with_local, with_view}
+use Rattle.pair_core.specs.Network.{Arrives, Closes, Dies, Dispatches, Emits, Hears, IsStamped, Network, Replies, Step, closed_after, closed_late, delivered_by, emitted, heard_by, swapped, with_local, with_view}
 use Rattle.pair_core.specs.NetworkInvariant.{IsInvariant}
 use Rattle.pair_core.specs.NetworkRuns.{Reaches, Run, answered}
-use Rattle.pair_core.specs.StreamCalls.{Answers, DispatchEffect, EmitEffect, EndsWithQueues, ProcessEffect}
-use Rattle.pair_core.specs.StreamViews.{SocketView, StreamSegment}
+use Rattle.pair_core.specs.StreamCalls.{Acknowledgement, Answers, ClosesLate, Data, DispatchEffect, EmitEffect, EndsWithQueues, FallBack, HearEffect, Nothing, ProcessEffect, Syn, SynAck, SynAlone}
+use Rattle.pair_core.specs.StreamEffects.{AcksBytes, AcksFin, AcksSyn, HearsAck}
+use Rattle.pair_core.specs.StreamViews.{FinQueued, Open, Silent, SocketView, StreamSegment, is_fin_queued}
 use Rattle.pair_core.proofs.NetworkRuns.{other, run_keeps}
 
 pub reach_keeps : (w v : Network) → Reaches w v → IsInvariant w → IsInvariant v
@@ -42,28 +44,82 @@ over_counts w u v e = λ i. with_local w (record w.local {
   taken = w.local.taken + (length (sym e.receive_queue i) - length w.local.view.receive_queue);
 })
 
+-- the FIN is queued by no segment, and where it was queued none opens again
+queued_before : (l : Bool) (v u : SocketView) (g : StreamSegment) → HearEffect l v u g → (v.phase ≡ u.phase) ⊎ ((is_fin_queued u.phase ≡ false) × (u.phase ≡ Open → is_fin_queued v.phase ≡ false))
+queued_before l v u g (Nothing is) = inl (sym (ap (λ (y : SocketView). y.phase) is))
+queued_before l v u g (Data plain live came same) = inl (sym same.phase)
+queued_before l v u g (Acknowledgement plain knows came ack live) = by ack
+  where
+    by : HearsAck v u g → (v.phase ≡ u.phase) ⊎ ((is_fin_queued u.phase ≡ false) × (u.phase ≡ Open → is_fin_queued v.phase ≡ false))
+    by (AcksBytes a n e le at ph una queue nxt) = inl (sym ph)
+    by (AcksSyn a e at from ph una queue nxt) = inr (ap is_fin_queued ph, λ o. ⊎_elim (ap is_fin_queued) (ap is_fin_queued) from)
+    by (AcksFin a e at from ph una queue nxt) = inr (ap is_fin_queued ph, λ o. let no : Silent ≡ Open = sym ph ∙ o in cc)
+queued_before l v u g (FallBack reset ph listener is) = inr (ap (λ (y : SocketView). is_fin_queued y.phase) is, λ o. ap is_fin_queued ph)
+queued_before l v u g (Syn iss small plain syn ph is) = inr (ap (λ (y : SocketView). is_fin_queued y.phase) is, λ o. ap is_fin_queued ph)
+queued_before l v u g (SynAlone n within plain syn ph is) = inr (ap (λ (y : SocketView). is_fin_queued y.phase) is, λ o. ap is_fin_queued ph)
+queued_before l v u g (SynAck plain syn ph ack to nxt queue held fin) = inr (ap is_fin_queued to, λ o. ap is_fin_queued ph)
+
+-- so what was heard marks no side as closed
+not_closed : (l : Bool) (v u : SocketView) (g : StreamSegment) (closed : Bool) → HearEffect l v u g → closed_late v.phase u.phase closed ≡ closed
+not_closed l v u g closed h = by (queued_before l v u g h)
+  where
+    same : (b : Bool) → (if b && not b then true else closed) ≡ closed
+    same true = refl
+    same false = refl
+
+    by : (v.phase ≡ u.phase) ⊎ ((is_fin_queued u.phase ≡ false) × (u.phase ≡ Open → is_fin_queued v.phase ≡ false)) → closed_late v.phase u.phase closed ≡ closed
+    by (inl e) = ap (λ x. closed_late x u.phase closed) e ∙ same (is_fin_queued u.phase)
+    by (inr n) = ap (λ b. if b && not (is_fin_queued v.phase) then true else closed) n.0
+
+-- a close that waited does
+is_closed_late : (l : Bool) (v u w : SocketView) (g : StreamSegment) (closed : Bool) → HearEffect l v u g → ClosesLate u w → closed_late v.phase w.phase closed ≡ true
+is_closed_late l v u w g closed h c = ap (λ (y : SocketView). closed_late v.phase y.phase closed) c.is ∙ ap (λ b. if not b then true else closed) (by (queued_before l v u g h))
+  where
+    by : (v.phase ≡ u.phase) ⊎ ((is_fin_queued u.phase ≡ false) × (u.phase ≡ Open → is_fin_queued v.phase ≡ false)) → is_fin_queued v.phase ≡ false
+    by (inl e) = ap is_fin_queued (e ∙ c.phase)
+    by (inr n) = n.1 c.phase
+
+-- one that is over marks none either
+over_not_closed : (v u w : SocketView) (closed : Bool) → EndsWithQueues u w → closed_late v.phase w.phase closed ≡ closed
+over_not_closed v u w closed e = ap (λ p. closed_late v.phase p closed) e.phase
+
 module _ (w : Network) (g : StreamSegment) (come : Arrives w g) where
-  -- what was heard is answered, and the connection may be over
-  after_answer : (u v : SocketView) (answer : Option StreamSegment) → (v ≡ u) ⊎ EndsWithQueues u v → Reaches (answered (with_local w (heard_by w.local u)) answer) (answered (with_local w (heard_by w.local v)) answer)
-  after_answer u v answer (inl is) = stays_there _ _ (ap (λ (z : SocketView). answered (with_local w (heard_by w.local z)) answer) (sym is))
-  after_answer u v None (inr e) = one_step _ _ (Dies v (record { phase = e.phase; receive_queue = inl e.receive_queue; fin = λ f. (e.fin f, e.receive_queue) }) (sym (over_counts w u v e)))
-  after_answer u v (Some a) (inr e) = one_step _ _ (Dies v (record { phase = e.phase; receive_queue = inl e.receive_queue; fin = λ f. (e.fin f, e.receive_queue) }) (sym (ap (λ z. emitted z a) (over_counts w u v e))))
+  -- what was heard is answered, and the connection may be over, or a close that waited is done
+  after_answer : (u v : SocketView) (answer : Option StreamSegment) → HearEffect w.local.listener w.local.view u g → (v ≡ u) ⊎ EndsWithQueues u v ⊎ ClosesLate u v → Reaches (answered (with_local w (heard_by w.local u)) answer) (answered (with_local w (delivered_by w.local v)) answer)
+  after_answer u v answer h (inl is) = stays_there _ _ (ap (λ (z : SocketView). answered (with_local w (heard_by w.local z)) answer) (sym is) ∙ ap (λ b. answered (with_local w (record (heard_by w.local v) { closed = b })) answer) (sym (ap (λ (z : SocketView). closed_late w.local.view.phase z.phase w.local.closed) is ∙ not_closed w.local.listener w.local.view u g w.local.closed h)))
+  after_answer u v answer h (inr (inl e)) = over answer
+    where
+      is : with_local w (with_view (heard_by w.local u) v) ≡ with_local w (delivered_by w.local v)
+      is = over_counts w u v e ∙ ap (λ b. with_local w (record (heard_by w.local v) { closed = b })) (sym (over_not_closed w.local.view u v w.local.closed e))
+
+      over : (answer : Option StreamSegment) → Reaches (answered (with_local w (heard_by w.local u)) answer) (answered (with_local w (delivered_by w.local v)) answer)
+      over None = one_step _ _ (Dies v (record { phase = e.phase; receive_queue = inl e.receive_queue; fin = λ f. (e.fin f, e.receive_queue) }) (sym is))
+      over (Some a) = one_step _ _ (Dies v (record { phase = e.phase; receive_queue = inl e.receive_queue; fin = λ f. (e.fin f, e.receive_queue) }) (sym (ap (λ z. emitted z a) is)))
+  after_answer u v answer h (inr (inr c)) = closes answer
+    where
+      is : with_local w (closed_after (heard_by w.local u)) ≡ with_local w (delivered_by w.local v)
+      is = ap (λ (z : SocketView). with_local w (record (heard_by w.local z) { closed = true })) (sym c.is) ∙ ap (λ b. with_local w (record (heard_by w.local v) { closed = b })) (sym (is_closed_late w.local.listener w.local.view u v g w.local.closed h c))
+
+      closes : (answer : Option StreamSegment) → Reaches (answered (with_local w (heard_by w.local u)) answer) (answered (with_local w (delivered_by w.local v)) answer)
+      closes None = one_step _ _ (Closes c.phase (sym is))
+      closes (Some a) = one_step _ _ (Closes c.phase (sym (ap (λ z. emitted z a) is)))
 
   answers_at : (u : SocketView) (answer : Option StreamSegment) → Answers u g answer → ((a : StreamSegment) → answer ≡ Some a → IsStamped (heard_by w.local u) a) → Reaches (with_local w (heard_by w.local u)) (answered (with_local w (heard_by w.local u)) answer)
   answers_at u None may stamps = stays_there _ _ refl
   answers_at u (Some a) may stamps = one_step _ _ (Replies g a come.sent (λ plain. stamps a refl) may refl)
 
-  same_stamps : (u v : SocketView) (a : StreamSegment) → (v ≡ u) ⊎ EndsWithQueues u v → IsStamped (heard_by w.local v) a → IsStamped (heard_by w.local u) a
+  same_stamps : (u v : SocketView) (a : StreamSegment) → (v ≡ u) ⊎ EndsWithQueues u v ⊎ ClosesLate u v → IsStamped (heard_by w.local v) a → IsStamped (heard_by w.local u) a
   same_stamps u v a (inl is) s = subst (λ (z : SocketView). IsStamped (heard_by w.local z) a) is s
-  same_stamps u v a (inr e) s = record {
+  same_stamps u v a (inr (inl e)) s = record {
     released = omega (arith, s.released, ap length e.transmit_queue);
     taken = omega (arith, s.taken, ap length e.receive_queue);
   }
+  same_stamps u v a (inr (inr c)) s = let t : IsStamped (heard_by w.local (record u { phase = FinQueued })) a = subst (λ (z : SocketView). IsStamped (heard_by w.local z) a) c.is s in record { released = t.released; taken = t.taken }
 
-  pub delivery_reaches : (v : SocketView) (answer : Option StreamSegment) → ProcessEffect w.local.listener w.local.view v g answer → ((a : StreamSegment) → answer ≡ Some a → IsStamped (heard_by w.local v) a) → Reaches w (answered (with_local w (heard_by w.local v)) answer)
+  pub delivery_reaches : (v : SocketView) (answer : Option StreamSegment) → ProcessEffect w.local.listener w.local.view v g answer → ((a : StreamSegment) → answer ≡ Some a → IsStamped (heard_by w.local v) a) → Reaches w (answered (with_local w (delivered_by w.local v)) answer)
   delivery_reaches v answer p stamps =
       reach_then w (with_local w (heard_by w.local p.heard)) _ (one_step _ _ (Hears g p.heard come p.hears refl))
-      (reach_then _ (answered (with_local w (heard_by w.local p.heard)) answer) _ (answers_at p.heard answer p.answers (λ a e. same_stamps p.heard v a p.ends (stamps a e))) (after_answer p.heard v answer p.ends))
+      (reach_then _ (answered (with_local w (heard_by w.local p.heard)) answer) _ (answers_at p.heard answer p.answers (λ a e. same_stamps p.heard v a p.ends (stamps a e))) (after_answer p.heard v answer p.hears p.ends))
 
 -- ---- a dispatch
 

@@ -3,12 +3,13 @@ use Rattle.std.proofs.Common.{◌≡◌, ◌≤◌, ℕ, ◌+◌, ◌-◌, ◌%�
 use Rattle.std.specs.List.{Contains}
 use Rattle.std.proofs.lemmas.List.{append-nil}
 use Rattle.sock_core.specs.Places.{number_at}
+use Rattle.sock_core.proofs.Numbers.{number_add}
 use Rattle.sock_core.proofs.Streams.{prefix_self}
 use Rattle.pair_core.specs.Network.{IsStamped, Network, emitted, heard_by, with_local}
 use Rattle.pair_core.proofs.NetworkEndpoints.{ArrivesYoung}
-use Rattle.pair_core.specs.NetworkInvariant.{HasFallenBack, IsInvariant, IsTrueSegment, SameNumbers, SendingMatches}
-use Rattle.pair_core.specs.StreamEffects.{HearsAck, HearsData, MaySend, SameSending}
-use Rattle.pair_core.specs.StreamModel.{Grows, counted}
+use Rattle.pair_core.specs.NetworkInvariant.{HasFallenBack, IsInvariant, IsTrueSegment, PhaseAllows, SameNumbers, SendingMatches}
+use Rattle.pair_core.specs.StreamEffects.{HearsAck, HearsData, MaySend, StaysSending}
+use Rattle.pair_core.specs.StreamModel.{Grows, Stream, counted}
 use Rattle.pair_core.specs.StreamViews.{Dead, HasIss, HasNoIss, IsSynchronized, KnowsPeer, SocketView, StreamSegment, SynReceived, SynSent}
 use Rattle.pair_core.proofs.NetworkChanges.{changes_keep, comes_here, emit_keep, is_young, remote_has_iss}
 use Rattle.pair_core.proofs.NetworkOpening.{emitter_has_iss}
@@ -17,7 +18,7 @@ use Rattle.pair_core.proofs.StreamAcking.{released_more}
 use Rattle.pair_core.proofs.StreamFallBack.{ack_by_same_numbers, any_ack, first_ack}
 use Rattle.pair_core.proofs.StreamGrowth.{sender_grows, sound_kept}
 use Rattle.pair_core.proofs.StreamHearing.{heard, heard_grows, heard_receiving}
-use Rattle.pair_core.proofs.StreamMatches.{sending_same, sending_view, syn_empty, syn_unacked}
+use Rattle.pair_core.proofs.StreamMatches.{sending_same, syn_empty, syn_unacked}
 use Rattle.pair_core.proofs.StreamSending.{keep_alive_true, queue_length, sent_payload_true}
 
 -- a segment that is no RST goes out
@@ -130,13 +131,26 @@ heard_keeps w g u i come m came mu a =
     })
 
 -- a segment comes whose acknowledgement changes nothing
-pub hears_segment : (w : Network) (g : StreamSegment) (u : SocketView) → ArrivesYoung w g → IsSynchronized w.local.view.phase → HearsData w.local.view u g → SameSending w.local.view u → IsInvariant w → IsInvariant (with_local w (heard_by w.local u))
+stays_matching : (v u : SocketView) (o : ℕ) (f : Stream) → StaysSending v u → SendingMatches v o f → SendingMatches u o f
+stays_matching v u o f s t = record {
+  place = t.place;
+  snd_una = s.snd_una ∙ t.snd_una;
+  acked = t.acked;
+  flight = s.snd_nxt.flight;
+  snd_nxt = s.snd_nxt.is ∙ ap (λ m. (m + s.snd_nxt.flight) % 2 ^ 32) (s.snd_una ∙ t.snd_una) ∙ number_add o t.place s.snd_nxt.flight;
+  flight_le = s.snd_nxt.le;
+  queue = s.transmit_queue ∙ t.queue;
+  at = ⊎_elim (λ a. inl a) (λ r. ⊎_elim (λ a. inr (inl a)) (λ a. inr (inr (a.0, a.1, s.phase ∙ a.2))) r) t.at;
+  phase = subst (λ p. PhaseAllows p f t.place) (sym s.phase) t.phase;
+}
+
+pub hears_segment : (w : Network) (g : StreamSegment) (u : SocketView) → ArrivesYoung w g → IsSynchronized w.local.view.phase → HearsData w.local.view u g → StaysSending w.local.view u → IsInvariant w → IsInvariant (with_local w (heard_by w.local u))
 hears_segment w g u come live came same i =
     let m = synchronized_knows w.local.view.phase live in
     heard_keeps w g u i come m came (subst IsSynchronized (sym same.phase) live) (
       0,
       sender_grows i.outgoing i.outgoing.accepted i.outgoing.closed (i.outgoing.released + 0) (prefix_self i.outgoing.accepted) (λ e. (e, refl)) (inl (add-zero i.outgoing.released)),
-      sending_same u i.local_origin i.outgoing (released_more i.outgoing 0) (record { accepted = refl; closed = refl; released = add-zero i.outgoing.released }) (omega arith) (sending_view w.local.view u i.local_origin i.outgoing same (i.outgoing_holds.sending (knows_iss w.local.view.phase m))),
+      sending_same u i.local_origin i.outgoing (released_more i.outgoing 0) (record { accepted = refl; closed = refl; released = add-zero i.outgoing.released }) (omega arith) (stays_matching w.local.view u i.local_origin i.outgoing same (i.outgoing_holds.sending (knows_iss w.local.view.phase m))),
       ⊎_elim (λ a. inl a) (λ o. inr (record { dead = o.dead; accepted = o.accepted; closed = o.closed; not_sending = λ c. o.not_sending (sym same.phase ∙ c) })) i.local_numbers,
     )
 

@@ -1,5 +1,5 @@
 -- What each event keeps of a host, and of a pair but for its network.
-use Rattle.std.proofs.Common.{◌≡◌, ℕ, Bool, true, false, List, [], ◌∷◌, length, Option, Some, None, refl, sym, ap, subst, ◌∙◌, inl, inr, is_some}
+use Rattle.std.proofs.Common.{◌≡◌, ℕ, Bool, true, false, List, [], ◌∷◌, length, Option, Some, None, refl, sym, ap, subst, ◌∙◌, inl, is_some}
 use Rattle.std.specs.Prelude.{IsTrue, not, ◌==◌, if◌then◌else◌}
 use Rattle.ip_wire.specs.Address.{SameVersion}
 use Rattle.ip_wire.specs.declared.endpoint.IpEndpoint.{IpEndpoint}
@@ -9,13 +9,13 @@ use Rattle.sock_tcp.specs.Queue.{Queue}
 use Rattle.sock_tcp.specs.View.{View, fresh}
 use Rattle.sock_tcp.specs.Begin.{Begun, begun, begun_to, before_emit, before_emit_to, ended, peer_of}
 use Rattle.sock_tcp.specs.Process.{Accepts, AcceptsIn, tuple_of}
-use Rattle.sock_tcp.specs.Closing.{closed, aborted, closed_from}
+use Rattle.sock_tcp.specs.Closing.{closed, aborted, closed_in, waits_in}
+use Rattle.sock_tcp.proofs.Late.{called_as}
 use Rattle.sock_tcp.specs.Queues.{may_send, may_recv, queued, read_off, receives, can_recv}
-use Rattle.tcp_laws.proofs.Frames.{process_peers}
+use Rattle.tcp_laws.proofs.Frames.{closed_peers, process_peers}
 use Rattle.tcp_laws.specs.Laws.{IsPeered}
 use Rattle.sock_tcp.specs.Opening.{connected, listened, renewed}
 use Rattle.tcp_laws.specs.Awake.{IsReachedByOwn}
-use Rattle.sock_tcp.specs.declared.state.State.{State}
 use Rattle.sock_tcp.specs.declared.state.State.TheVariants as state
 use Rattle.sock_tcp.specs.declared.tuple.Tuple.{Tuple}
 use Rattle.ip_wire.specs.declared.endpoint.IpListenEndpoint.{IpListenEndpoint}
@@ -75,10 +75,8 @@ read_peer : (v : View) (n : ℕ) (t : Tuple) → IsPeered v.state v.tuple t → 
 unfolding read_off
 read_peer v n t p = p
 
-closed_peers : (st : State) (o : Option Tuple) (t : Tuple) → IsPeered st o t → IsPeered (closed_from st) o t
-closed_peers state.Listen o t p = inl p
-closed_peers state.SynSent o t p = inr p
-closed_peers _ o t p = p
+call_peers : (v : View) (t : Tuple) → IsPeered v.state v.tuple t → IsPeered (closed v).state v.tuple t
+call_peers v t p = called_as (λ st. IsPeered st v.tuple t) (waits_in v.state v.rules) v.state p (closed_peers v.state v.tuple t p)
 
 set_peer : (s : Setting) (v : View) (t : Tuple) → IsPeered v.state v.tuple t → IsPeered (set_in s v).state (set_in s v).tuple t
 set_peer (setting.KeepAlive d) v t p = p
@@ -134,13 +132,13 @@ recv_stays {remote} h k piece size o i e = go (may_recv h.control_block) refl e
 -- ---- closing
 
 closed_idle : (v : View) → IsIdle v → IsIdle (closed v)
-closed_idle v i = record { state = ap closed_from i.state; tuple = i.tuple; rx = i.rx; tx = i.tx; no_fin = i.no_fin }
+closed_idle v i = record { state = ap (λ st. closed_in st v.rules) i.state; tuple = i.tuple; rx = i.rx; tx = i.tx; no_fin = i.no_fin }
 
 aborted_idle : (v : View) → IsIdle v → IsIdle (aborted v)
 aborted_idle v i = record { state = refl; tuple = i.tuple; rx = i.rx; tx = i.tx; no_fin = i.no_fin }
 
 close_stays : {remote : IpEndpoint} {G : Type 0} (h k : HostView G) (o : Outcome) → IsHost h → Closes h o k → StaysHost remote h k
-close_stays {remote} h k o i e = subst (StaysHost remote h) (sym e.1) (record { host = record { reachable = i.reachable; idle = λ u. closed_idle h.control_block (i.idle u); passive = passive_kept h (closing h) i refl (closed_listens h.control_block); reached = called_reached h.control_block (closed h.control_block) (close_call h.control_block) i.reached }; endpoint = refl; peer = λ p. closed_peers h.control_block.state h.control_block.tuple (tuple_to h _) p })
+close_stays {remote} h k o i e = subst (StaysHost remote h) (sym e.1) (record { host = record { reachable = i.reachable; idle = λ u. closed_idle h.control_block (i.idle u); passive = passive_kept h (closing h) i refl (closed_listens h.control_block); reached = called_reached h.control_block (closed h.control_block) (close_call h.control_block) i.reached }; endpoint = refl; peer = λ p. call_peers h.control_block (tuple_to h _) p })
 
 abort_stays : {remote : IpEndpoint} {G : Type 0} (h k : HostView G) (o : Outcome) → IsHost h → Aborts h o k → StaysHost remote h k
 abort_stays {remote} h k o i e = subst (StaysHost remote h) (sym e.1) (record { host = record { reachable = i.reachable; idle = λ u. aborted_idle h.control_block (i.idle u); passive = passive_kept h (aborting h) i refl (aborted_listens h.control_block); reached = called_reached h.control_block (aborted h.control_block) (abort_call h.control_block) i.reached }; endpoint = refl; peer = λ p. closed_peer h.control_block.state h.control_block.tuple (tuple_to h _) p })

@@ -8,7 +8,7 @@ use Rattle.net_base.specs.declared.time.Instant.{Instant}
 use Rattle.control_wire.specs.Segment.{Segment}
 use Rattle.sock_tcp.specs.View.{View, fresh}
 use Rattle.sock_tcp.specs.Opening.{listened, connected, renewed}
-use Rattle.sock_tcp.specs.Closing.{closed, aborted, closed_from}
+use Rattle.sock_tcp.specs.Closing.{closed, aborted, closed_in}
 use Rattle.sock_tcp.specs.Queues.{queued, read_off}
 use Rattle.tcp_laws.proofs.Frames.{process_brings}
 use Rattle.sock_tcp.specs.Process.{processed}
@@ -57,7 +57,7 @@ read_listens v k = λ n. (n, refl)
 -- ---- closing
 
 pub closed_listens : (v : View) → KeepsListener v (closed v)
-closed_listens v = λ n. ((λ e. n (ap closed_from e)), refl)
+closed_listens v = λ n. ((λ e. n (ap (λ st. closed_in st v.rules) e)), refl)
 
 pub aborted_listens : (v : View) → KeepsListener v (aborted v)
 aborted_listens v = λ n. absurd (n refl)

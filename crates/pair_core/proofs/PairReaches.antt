@@ -19,9 +19,11 @@ use Rattle.sock_tcp.specs.Sent.{left_by}
 use Rattle.control_wire.specs.declared.tcp.TcpControl.{TcpControl}
 use Rattle.control_wire.specs.declared.tcp.TcpControl.TheVariants as control
 use Rattle.control_wire.specs.declared.tcp.TcpTimestampRepr.{TcpTimestampRepr}
-use Rattle.sock_tcp.specs.Closing.{closed_from}
+use Rattle.sock_tcp.specs.Closing.{closed_in}
 use Rattle.sock_tcp.specs.Process.{Accepts}
 use Rattle.sock_tcp.specs.Replies.{Answers, IsReplyStamp, echoed, rst_segment, with_header}
+use Rattle.sock_tcp.specs.declared.rules.Rules.{Rules}
+use Rattle.sock_tcp.specs.declared.rules.Rules.TheVariants as rules
 use Rattle.sock_tcp.specs.declared.state.State.{State}
 use Rattle.sock_tcp.specs.declared.state.State.TheVariants as state
 use Rattle.sock_tcp.specs.declared.tuple.Tuple.{Tuple}
@@ -116,7 +118,7 @@ module _ {G : Type 0} (s : Side) (h o : HostView G) (ks : List StoredView) (limi
       (process_heard h.control_block (record { micros = m.now.micros }) m.word t.ip t.segment t.released_at t.taken_at k.released k.taken w small sock.receive sock.fin (bounded s h b h.control_block o ks limit i) accepted)) in
       subst (Reaches n) (stored_reply s (opened k b (processed_by h m t).view) (endpoint_of o) ks limit reply k.released k.taken)
       (delivery_reaches n (shown_segment t) come (shown (processed_by h m t).view) (shown_reply k.released k.taken reply) does
-      (λ a is. reply_stamped (opened k b (processed_by h m t).view) reply a is))
+      (λ a is. let t = reply_stamped (opened k b (processed_by h m t).view) reply a is in record { released = t.released; taken = t.taken }))
 
   hears_in : (e : Opening) → (e ≡ opening.Unopened → ⊥) → is_passive h.control_block ≡ is_listener e → IsInvariant (network_at s (record h { opening = e }) o ks limit) → Reaches (network_at s (record h { opening = e }) o ks limit) (network_at s (record (delivered_to h m t) { opening = e }) o with_reply limit)
   hears_in opening.Unopened shut p i = absurd (shut refl)
@@ -280,8 +282,8 @@ module _ {G : Type 0} (s : Side) (h o : HostView G) (ks : List StoredView) (limi
   -- ---- close and abort
 
   -- what a close leaves of a socket in the state st
-  abbrev closed_in : Bool → State → Network
-  closed_in b st = between s (record (endpoint_of h) { view = record (shown h.control_block) { phase = phase_of (closed_from st) }; listener = b; closed = if may_send st then true else h.closed }) (endpoint_of o) ks limit
+  abbrev closed_there : Bool → State → Rules → Network
+  closed_there b st r = between s (record (endpoint_of h) { view = record (shown h.control_block) { phase = phase_of (closed_in st r) }; listener = b; closed = if may_send st then true else h.closed }) (endpoint_of o) ks limit
 
   abbrev open_in : Bool → State → Network
   open_in b st = between s (record (endpoint_of h) { view = record (shown h.control_block) { phase = phase_of st }; listener = b }) (endpoint_of o) ks limit
@@ -290,23 +292,24 @@ module _ {G : Type 0} (s : Side) (h o : HostView G) (ks : List StoredView) (limi
   ends_there : (b : Bool) (st : State) → Reaches (open_in b st) (open_in b state.Closed)
   ends_there b st = one_step _ _ (Dies (record (shown h.control_block) { phase = Dead }) (record { phase = refl; receive_queue = inl refl; fin = λ f. (f, refl) }) refl)
 
-  closes_as : (b : Bool) (st : State) → Reaches (open_in b st) (closed_in b st)
-  closes_as b state.Established = one_step _ _ (EndsStream refl refl)
-  closes_as b state.CloseWait = one_step _ _ (EndsStream refl refl)
-  closes_as b state.SynReceived = one_step _ _ (ClosesUnacknowledged refl refl)
-  closes_as b state.Listen = ends_there b state.Listen
-  closes_as b state.SynSent = ends_there b state.SynSent
-  closes_as b state.Closed = stays_there _ _ refl
-  closes_as b state.FinWait1 = stays_there _ _ refl
-  closes_as b state.FinWait2 = stays_there _ _ refl
-  closes_as b state.Closing = stays_there _ _ refl
-  closes_as b state.LastAck = stays_there _ _ refl
-  closes_as b state.TimeWait = stays_there _ _ refl
+  closes_as : (b : Bool) (st : State) (r : Rules) → Reaches (open_in b st) (closed_there b st r)
+  closes_as b state.Established r = one_step _ _ (EndsStream refl refl)
+  closes_as b state.CloseWait r = one_step _ _ (EndsStream refl refl)
+  closes_as b state.SynReceived rules.Smoltcp = one_step _ _ (ClosesUnacknowledged refl refl)
+  closes_as b state.SynReceived rules.Rfc = stays_there _ _ refl
+  closes_as b state.Listen r = ends_there b state.Listen
+  closes_as b state.SynSent r = ends_there b state.SynSent
+  closes_as b state.Closed r = stays_there _ _ refl
+  closes_as b state.FinWait1 r = stays_there _ _ refl
+  closes_as b state.FinWait2 r = stays_there _ _ refl
+  closes_as b state.Closing r = stays_there _ _ refl
+  closes_as b state.LastAck r = stays_there _ _ refl
+  closes_as b state.TimeWait r = stays_there _ _ refl
 
   closes_in : (e : Opening) → (e ≡ opening.Unopened → h.control_block.state ≡ state.Closed) → Reaches (network_at s (record h { opening = e }) o ks limit) (network_at s (record (closing h) { opening = e }) o ks limit)
   closes_in opening.Unopened idle = stays_there _ _ (ap (λ st. network_at s (record h { opening = opening.Unopened; closed = if may_send st then true else h.closed }) o ks limit) (sym (idle refl)))
-  closes_in opening.Listener idle = closes_as true h.control_block.state
-  closes_in opening.Connector idle = closes_as false h.control_block.state
+  closes_in opening.Listener idle = closes_as true h.control_block.state h.control_block.rules
+  closes_in opening.Connector idle = closes_as false h.control_block.state h.control_block.rules
 
   aborts_in : (e : Opening) → Reaches (network_at s (record h { opening = e }) o ks limit) (network_at s (record (aborting h) { opening = e }) o ks limit)
   aborts_in opening.Unopened = stays_there _ _ refl

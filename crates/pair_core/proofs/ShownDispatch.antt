@@ -18,7 +18,7 @@ use Rattle.sock_tcp.specs.Due.{is_due}
 use Rattle.sock_tcp.specs.Opening.{renewed}
 use Rattle.sock_tcp.specs.Polls.{is_reached, timeout_poll}
 use Rattle.sock_tcp.specs.Queue.{IsLent}
-use Rattle.sock_tcp.specs.Rfc.TailLoss.{probes_tail, tail_probed, tail_armed}
+use Rattle.sock_tcp.specs.Rfc.TailLoss.{probes_tail, probed_by, tail_probed, tail_armed}
 use Rattle.sock_tcp.specs.Rfc.RoundTrips.{sending_measured}
 use Rattle.sock_tcp.specs.Sent.{goes_on, emitted_as, after_any, after_probe, snd_nxt_moved, sending_timed, after_kind, after_sending}
 use Rattle.sock_tcp.specs.Timers.{is_over, is_close_over, retransmit_unless_set}
@@ -81,7 +81,7 @@ timer_shows (timer.ZeroWindowProbe t delay) v now bounds = go (is_over t now)
 timer_shows (timer.Close t) v now bounds = Same refl
 
 timers_show : (v : View) (now : Instant) → (HasIss (phase_of v.state) → HasSendingBounds (shown v)) → DispatchEffect (shown v) (shown (after_timers v now))
-unfolding after_timers tail_probed
+unfolding after_timers tail_probed probed_by
 timers_show v now bounds = go (is_reached (timeout_poll v.timeout v.remote_last_ts) now)
   where
     probed : (b : Bool) → DispatchEffect (shown v) (shown (timers_by b v now))

@@ -1,5 +1,5 @@
 -- A segment without bytes, SYN, FIN and RST may be sent with the highest number that was sent.
-use Rattle.std.proofs.Common.{◌≡◌, ℕ, ◌+◌, Bool, true, false, true≢false, not, ◌&&◌, List, [], ◌∷◌, length, min, Option, Some, None, refl, sym, subst, ◌∙◌, arith, inl, ⊎_elim}
+use Rattle.std.proofs.Common.{◌≡◌, ℕ, ◌+◌, Bool, true, false, true≢false, not, ◌&&◌, List, [], ◌∷◌, length, min, Option, Some, None, refl, sym, subst, ◌∙◌, arith, inl, inr, ◌⊎◌, ⊎_elim}
 use Rattle.std.specs.Prelude.{◌==◌, option_map}
 use Rattle.std.proofs.lemmas.Bool.{and_parts, eqb-true}
 use Rattle.std.proofs.lemmas.Option.{none-some}
@@ -16,9 +16,9 @@ use Rattle.sock_tcp.specs.declared.rules.Rules.TheVariants as rules
 use Rattle.sock_tcp.specs.declared.state.State.{State}
 use Rattle.sock_tcp.specs.declared.state.State.TheVariants as state
 use Rattle.pair_core.specs.PairNetwork.{phase_of, shown, stream_segment, is_syn, is_rst, is_fin}
-use Rattle.pair_core.specs.StreamCalls.{EmitEffect, EmitsReset, EmitsSegment, EndsWithQueues, ProcessEffect, ReplyEffect, ResetReply, Segment as MayAnswer}
+use Rattle.pair_core.specs.StreamCalls.{ClosesLate, EmitEffect, EmitsReset, EmitsSegment, EndsWithQueues, ProcessEffect, ReplyEffect, ResetReply, Segment as MayAnswer}
 use Rattle.pair_core.specs.StreamEffects.{MaySend}
-use Rattle.pair_core.specs.StreamViews.{Dead, SocketView, StreamSegment}
+use Rattle.pair_core.specs.StreamViews.{Dead, FinQueued, HasIss, KnowsPeer, Phase, SocketView, StreamSegment}
 
 no_bytes : (bs : List ℕ) → length bs ≡ 0 → (i b : ℕ) → ByteAt bs i b → ⊥
 no_bytes [] e i b h = absurd (none-some b h)
@@ -77,6 +77,16 @@ says_nothing control.Rst e = absurd (true≢false (sym e))
 says_nothing control.Syn e = absurd (true≢false (sym e))
 says_nothing control.Fin e = absurd (true≢false (sym e))
 
+-- what has neither a SYN nor a FIN may be sent in another phase too
+in_phase : (v : SocketView) (p : Phase) (g : StreamSegment) → HasIss p → KnowsPeer p → g.syn ≡ false → g.fin ≡ false → MaySend v g → MaySend (record v { phase = p }) g
+in_phase v p g iss knows syn fin m = record {
+  plain = m.plain;
+  iss = iss;
+  content = ⊎_elim (λ b. inl (record { skip = b.skip; seq = b.seq; bytes = b.bytes; within = b.within; fin = λ f. absurd (true≢false (sym f ∙ fin)) })) (λ k. inr (record { seq = k.seq; bytes = k.bytes; fin = k.fin })) m.content;
+  acks = record { says = λ a e. (knows, (m.acks.says a e).1) };
+  opens = λ e. absurd (true≢false (sym e ∙ syn));
+}
+
 dead_is_closed : (st : State) → phase_of st ≡ Dead → is_closed st ≡ true
 dead_is_closed state.Closed e = refl
 dead_is_closed _ e = absurd cc
@@ -97,11 +107,17 @@ module _ (listener : Bool) (v : SocketView) (w : View) (g : StreamSegment) (rele
       none : (is_syn s.control ≡ false) × (is_fin s.control ≡ false) × (is_rst s.control ≡ false)
       none = says_nothing s.control parts.1
 
-      here : e.heard ≡ shown w
-      here = ⊎_elim sym (λ (d : EndsWithQueues e.heard (shown w)). absurd (true≢false (sym (dead_is_closed w.state d.phase) ∙ alive))) e.ends
+      -- where it was heard it may be sent with the highest number, as the socket now is
+      may : (shown w ≡ e.heard) ⊎ EndsWithQueues e.heard (shown w) ⊎ ClosesLate e.heard (shown w) → MaySend e.heard (stream_segment s released taken) → MaySend e.heard (stream_segment (record s { seq_number = highest_number w }) released taken)
+      may (inl is) m = subst (λ z. MaySend z (stream_segment (record s { seq_number = highest_number w }) released taken)) is (highest_may w s released taken parts.0 none.0 none.1 (subst (λ z. MaySend z (stream_segment s released taken)) (sym is) m))
+      may (inr (inl d)) m = absurd (true≢false (sym (dead_is_closed w.state d.phase) ∙ alive))
+      may (inr (inr c)) m =
+          let there : MaySend (shown w) (stream_segment s released taken) = subst (λ z. MaySend z (stream_segment s released taken)) (sym c.is) (in_phase e.heard FinQueued (stream_segment s released taken) tt tt none.0 none.1 m) in
+          let back : MaySend (record e.heard { phase = FinQueued }) (stream_segment (record s { seq_number = highest_number w }) released taken) = subst (λ z. MaySend z (stream_segment (record s { seq_number = highest_number w }) released taken)) c.is (highest_may w s released taken parts.0 none.0 none.1 there) in
+          in_phase (record e.heard { phase = FinQueued }) e.heard.phase (stream_segment (record s { seq_number = highest_number w }) released taken) (subst HasIss (sym c.phase) tt) (subst KnowsPeer (sym c.phase) tt) none.0 none.1 back
 
       to : ReplyEffect e.heard g (stream_segment s released taken) → ReplyEffect e.heard g (stream_segment (record s { seq_number = highest_number w }) released taken)
-      to (MayAnswer m) = MayAnswer (subst (λ z. MaySend z (stream_segment (record s { seq_number = highest_number w }) released taken)) (sym here) (highest_may w s released taken parts.0 none.0 none.1 (subst (λ z. MaySend z (stream_segment s released taken)) here m)))
+      to (MayAnswer m) = MayAnswer (may e.ends m)
       to (ResetReply a rst plain opening ack other) = absurd (true≢false (sym rst ∙ none.2))
 
   pub renumbered_effect : (r : Option Segment) → Effect r → Effect (reply_numbered w r)

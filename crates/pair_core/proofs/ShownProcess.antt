@@ -17,7 +17,8 @@ use Rattle.sock_core.specs.Received.{Received, room_of}
 use Rattle.sock_core.specs.Seq.{is_not_after, later_of}
 use Rattle.sock_core.specs.Streams.{fin_length}
 use Rattle.pair_core.proofs.ShownNumbers.{renumbered_effect}
-use Rattle.sock_tcp.specs.Rfc.Windows.{windowed}
+use Rattle.sock_tcp.specs.Rfc.Windows.{ack_heeded, is_heeded, is_heeding, windowed}
+use Rattle.tcp_laws.proofs.Heeding.{heeded_none, heeded_small}
 use Rattle.sock_tcp.specs.Rfc.Numbers.{reply_numbered}
 use Rattle.sock_tcp.specs.Arrival.{Arrival, arrival}
 use Rattle.sock_tcp.specs.View.{View, FinSays}
@@ -26,8 +27,9 @@ use Rattle.sock_tcp.specs.Window.{next_ack, accepted_window, honored_window, is_
 use Rattle.sock_tcp.specs.Acked.{syn_place, acked_places, acked_at, acked_of, nothing_acked}
 use Rattle.sock_tcp.specs.Advance.{advanced, advance_in, counted_control, dropped, fallen_back, fin_counted, moved_to, opened_state, options_taken, syn_answered, syn_received, waiting, nothing_new_by}
 use Rattle.ip_wire.specs.declared.endpoint.IpListenEndpoint.{IpListenEndpoint}
-use Rattle.sock_tcp.specs.Process.{Outcome, stopped, tuple_of, after_table, after_advance, has_window, challenged, outside, bytes_taken, processed_inside, cut_inside, tested, by_verdict, processed, processed_by, Accepts, AcceptsIn, IsAddressed}
-use Rattle.sock_tcp.specs.Rfc.Recovery.{before_of, recovered}
+use Rattle.sock_tcp.specs.Process.{Outcome, stopped, tuple_of, after_table, after_advance, has_window, challenged, outside, bytes_taken, processed_inside, cut_inside, tested, by_verdict, closed_then, processed, processed_by, Accepts, AcceptsIn, IsAddressed}
+use Rattle.sock_tcp.specs.Closing.{closed_from, late_from}
+use Rattle.sock_tcp.specs.Rfc.Recovery.{before_of, recovered, recovered_by}
 use Rattle.sock_tcp.specs.Rfc.Refused.{is_fin as rfc_fin}
 use Rattle.sock_tcp.specs.Steps.{heard}
 use Rattle.sock_tcp.specs.declared.acked.Acked.{Acked}
@@ -43,15 +45,16 @@ use Rattle.tcp_laws.proofs.Frames.{brought}
 use Rattle.sock_tcp.proofs.Windows.{accepted_end_small, accepted_is, accepted_width, cut_fits_in}
 use Rattle.pair_core.specs.PairLaws.{IsBounded}
 use Rattle.pair_core.specs.PairNetwork.{phase_of, shown, stream_segment, is_fin, is_passive, is_rst, is_syn, IsSmall}
-use Rattle.pair_core.specs.StreamCalls.{HearEffect, ProcessEffect, Nothing, Acknowledgement, FallBack, ResetReply, Syn, SynAck, SynAlone}
-use Rattle.pair_core.specs.StreamEffects.{HearsAck, HearsData}
-use Rattle.pair_core.specs.StreamTables.{OfBytes, OfFin, OfSyn, segment_end}
+use Rattle.pair_core.specs.StreamCalls.{Answers as StreamAnswers, ClosesLate, Data, EndsWithQueues, HearEffect, ProcessEffect, Nothing, Acknowledgement, FallBack, ResetReply, Segment as MayAnswer, Syn, SynAck, SynAlone}
+use Rattle.pair_core.specs.StreamEffects.{AcksBytes, AcksFin, AcksSyn, HearsAck, HearsData, StaysSending}
+use Rattle.pair_core.specs.StreamTables.{HasSendingBounds, OfBytes, OfFin, OfSyn, segment_end}
 use Rattle.pair_core.specs.StreamViews as phase
 use Rattle.pair_core.specs.StreamViews.{Phase, SocketView, StreamSegment, HasIss, KnowsPeer, IsNonSynchronized, IsSynchronized}
 use Rattle.pair_core.proofs.ShownReplies.{Answered, answers_as, bytes_there, challenged_there, outside_there}
 use Rattle.pair_core.proofs.ShownRows.{answer_in, heard_within, knows_iss, later_same, nxt_alone, nxt_joins, nxt_past_fin}
 use Rattle.pair_core.proofs.ShownSteps.{FinInside, acked_none, acked_some, acked_view, acked_when, challenge_says, counted_fin, counted_plain, counted_rst, heard_shown, knows_peer, passes_syn, passes_with, reset_says}
 use Rattle.pair_core.proofs.ShownWindow.{FinCounts, before_shown, comes, cut_heard, cut_shown, edge_shown, grows, inside_shown, later_shown, offset_shown}
+use Rattle.pair_core.proofs.NetworkPhases.{synchronized_knows}
 use Rattle.pair_core.proofs.StreamTables.{passes_heard}
 use Rattle.sock_tcp.specs.Rfc.Refused.{is_plain_control, refused}
 use Rattle.sock_tcp.specs.declared.rules.Rules.{Rules}
@@ -131,10 +134,10 @@ module _ (v : View) (now : Instant) (word : ℕ) (ip : IpRepr) (s : Segment) (at
       }
 
   dies : IsEffect (stopped (dropped numbered))
-  dies = record { heard = shown v; hears = Nothing refl; answers = tt; ends = inr (record { phase = refl; transmit_queue = refl; receive_queue = refl; fin = λ e. e }) }
+  dies = record { heard = shown v; hears = Nothing refl; answers = tt; ends = inr (inl (record { phase = refl; transmit_queue = refl; receive_queue = refl; fin = λ e. e })) }
 
   dies_alone : IsEffect (stopped (dropped v))
-  dies_alone = record { heard = shown v; hears = Nothing refl; answers = tt; ends = inr (record { phase = refl; transmit_queue = refl; receive_queue = refl; fin = λ e. e }) }
+  dies_alone = record { heard = shown v; hears = Nothing refl; answers = tt; ends = inr (inl (record { phase = refl; transmit_queue = refl; receive_queue = refl; fin = λ e. e })) }
 
   falls_back : v.state ≡ state.SynReceived → is_rst s.control ≡ true → IsEffect (stopped (fallen_back numbered))
   unfolding fallen_back
@@ -238,12 +241,12 @@ module _ (v : View) (now : Instant) (word : ℕ) (ip : IpRepr) (s : Segment) (at
               heard = heard_as u a.len p;
               hears = Acknowledgement plain knows (data_heard u a.len p r) ack sync;
               answers = answers_as s then_release then_take (heard_as u a.len p) y.reply the_segment (knows_iss p known) known (heard_within _ _ _ ack) (answer_in s z p y.reply x.answer);
-              ends = ⊎_elim (λ h. inl (x.view ∙ ap (λ q. record z { phase = q }) h)) (λ h. inr (record {
+              ends = ⊎_elim (λ h. inl (x.view ∙ ap (λ q. record z { phase = q }) h)) (λ h. inr (inl (record {
                 phase = ap (λ (y : SocketView). y.phase) x.view ∙ h;
                 transmit_queue = ap (λ (y : SocketView). y.transmit_queue) x.view;
                 receive_queue = ap (λ (y : SocketView). y.receive_queue) x.view;
                 fin = λ f. sym (ap (λ (y : SocketView). y.fin_counted) x.view) ∙ f;
-              })) r.ends;
+              }))) r.ends;
             }
 
         -- ---- the rows of a segment that is no RST
@@ -592,6 +595,49 @@ module _ (v : View) (now : Instant) (word : ℕ) (ip : IpRepr) (s : Segment) (at
   unfolding recovered
   recovered_effect o h = h
 
+  -- a close that waited is done in ESTABLISHED or CLOSE-WAIT, and in LISTEN ends the connection
+  late_open : (w : View) (r : Option Segment) → phase_of w.state ≡ phase.Open → IsEffect (record { view = w; reply = r }) → IsEffect (record { view = record w { state = closed_from w.state }; reply = r })
+  late_open w r is h = record { heard = h.heard; hears = h.hears; answers = h.answers; ends = by h.ends }
+    where
+      queued : (st : State) → phase_of st ≡ phase.Open → phase_of (closed_from st) ≡ phase.FinQueued
+      queued state.Established e = refl
+      queued state.CloseWait e = refl
+      queued _ e = absurd cc
+
+      by : (shown w ≡ h.heard) ⊎ EndsWithQueues h.heard (shown w) ⊎ ClosesLate h.heard (shown w) → (shown (record w { state = closed_from w.state }) ≡ h.heard) ⊎ EndsWithQueues h.heard (shown (record w { state = closed_from w.state })) ⊎ ClosesLate h.heard (shown (record w { state = closed_from w.state }))
+      by (inl e) = inr (inr (record { phase = sym (ap (λ (y : SocketView). y.phase) e) ∙ is; is = (λ i. record (shown w) { phase = queued w.state is i }) ∙ ap (λ (y : SocketView). record y { phase = phase.FinQueued }) e }))
+      by (inr (inl d)) = let no : phase.Open ≡ phase.Dead = sym is ∙ d.phase in cc
+      by (inr (inr c)) = let no : phase.Open ≡ phase.FinQueued = sym is ∙ ap (λ (y : SocketView). y.phase) c.is in cc
+
+  late_dead : (w : View) (r : Option Segment) → phase_of (closed_from w.state) ≡ phase.Dead → (phase_of w.state ≡ phase.FinQueued → ⊥) → IsEffect (record { view = w; reply = r }) → IsEffect (record { view = record w { state = closed_from w.state }; reply = r })
+  late_dead w r is alive h = record { heard = h.heard; hears = h.hears; answers = h.answers; ends = by h.ends }
+    where
+      by : (shown w ≡ h.heard) ⊎ EndsWithQueues h.heard (shown w) ⊎ ClosesLate h.heard (shown w) → (shown (record w { state = closed_from w.state }) ≡ h.heard) ⊎ EndsWithQueues h.heard (shown (record w { state = closed_from w.state })) ⊎ ClosesLate h.heard (shown (record w { state = closed_from w.state }))
+      by (inl e) = inr (inl (record { phase = is; transmit_queue = ap (λ (y : SocketView). y.transmit_queue) e; receive_queue = ap (λ (y : SocketView). y.receive_queue) e; fin = λ f. sym (ap (λ (y : SocketView). y.fin_counted) e) ∙ f }))
+      by (inr (inl d)) = inr (inl (record { phase = is; transmit_queue = d.transmit_queue; receive_queue = d.receive_queue; fin = d.fin }))
+      by (inr (inr c)) = absurd (alive (ap (λ (y : SocketView). y.phase) c.is))
+
+  late_by : (w : View) (r : Option Segment) (st : State) → w.state ≡ st → IsEffect (record { view = w; reply = r }) → IsEffect (record { view = record w { state = late_from st }; reply = r })
+  late_by w r state.SynReceived e h = subst (λ st. IsEffect (record { view = record w { state = st }; reply = r })) e h
+  late_by w r state.Established e h = subst (λ st. IsEffect (record { view = record w { state = closed_from st }; reply = r })) e (late_open w r (ap phase_of e) h)
+  late_by w r state.CloseWait e h = subst (λ st. IsEffect (record { view = record w { state = closed_from st }; reply = r })) e (late_open w r (ap phase_of e) h)
+  late_by w r state.Listen e h = subst (λ st. IsEffect (record { view = record w { state = closed_from st }; reply = r })) e (late_dead w r (ap (λ st. phase_of (closed_from st)) e) (λ q. let no : phase.Listening ≡ phase.FinQueued = sym (ap phase_of e) ∙ q in cc) h)
+  late_by w r state.SynSent e h = subst (λ st. IsEffect (record { view = record w { state = closed_from st }; reply = r })) e (late_dead w r (ap (λ st. phase_of (closed_from st)) e) (λ q. let no : phase.SynSent ≡ phase.FinQueued = sym (ap phase_of e) ∙ q in cc) h)
+  late_by w r state.Closed e h = subst (λ st. IsEffect (record { view = record w { state = st }; reply = r })) e h
+  late_by w r state.FinWait1 e h = subst (λ st. IsEffect (record { view = record w { state = st }; reply = r })) e h
+  late_by w r state.FinWait2 e h = subst (λ st. IsEffect (record { view = record w { state = st }; reply = r })) e h
+  late_by w r state.Closing e h = subst (λ st. IsEffect (record { view = record w { state = st }; reply = r })) e h
+  late_by w r state.LastAck e h = subst (λ st. IsEffect (record { view = record w { state = st }; reply = r })) e h
+  late_by w r state.TimeWait e h = subst (λ st. IsEffect (record { view = record w { state = st }; reply = r })) e h
+
+  closed_effect : (r : Rules) (o : Outcome) → IsEffect o → IsEffect (closed_then r o)
+  closed_effect rules.Smoltcp o h = h
+  closed_effect rules.Rfc o h = by o.view.close_waits
+    where
+      by : (b : Bool) → IsEffect (record { view = record o.view { state = if b then late_from o.view.state else o.view.state }; reply = o.reply })
+      by true = late_by o.view o.reply o.view.state refl h
+      by false = h
+
   -- in a state with a window
   challenged_in : has_window v.state ≡ true → IsEffect (challenged v now s)
   challenged_in w = answered w (challenged v now s) (challenged_there s now v (shown v) refl)
@@ -607,7 +653,69 @@ module _ (v : View) (now : Instant) (word : ℕ) (ip : IpRepr) (s : Segment) (at
         ends = inl refl;
       }
   by_the_verdict verdicts.Challenge e small_word = challenged_in (challenge_says v.state s.control s.ack_number v.local_seq_no queued no_ack e)
-  by_the_verdict verdicts.Pass e small_word = let h = is_tested (has_window v.state) refl e small_word in recovered_as IsEffect v.rules v now s _ h (recovered_effect _ h)
+  by_the_verdict verdicts.Pass e small_word =
+      let o : Outcome = tested (has_window v.state) v (arrival now (tuple_of ip s) word s) in
+      let h = is_tested (has_window v.state) refl e small_word in
+      closed_effect v.rules (recovered_by v.rules v now s o) (recovered_as IsEffect v.rules v now s o h (recovered_effect o h))
+
+-- ---- an acknowledgement that is ignored
+
+module _ (l : Bool) (v : SocketView) (g : StreamSegment) (k : Option ℕ) (live : IsSynchronized v.phase) (at_una : k ≡ Some v.snd_una) (b : HasSendingBounds v) where
+  abbrev at_k : StreamSegment
+  at_k = record g { ack = k }
+
+  same_data : (u : SocketView) → HearsData v u at_k → HearsData v u g
+  same_data u d = record { more = d.more; receive_queue = d.receive_queue; joined = d.joined; held = d.held; fin = d.fin; kept = d.kept; fins = d.fins; fin_counts = d.fin_counts; rcv_nxt = d.rcv_nxt }
+
+  is_una : (a : ℕ) → at_k.ack ≡ Some a → a ≡ v.snd_una
+  is_una a e = let same : Some v.snd_una ≡ Some a = sym at_una ∙ e in let out : v.snd_una ≡ a = cc in sym out
+
+  ignored : (u : SocketView) → HearsAck v u at_k → StaysSending v u
+  ignored u (AcksBytes a n e le is ph una queue within) =
+      let none : n ≡ 0 = omega (arith, is, is_una a e, le, b.snd_una, b.room) in
+      record { phase = ph; snd_una = una ∙ is_una a e; transmit_queue = queue ∙ ap (λ m. drop m v.transmit_queue) none; snd_nxt = within }
+  ignored u (AcksSyn a e is from to una queue within) = absurd (⊎_elim (λ q. subst IsSynchronized q live) (λ q. subst IsSynchronized q live) from)
+  ignored u (AcksFin a e is from to una queue within) = absurd (omega (arith, is, is_una a e, b.snd_una, b.room))
+
+  ignoring : (u : SocketView) → HearEffect l v u at_k → HearEffect l v u g
+  ignoring u (Nothing is) = Nothing is
+  ignoring u (Data plain was d same) = Data plain was (same_data u d) same
+  ignoring u (Acknowledgement plain knows d ack now) = Data plain live (same_data u d) (ignored u ack)
+  ignoring u (FallBack r was listener is) = absurd (subst IsSynchronized was live)
+  ignoring u (Syn iss less plain syn was is) = absurd (subst IsSynchronized was live)
+  ignoring u (SynAlone n within plain syn was is) = absurd (subst IsSynchronized was live)
+  ignoring u (SynAck plain syn was ack now nxt queue held fin) = absurd (subst IsSynchronized was live)
+
+  still_live : (u : SocketView) → HearEffect l v u at_k → IsSynchronized u.phase
+  still_live u (Nothing is) = subst (λ (y : SocketView). IsSynchronized y.phase) (sym is) live
+  still_live u (Data plain was d same) = subst IsSynchronized (sym same.phase) was
+  still_live u (Acknowledgement plain knows d ack now) = now
+  still_live u (FallBack r was listener is) = absurd (subst IsSynchronized was live)
+  still_live u (Syn iss less plain syn was is) = absurd (subst IsSynchronized was live)
+  still_live u (SynAlone n within plain syn was is) = absurd (subst IsSynchronized was live)
+  still_live u (SynAck plain syn was ack now nxt queue held fin) = absurd (subst IsSynchronized was live)
+
+  same_replies : (u : SocketView) (r : Option StreamSegment) → IsSynchronized u.phase → StreamAnswers u at_k r → StreamAnswers u g r
+  same_replies u None now h = tt
+  same_replies u (Some x) now (MayAnswer m) = MayAnswer m
+  same_replies u (Some x) now (ResetReply a rst plain opening ack other) = absurd (⊎_elim (λ q. subst IsSynchronized q now) (λ q. subst IsSynchronized q now) opening)
+
+  pub ignored_effect : (w : SocketView) (r : Option StreamSegment) → ProcessEffect l v w at_k r → ProcessEffect l v w g r
+  ignored_effect w r h = record { heard = h.heard; hears = ignoring h.heard h.hears; answers = same_replies h.heard r (still_live h.heard h.hears) h.answers; ends = h.ends }
+
+-- the states that ignore one
+heeds_live : (st : State) → is_heeding st ≡ true → IsSynchronized (phase_of st)
+heeds_live state.Closed e = absurd cc
+heeds_live state.Listen e = absurd cc
+heeds_live state.SynSent e = absurd cc
+heeds_live state.SynReceived e = absurd cc
+heeds_live state.Established e = tt
+heeds_live state.FinWait1 e = tt
+heeds_live state.FinWait2 e = tt
+heeds_live state.CloseWait e = tt
+heeds_live state.Closing e = tt
+heeds_live state.LastAck e = tt
+heeds_live state.TimeWait e = tt
 
 -- ---- the whole, of a segment with the window that it counts as telling
 
@@ -617,7 +725,7 @@ addressed r v (Some t) e ip s h = record { local_addr = h.local_addr; local_port
 
 accepted_too : (st : State) (r : Rules) (v : View) (ip : IpRepr) (s : Segment) → AcceptsIn st v ip s → AcceptsIn st v ip (windowed r v s)
 accepted_too state.Closed r v ip s h = h
-accepted_too state.Listen r v ip s h = (record { no_ack = h.0.no_ack; no_reset = h.0.no_reset }, addressed r v v.tuple v.listen_endpoint ip s h.1)
+accepted_too state.Listen r v ip s h = (record { no_ack = heeded_none r v s s.ack_number h.0.no_ack; no_reset = h.0.no_reset }, addressed r v v.tuple v.listen_endpoint ip s h.1)
 accepted_too _ r v ip s h = addressed r v v.tuple v.listen_endpoint ip s h
 
 module _ (v : View) (now : Instant) (word : ℕ) (ip : IpRepr) (s : Segment) (released taken released_then taken_then : ℕ) (word_small : word < 2 ^ 32) (small : IsSmall s) (room : room_of v.rx_buffer ≤ 2 ^ 30) (says : FinSays v.state v.rx_fin_received) (bounds : IsBounded v) (accepted : Accepts v ip s) where
@@ -625,18 +733,40 @@ module _ (v : View) (now : Instant) (word : ℕ) (ip : IpRepr) (s : Segment) (re
   y = windowed v.rules v s
 
   small_too : IsSmall y
-  small_too = record { payload = small.payload; seq = small.seq; ack = small.ack }
+  small_too = record { payload = small.payload; seq = small.seq; ack = heeded_small v.rules v s s.ack_number small.ack }
 
   there : Accepts v ip y
   there = accepted_too v.state v.rules v ip s accepted
 
-  heard_as_is : ProcessEffect (is_passive v) (shown v) (shown (processed v now word ip s).view) (stream_segment s released taken) (option_map (λ (r : Segment). stream_segment r released_then taken_then) (processed v now word ip s).reply)
+  abbrev Heard : StreamSegment → Type 0
+  Heard g = ProcessEffect (is_passive v) (shown v) (shown (processed v now word ip s).view) g (option_map (λ (r : Segment). stream_segment r released_then taken_then) (processed v now word ip s).reply)
+
+  heard_as_counted : Heard (stream_segment y released taken)
   unfolding processed_by
-  heard_as_is =
+  heard_as_counted =
       verdict_as (λ x. IsEffect v now word ip y released taken released_then taken_then small_too room says bounds there (by_verdict v.rules x v (arrival now (tuple_of ip s) word y))) v.rules v now s
       (λ w. silent v now word ip y released taken released_then taken_then small_too room says bounds there v refl)
       (challenged_in v now word ip y released taken released_then taken_then small_too room says bounds there)
-      (by_the_verdict v now word ip y released taken released_then taken_then small_too room says bounds there (verdict_of v s.control s.ack_number) refl word_small)
+      (by_the_verdict v now word ip y released taken released_then taken_then small_too room says bounds there (verdict_of v s.control (ack_heeded v.rules v s s.ack_number)) refl word_small)
+
+  abbrev with_ack : Option TcpSeqNumber → StreamSegment
+  with_ack o = record (stream_segment s released taken) { ack = option_map (λ (x : TcpSeqNumber). x.0) o }
+
+  heard_as_is : Heard (stream_segment s released taken)
+  heard_as_is = by v.rules s.ack_number refl heard_as_counted
+    where
+      heeded_or_not : (t : Bool) (a : TcpSeqNumber) → is_heeded v s a ≡ t → s.ack_number ≡ Some a → Heard (with_ack (Some (if t then seq_add v.local_seq_no 0 else a))) → Heard (stream_segment s released taken)
+      heeded_or_not false a i e h = subst (λ o. Heard (with_ack o)) (sym e) h
+      heeded_or_not true a i e h =
+          let live : IsSynchronized (phase_of v.state) = heeds_live v.state (and_parts (is_heeding v.state) _ i).0 in
+          let iss : HasIss (phase_of v.state) = knows_iss (phase_of v.state) (synchronized_knows (phase_of v.state) live) in
+          let b = bounds.sending iss in
+          ignored_effect (is_passive v) (shown v) (stream_segment s released taken) (Some (seq_add v.local_seq_no 0).0) live (ap Some (omega (arith, b.snd_una))) b _ _ h
+
+      by : (r : Rules) (o : Option TcpSeqNumber) → s.ack_number ≡ o → Heard (with_ack (ack_heeded r v s o)) → Heard (stream_segment s released taken)
+      by rules.Smoltcp o e h = subst (λ x. Heard (with_ack x)) (sym e) h
+      by rules.Rfc None e h = subst (λ x. Heard (with_ack x)) (sym e) h
+      by rules.Rfc (Some a) e h = heeded_or_not (is_heeded v s a) a refl e h
 
 pub process_heard : (v : View) (now : Instant) (word : ℕ) (ip : IpRepr) (s : Segment) (released taken released_then taken_then : ℕ) → word < 2 ^ 32 → IsSmall s → room_of v.rx_buffer ≤ 2 ^ 30 → FinSays v.state v.rx_fin_received → IsBounded v → Accepts v ip s
     → ProcessEffect (is_passive v) (shown v) (shown (processed v now word ip s).view) (stream_segment s released taken) (option_map (λ (r : Segment). stream_segment r released_then taken_then) (reply_numbered (processed v now word ip s).view (processed v now word ip s).reply))

@@ -14,9 +14,10 @@ use Rattle.sock_tcp.specs.Rfc.Windows.{windowed}
 use Rattle.sock_tcp.specs.Arrival.{arrival}
 use Rattle.sock_tcp.specs.View.{View}
 use Rattle.sock_core.specs.Seq.{is_before, later_of}
+use Rattle.sock_tcp.proofs.Late.{closed_as}
 use Rattle.sock_tcp.proofs.Recovering.{recovered_as}
 use Rattle.sock_tcp.specs.declared.verdict.Verdict.TheVariants as verdicts
-use Rattle.sock_tcp.specs.Rfc.Recovery.{before_of, recovered}
+use Rattle.sock_tcp.specs.Rfc.Recovery.{before_of, recovered, recovered_by}
 use Rattle.sock_tcp.specs.Rfc.Refused.{refused}
 use Rattle.sock_tcp.specs.Window.{next_ack, accepted_window, cut_of, is_inside}
 use Rattle.sock_tcp.specs.declared.window.Cut.{Cut}
@@ -98,7 +99,11 @@ module _ (v : View) (now : Instant) (word : ℕ) (ip : IpRepr) (s : Segment) (i 
   recovered_queues o h = h
 
   passed : Queues (by_verdict v.rules verdicts.Pass v (arrival now (tuple_of ip s) word s))
-  passed = let h = subst Queues (sym is_cut) inside in recovered_as Queues v.rules v now s (tested (has_window v.state) v (arrival now (tuple_of ip s) word s)) h (recovered_queues (tested (has_window v.state) v (arrival now (tuple_of ip s) word s)) h)
+  passed =
+      let o : Outcome = tested (has_window v.state) v (arrival now (tuple_of ip s) word s) in
+      let h = subst Queues (sym is_cut) inside in
+      let j = recovered_as Queues v.rules v now s o h (recovered_queues o h) in
+      closed_as Queues v.rules (recovered_by v.rules v now s o) j j
 
 pub queued_at_once : (v : View) (now : Instant) (word : ℕ) (ip : IpRepr) (s : Segment) → IsInOrder v now word ip s → 0 < length (in_window v s) → JoinsAtOnce v.rx_buffer (processed v now word ip s).view.rx_buffer (in_window v s)
 unfolding processed_by

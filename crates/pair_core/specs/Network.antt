@@ -1,11 +1,11 @@
 -- Two endpoints and every segment that they ever emitted, and what one call on one endpoint may do.
 use Rattle.std.specs.Prelude.{ℕ, ◌≡◌, ◌+◌, ◌-◌, ◌^◌, ◌<◌, ◌≤◌, ◌⊎◌, Bool, true, false, List, [], ◌∷◌, ◌++◌, length}
-use Rattle.std.specs.Prelude.{take, drop}
+use Rattle.std.specs.Prelude.{take, drop, not, ◌&&◌, if◌then◌else◌}
 use Rattle.std.specs.List.{Contains}
 use Rattle.std.specs.declared.option.Option.{Option}
 use Rattle.std.specs.declared.option.Option.TheVariants.{Some, None}
 use Rattle.pair_core.specs.StreamViews.{Unopened, Listening, SynSent, SynReceived, Open, FinQueued, Dead, SocketView}
-use Rattle.pair_core.specs.StreamViews.{StreamSegment, HasNoIss}
+use Rattle.pair_core.specs.StreamViews.{Phase, StreamSegment, HasNoIss, is_fin_queued}
 use Rattle.pair_core.specs.StreamCalls.{Ends, HearEffect, ReplyEffect, DispatchEffect, EmitEffect}
 
 -- one side: its socket, and what was counted of it since the start
@@ -15,7 +15,7 @@ pub record Endpoint : Type 0 where
   pub handed_out : List ℕ  -- the bytes that its calls of recv gave out, in order
   pub released : ℕ  -- how many bytes left its transmit queue by acknowledgement
   pub taken : ℕ  -- how many bytes joined its receive queue
-  pub closed : Bool  -- a close found it in ESTABLISHED or CLOSE-WAIT
+  pub closed : Bool  -- a close was done in ESTABLISHED or CLOSE-WAIT
   pub listener : Bool  -- it was opened by listen, and not by connect
 
 -- Local is the side that acts, remote the other. Of the segments each side ever emitted none is forgotten and any may
@@ -84,6 +84,13 @@ heard_by e v =
       released = e.released + (length e.view.transmit_queue - length v.transmit_queue);
       taken = e.taken + (length v.receive_queue - length e.view.receive_queue);
     }
+
+-- and a close that waited for the acknowledgement of the SYN may be done with it
+abbrev pub closed_late : Phase → Phase → Bool → Bool
+closed_late before after closed = if is_fin_queued after && not (is_fin_queued before) then true else closed
+
+abbrev pub delivered_by : Endpoint → SocketView → Endpoint
+delivered_by e v = record (heard_by e v) { closed = closed_late e.view.phase v.phase e.closed }
 
 -- Since the segment went out neither count of its emitter grew by 2^29 or more. The counts are those of now
 pub record IsYoung (g : StreamSegment) (released_now taken_now : ℕ) : Type 0 where

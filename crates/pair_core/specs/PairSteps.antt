@@ -8,8 +8,11 @@ use Rattle.control_wire.specs.declared.tcp.TcpControl.TheVariants as control
 use Rattle.sock_tcp.specs.Rfc.Numbers.{reply_numbered}
 use Rattle.sock_tcp.specs.Process.{Accepts, Outcome as Processed, processed, source_kept}
 use Rattle.sock_tcp.specs.View.{View}
+use Rattle.sock_tcp.specs.declared.state.State.{State}
 use Rattle.sock_tcp.specs.Replies.{Answers, IsReplyStamp, echoed, rst_segment, with_header}
 use Rattle.pair_core.specs.Moments.{facts_of}
+use Rattle.pair_core.specs.Network.{closed_late}
+use Rattle.pair_core.specs.PairNetwork.{phase_of}
 use Rattle.pair_core.specs.PairViews.{HostView, StoredView, PairView, host_of, with_host}
 use Rattle.pair_core.specs.Holding.{stored_segment, kept_at}
 use Rattle.pair_core.specs.PairCalls.{listening, connecting, OpensAs, is_over, Sends, Receives, Closes, Aborts, Sets}
@@ -89,6 +92,10 @@ processed_by h m t = processed_at h.control_block m t
 abbrev pub reply_out : {G : Type 0} → HostView G → Moment → StoredView → Option Segment
 reply_out h m t = reply_numbered (processed_by h m t).view (processed_by h m t).reply
 
+-- a close that waited for the acknowledgement of the SYN may be done by a segment
+abbrev pub closed_by_segment : State → State → Bool → Bool
+closed_by_segment before after closed = closed_late (phase_of before) (phase_of after) closed
+
 -- the counts grow by the bytes that left the transmit queue and joined the receive queue; a SYN without a timestamp
 -- takes the source of timestamps away
 abbrev pub delivered_to : {G : Type 0} → HostView G → Moment → StoredView → HostView G
@@ -98,6 +105,7 @@ delivered_to h m t =
       released = h.released +
           (length h.control_block.tx_buffer.bytes - length (processed_by h m t).view.tx_buffer.bytes);
       taken = h.taken + (length (processed_by h m t).view.rx_buffer.bytes - length h.control_block.rx_buffer.bytes);
+      closed = closed_by_segment h.control_block.state (processed_by h m t).view.state h.closed;
       source = source_kept (processed_by h m t).view.stamps h.source;
     }
 

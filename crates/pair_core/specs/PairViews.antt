@@ -18,7 +18,7 @@ pub record HostView (G : Type 0) : Type 0 where
   pub handed_out : List ℕ  -- the bytes that its calls of recv gave out, in order
   pub released : ℕ  -- how many bytes left its transmit queue by acknowledgement
   pub taken : ℕ  -- how many bytes joined its receive queue
-  pub closed : Bool  -- a close found it in ESTABLISHED or CLOSE-WAIT
+  pub closed : Bool  -- a close was done in ESTABLISHED or CLOSE-WAIT, where one of SYN-RECEIVED may have waited
   pub source : Option G  -- of its socket's timestamps
 
 -- a stored segment

@@ -2,9 +2,9 @@
 use Rattle.std.specs.Prelude.{ℕ, ◌≡◌, ◌+◌, ◌%◌, ◌^◌, ◌<◌, ◌⊎◌, Bool, true, false, []}
 use Rattle.std.specs.declared.option.Option.{Option}
 use Rattle.std.specs.declared.option.Option.TheVariants.{Some, None}
-use Rattle.pair_core.specs.StreamViews.{Listening, SynSent, SynReceived, Open, Dead, SocketView, StreamSegment}
+use Rattle.pair_core.specs.StreamViews.{Listening, SynSent, SynReceived, Open, FinQueued, Dead, SocketView, StreamSegment}
 use Rattle.pair_core.specs.StreamViews.{HasIss, KnowsPeer, IsSynchronized}
-use Rattle.pair_core.specs.StreamEffects.{HearsData, HearsAck, SndNxtWithin, MaySend, SameSending}
+use Rattle.pair_core.specs.StreamEffects.{HearsData, HearsAck, SndNxtWithin, MaySend, StaysSending}
 
 -- ---- the end of a connection
 
@@ -21,17 +21,22 @@ pub record EndsWithQueues (v w : SocketView) : Type 0 where
   pub receive_queue : w.receive_queue ≡ v.receive_queue
   pub fin : w.fin_counted ≡ true → v.fin_counted ≡ true
 
+-- a close that waited for the acknowledgement of the SYN is done
+pub record ClosesLate (v w : SocketView) : Type 0 where
+  pub phase : v.phase ≡ Open
+  pub is : w ≡ record v { phase = FinQueued }
+
 -- ---- process
 
 -- what a socket may do when it hears the segment g, where it was opened by listen or not
 pub data HearEffect (listener : Bool) (v w : SocketView) (g : StreamSegment) : Type 0 where
   -- the segment is dropped
   Nothing : w ≡ v → HearEffect listener v w g
-  -- its data is heard
+  -- its data is heard, and its acknowledgement is ignored
   Data :
       g.rst ≡ false → IsSynchronized v.phase
       → HearsData v w g
-      → SameSending v w
+      → StaysSending v w
       → HearEffect listener v w g
   -- its data and its acknowledgement are heard, in a state that knows the peer's number
   Acknowledgement :
@@ -87,13 +92,13 @@ Answers v g None = Unit {0}
 Answers v g (Some answer) = ReplyEffect v g answer
 
 -- What process may do with the segment g: the socket hears it, may answer it as it then is, and with that the
--- connection may be over: by an RST, or since the FIN is acknowledged in LAST-ACK
+-- connection may be over: by an RST, or since the FIN is acknowledged in LAST-ACK; or a close that waited is done
 pub record ProcessEffect (listener : Bool) (v w : SocketView) (g : StreamSegment)
     (answer : Option StreamSegment) : Type 0 where
   pub heard : SocketView
   pub hears : HearEffect listener v heard g
   pub answers : Answers heard g answer
-  pub ends : (w ≡ heard) ⊎ EndsWithQueues heard w
+  pub ends : (w ≡ heard) ⊎ EndsWithQueues heard w ⊎ ClosesLate heard w
 
 -- ---- dispatch
 

@@ -50,6 +50,13 @@ pub record SndNxtWithin (w : SocketView) : Type 0 where
   pub is : w.snd_nxt ≡ (w.snd_una + flight) % 2 ^ 32
   pub le : flight ≤ length w.transmit_queue + 1
 
+-- its sending half stays, but for SND.NXT
+pub record StaysSending (v w : SocketView) : Type 0 where
+  pub phase : w.phase ≡ v.phase
+  pub snd_una : w.snd_una ≡ v.snd_una
+  pub transmit_queue : w.transmit_queue ≡ v.transmit_queue
+  pub snd_nxt : SndNxtWithin w
+
 -- What an acknowledgement may do to the sending half: release a beginning of the transmit queue, acknowledge the SYN,
 -- or acknowledge the FIN and with it the whole queue
 pub data HearsAck (v w : SocketView) (g : StreamSegment) : Type 0 where

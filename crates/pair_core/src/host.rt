@@ -13,10 +13,12 @@ ghost use Rattle.sock_tcp.specs.Rfc.Numbers.{reply_numbered};
 ghost use Rattle.sock_tcp.specs.Replies.{Answers, IsReplyStamp, echoed};
 ghost use Rattle.pair_core.specs.Moments.{facts_of};
 ghost use Rattle.pair_core.specs.Holding.{stored_of};
-ghost use Rattle.pair_core.specs.PairSteps.{ReadTakesMemory, processed_at};
+ghost use Rattle.pair_core.specs.PairSteps.{ReadTakesMemory, closed_by_segment, processed_at};
 ghost use Rattle.pair_core.specs.Pieces.{SendsPiece, ReceivesPiece};
 ghost use Rattle.pair_core.specs.Captures.{Holds, FitsSent, SocketDispatches};
+ghost use Rattle.pair_core.specs.PairNetwork.{phase_of};
 ghost use Rattle.pair_core.specs.PairViews.{new_host};
+ghost use Rattle.pair_core.specs.StreamViews.{is_fin_queued};
 ghost use Rattle.pair_core.specs.Settings.{set_in};
 
 use crate::capture::{Capture, EmitFailed, Sent};
@@ -27,7 +29,7 @@ use crate::setting::Setting;
 use crate::wire::Counts;
 use control_wire::{TcpRepr, TcpTimestampGenerator};
 use ip_wire::{IpEndpoint, IpListenEndpoint, IpRepr};
-use sock_tcp::{Generator, RecvError, Reply, SendError, Socket, SocketBuffer, TsvalSource};
+use sock_tcp::{Generator, RecvError, Reply, SendError, Socket, SocketBuffer, State, TsvalSource};
 use std::alloc::Global;
 use std::marker::Model;
 
@@ -281,7 +283,7 @@ impl<'a, G: TsvalSource> Host<'a, G> {
         }
     }
 
-    // A close in ESTABLISHED or CLOSE-WAIT is what ends the side's stream.
+    // A close in ESTABLISHED or CLOSE-WAIT is what ends the side's stream; one of SYN-RECEIVED may wait for a delivery.
     fn close(&mut self) -> Outcome
         ensures { Closes self.old result self.new }
     {
@@ -384,6 +386,7 @@ impl<'a, G: TsvalSource> Host<'a, G> {
             (stored_of segment.now).ip (reply_out self.old moment.entry.now (stored_of segment.now))
             (option_map reply_of result) }
     {
+        let before = self.socket.state();
         let unacknowledged = self.socket.send_queue();
         let queued = self.socket.recv_queue();
         let reply = process(&mut self.socket, moment, segment);
@@ -391,7 +394,27 @@ impl<'a, G: TsvalSource> Host<'a, G> {
         let joined = self.socket.recv_queue();
         self.released += unacknowledged.saturating_sub(left) as u64;
         self.taken += joined.saturating_sub(queued) as u64;
+        let after = self.socket.state();
+        self.closed = closed_by_segment(before, after, self.closed);
         reply
+    }
+}
+
+// Whether the own FIN is queued, and not acknowledged.
+fn is_fin_queued(state: State) -> bool
+    ensures { result ≡ is_fin_queued (phase_of state) }
+{
+    matches!(state, State::FinWait1 | State::Closing | State::LastAck)
+}
+
+// Whether a side counts as closed, once a segment moved its socket's state.
+fn closed_by_segment(before: State, after: State, closed: bool) -> bool
+    ensures { result ≡ closed_by_segment before after closed }
+{
+    if is_fin_queued(after) && !is_fin_queued(before) {
+        true
+    } else {
+        closed
     }
 }
 

@@ -12,7 +12,7 @@ ghost use Rattle.pair_core.specs.StreamTables.{cut, Gathers, JoinsWithHeld, Take
 ghost use Rattle.pair_core.specs.StreamTables.{HasSendingBounds, AckPasses, Content};
 ghost use Rattle.pair_core.specs.StreamCalls.{ProcessEffect, DispatchEffect, EmitEffect};
 ghost use Rattle.pair_core.specs.Network.{Network, Step, swapped, AnswersFinished, Arrives, IsStamped, with_local};
-ghost use Rattle.pair_core.specs.Network.{with_view, heard_by, emitted};
+ghost use Rattle.pair_core.specs.Network.{with_view, heard_by, delivered_by, emitted};
 ghost use Rattle.pair_core.specs.NetworkInvariant.{IsLimit, IsInvariant};
 ghost use Rattle.pair_core.specs.NetworkRuns.{start, Run, Reaches, answered, AreDelivered, AlwaysDelivers};
 ghost use Rattle.pair_core.specs.NetworkRuns.{AlwaysCompletes, AlwaysEnds, OnlyAdds};
@@ -67,7 +67,7 @@ pub fn calls_are_runs()
     ensures delivery { (w : Network) (g : StreamSegment) (v : SocketView) (answer : Option StreamSegment) → Arrives w g
         → ProcessEffect w.local.listener w.local.view v g answer
         → ((a : StreamSegment) → answer ≡ Some a → IsStamped (heard_by w.local v) a)
-        → Reaches w (answered (with_local w (heard_by w.local v)) answer) }
+        → Reaches w (answered (with_local w (delivered_by w.local v)) answer) }
     ensures beginning { (w : Network) (v : SocketView) → DispatchEffect w.local.view v
         → Reaches w (with_local w (with_view w.local v)) }
     ensures emission { (w : Network) (v : SocketView) (g : StreamSegment) → IsStamped w.local g

@@ -22,7 +22,7 @@ use Rattle.sock_tcp.specs.Process.{Outcome}
 use Rattle.progress_laws.specs.Smoltcp.{processed}
 use Rattle.sock_tcp.specs.Polls.{is_reached, timeout_poll}
 use Rattle.sock_tcp.specs.Rfc.Recovery.{begun_by, marked_by}
-use Rattle.sock_tcp.specs.Rfc.TailLoss.{is_retransmission_over, may_probe, may_probe_by, probes_tail, tail_probed}
+use Rattle.sock_tcp.specs.Rfc.TailLoss.{is_retransmission_over, may_probe_by, may_speak, probes_tail, probed_by, tail_probed}
 use Rattle.sock_tcp.proofs.Recovering.{begun_as, marked_as}
 use Rattle.sock_tcp.specs.Sent.{left_by}
 use Rattle.sock_tcp.specs.Timers.{idle_from, is_close_over, is_over}
@@ -219,17 +219,17 @@ timer_tuple _ v now = refl
 
 -- the same of what the timer asks for, or of a tail-loss probe
 timers_kept : (b : Bool) (x : View) (now : Instant) → ((timers_by b x now).state ≡ x.state) × ((timers_by b x now).synack_paused ≡ x.synack_paused)
-unfolding tail_probed
+unfolding tail_probed probed_by
 timers_kept true x now = (refl, refl)
 timers_kept false x now = timer_kept x.timer x now
 
 timers_no_end : (b : Bool) (x : View) (now : Instant) → is_close_over x.timer now ≡ false → is_close_over (timers_by b x now).timer now ≡ false
-unfolding tail_probed
+unfolding tail_probed probed_by
 timers_no_end true x now e = refl
 timers_no_end false x now e = timer_no_end x.timer x now refl e
 
 timers_tuple : (b : Bool) (x : View) (now : Instant) → (timers_by b x now).tuple ≡ x.tuple
-unfolding tail_probed
+unfolding tail_probed probed_by
 timers_tuple true x now = refl
 timers_tuple false x now = timer_tuple x.timer x now
 
@@ -260,7 +260,7 @@ module _ (v : View) (t : Tuple) (f : Facts) (h : GoesOn v t f) (c : is_paused v.
 
   -- by smoltcp's rules what the timer asks for
   pub smoltcp_begins : v.rules ≡ rules.Smoltcp → beginning ≡ after_timer v.timer x now
-  smoltcp_begins e = ap (λ r. timers_by (may_probe_by r (may_probe x.recovery x) && is_retransmission_over x.timer now) x now) (still.same.same_rules ∙ e) ∙ ap (λ tm. after_timer tm x now) still.timer
+  smoltcp_begins e = ap (λ r. timers_by (may_probe_by r (may_speak x) && is_retransmission_over x.timer now) x now) (still.same.same_rules ∙ e) ∙ ap (λ tm. after_timer tm x now) still.timer
 
   goes_on : is_paused beginning.state beginning.synack_paused ≡ false
   goes_on = let k = timers_kept (probes_tail x now) x now in (λ i. is_paused ((k.0 ∙ still.same.state) i) ((k.1 ∙ still.same.paused) i)) ∙ c

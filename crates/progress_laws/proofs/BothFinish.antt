@@ -12,7 +12,7 @@ use Rattle.sock_core.specs.Received.{Received}
 use Rattle.sock_core.specs.Seq.{is_before, is_not_after}
 use Rattle.sock_tcp.specs.Acked.{acked_at, acked_of}
 use Rattle.sock_tcp.specs.Advance.{fin_counted}
-use Rattle.sock_tcp.specs.Closing.{closed, closed_from}
+use Rattle.sock_tcp.specs.Closing.{closed, closed_in}
 use Rattle.sock_tcp.specs.Due.{is_closing}
 use Rattle.sock_tcp.specs.Process.{Outcome}
 use Rattle.progress_laws.specs.Smoltcp.{processed}
@@ -138,7 +138,7 @@ module _ (d e : Option Duration) (t s : Tuple) (f : Facts) (w v : View) (i : Bot
   unfolding fin_counted
   closer = record {
     reached = step_reached y (closed y) reached.counts reached (Close refl refl);
-    state = ap (λ st. is_closing (closed_from st)) h.state;
+    state = ap (λ st. is_closing (closed_in st y.rules)) h.state;
     peer = h.peer ∙ i.here.sender.peer;
     no_timeout = h.timeout ∙ i.here.sender.no_timeout;
     smoltcp = h.same_rules ∙ i.here.sender.smoltcp;
@@ -173,7 +173,7 @@ module _ (d e : Option Duration) (t s : Tuple) (f : Facts) (w v : View) (i : Bot
     same_room = omega (arith, ap (λ (b : Received). length b.held) q.still.rx, wide_so v i.across.room i.across.nothing_held, room_small v i.across.room i.across.nothing_held i.across.sender.reached)
 
     waits : z.state ≡ state.FinWait1
-    waits = q.still.state ∙ ap closed_from i.across.established
+    waits = q.still.state ∙ ap (λ st. closed_in st v.rules) i.across.established
 
     same_ack : (next_ack z).0 ≡ k.0
     same_ack = ap (λ (m : TcpSeqNumber). m.0) (λ j. seq_add (q.still.rcv j) (length ((q.still.rx j).bytes)))

@@ -73,7 +73,7 @@ no_probe_left v (ForProbe at delay probes nxt some) z = absurd (omega (arith, so
 pub closer_of : (d : Option Duration) (t : Tuple) (v : View) → IsSender d t v → IsCloser d t (closed v)
 closer_of d t v s = record {
   reached = step_reached v (closed v) s.reached.counts s.reached (Close refl refl);
-  state = sends_closing v.state s.state;
+  state = sends_closing v.state v.rules s.state;
   peer = s.peer;
   no_timeout = s.no_timeout;
   smoltcp = s.smoltcp;

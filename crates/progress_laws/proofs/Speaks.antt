@@ -11,7 +11,7 @@ use Rattle.sock_core.specs.Facts.{Facts}
 use Rattle.sock_core.specs.Seq.{later_of}
 use Rattle.sock_tcp.proofs.Lending.{lent_at_most, lent_beginning}
 use Rattle.sock_tcp.specs.Begin.{timers_by, after_timer, after_timers, is_paused, readied, retransmission_begun}
-use Rattle.sock_tcp.specs.Rfc.TailLoss.{is_retransmission_over, may_probe, may_probe_by, probes_tail}
+use Rattle.sock_tcp.specs.Rfc.TailLoss.{is_retransmission_over, may_probe_by, may_speak, probes_tail}
 use Rattle.sock_tcp.specs.Content.{Sending, asked, carries_data, emission_kind, is_probing, offset_of, sent_as, window_left}
 use Rattle.sock_tcp.specs.Due.{congestion_left, data_due, effective_mss, flight, is_closed, is_due}
 use Rattle.sock_tcp.specs.Rfc.OwnWindow.{space_field}
@@ -140,7 +140,7 @@ begins_again x now at none smoltcp waits over = ap (λ b. if b then record x { s
     alive = ap (λ o. is_reached (timeout_poll o x.remote_last_ts) now) none
 
     no_tail : probes_tail x now ≡ false
-    no_tail = ap (λ r. may_probe_by r (may_probe x.recovery x) && is_retransmission_over x.timer now) smoltcp
+    no_tail = ap (λ r. may_probe_by r (may_speak x) && is_retransmission_over x.timer now) smoltcp
 
 -- once the retransmission timer is over
 again_front : (v : View) (now at : Instant) → IsReached v → v.timeout ≡ None → v.rules ≡ rules.Smoltcp → v.timer ≡ timer.Retransmit at → is_over at now ≡ true → Front v (retransmission_begun (readied v now) now)

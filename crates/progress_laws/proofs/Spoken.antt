@@ -17,7 +17,7 @@ use Rattle.sock_tcp.specs.Rfc.Idle.{idle_by, restarted_by}
 use Rattle.sock_tcp.specs.declared.rules.Rules.TheVariants as rules
 use Rattle.sock_tcp.specs.declared.rules.Rules.{Rules}
 use Rattle.sock_tcp.specs.Begin.{after_timer, fast_retransmission_marked, readied, retransmission_begun, probing_begun, timers_by}
-use Rattle.sock_tcp.specs.Rfc.TailLoss.{probes_tail, tail_probed}
+use Rattle.sock_tcp.specs.Rfc.TailLoss.{probes_tail, probed_by, tail_probed}
 use Rattle.sock_tcp.specs.Content.{Sending, asked, carries_data, data_control, emission_kind, hole_of, offset_of, plain_segment, sent_as}
 use Rattle.sock_tcp.specs.Due.{flight, is_closing, window_field}
 use Rattle.sock_tcp.specs.Rfc.OwnWindow.{space_field}
@@ -80,7 +80,7 @@ timer_still (timer.ZeroWindowProbe at delay) x now = go (is_over at now) x.rules
 timer_still (timer.Close at) x now = unmoved x
 
 timers_still : (b : Bool) (x : View) (now : Instant) → Still x (timers_by b x now)
-unfolding tail_probed
+unfolding tail_probed probed_by
 timers_still true x now = record { state = refl; same_rules = refl; una = refl; tx = refl; rx = refl; rcv = refl; shift = refl }
 timers_still false x now = timer_still x.timer x now
 

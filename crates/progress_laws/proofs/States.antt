@@ -7,12 +7,13 @@ use Rattle.control_wire.specs.declared.tcp.TcpControl.TheVariants as control
 use Rattle.sock_tcp.specs.Arrival.{arrival}
 use Rattle.sock_tcp.specs.Advance.{advance_in, continues}
 use Rattle.sock_tcp.specs.Begin.{is_paused}
-use Rattle.sock_tcp.specs.Closing.{closed_from}
+use Rattle.sock_tcp.specs.Closing.{closed_in}
 use Rattle.sock_tcp.specs.Content.{carries_data}
 use Rattle.sock_tcp.specs.Due.{is_closed, is_closing}
 use Rattle.sock_tcp.specs.Process.{has_window, timer_restarted}
 use Rattle.sock_tcp.specs.Queues.{may_send, receives}
 use Rattle.sock_tcp.specs.View.{View}
+use Rattle.sock_tcp.specs.declared.rules.Rules.{Rules}
 use Rattle.sock_tcp.specs.declared.state.State.{State}
 use Rattle.sock_tcp.specs.declared.state.State.TheVariants as state
 use Rattle.sock_tcp.specs.declared.timer.Timer.{Timer}
@@ -27,10 +28,10 @@ sends_data state.Established e = refl
 sends_data state.CloseWait e = refl
 sends_data _ e = absurd cc
 
-pub sends_closing : (st : State) → may_send st ≡ true → is_closing (closed_from st) ≡ true
-sends_closing state.Established e = refl
-sends_closing state.CloseWait e = refl
-sends_closing _ e = absurd cc
+pub sends_closing : (st : State) (r : Rules) → may_send st ≡ true → is_closing (closed_in st r) ≡ true
+sends_closing state.Established r e = refl
+sends_closing state.CloseWait r e = refl
+sends_closing _ r e = absurd cc
 
 pub closing_carries : (st : State) → is_closing st ≡ true → carries_data st ≡ true
 closing_carries state.FinWait1 e = refl

@@ -1,5 +1,5 @@
 -- What a delivery keeps.
-use Rattle.std.proofs.Common.{◌≡◌, ◌⊎◌, ℕ, ◌+◌, ◌-◌, ◌<◌, ◌^◌, arith, List, [], ◌∷◌, length, Bool, true, false, true≢false, refl, sym, ap, subst, ◌∙◌, Option, Some, None, inl, inr}
+use Rattle.std.proofs.Common.{◌≡◌, ◌⊎◌, ℕ, ◌+◌, ◌-◌, ◌<◌, ◌%◌, ◌^◌, arith, List, [], ◌∷◌, length, Bool, true, false, true≢false, refl, sym, ap, subst, ◌∙◌, Option, Some, None, inl, inr}
 use Rattle.std.specs.Prelude.{IsTrue, nat_le, ◌||◌, slice_get, option_map}
 use Rattle.std.proofs.lemmas.Bool.Decides.{nat_tests}
 use Rattle.ip_wire.specs.declared.repr.IpRepr.{IpRepr}
@@ -37,10 +37,10 @@ use Rattle.pair_core.specs.PairNetwork.{IsSmall, endpoint_of, is_passive, networ
 use Rattle.pair_core.specs.PairSteps.{DeliversIf, DeliversTo, IsProcessed, IsRefused, delivered_to, exchanged, is_old, refusal_of, refusal_reply}
 use Rattle.pair_core.specs.PairViews.{HostView, StoredView, PairView, host_of}
 use Rattle.pair_core.specs.Sides.{other_side}
-use Rattle.pair_core.specs.StreamCalls.{EndsWithQueues, HearEffect, Nothing, Data, Acknowledgement, FallBack, Syn, SynAlone, SynAck, ProcessEffect}
+use Rattle.pair_core.specs.StreamCalls.{ClosesLate, EndsWithQueues, HearEffect, Nothing, Data, Acknowledgement, FallBack, Syn, SynAlone, SynAck, ProcessEffect}
 use Rattle.pair_core.specs.StreamEffects.{AcksBytes, AcksFin, AcksSyn}
 use Rattle.pair_core.specs.StreamTables.{HasSendingBounds}
-use Rattle.pair_core.specs.StreamViews.{Dead, HasIss, IsNonSynchronized, IsSynchronized, Silent, SocketView, StreamSegment, SynSent, SynReceived, Listening}
+use Rattle.pair_core.specs.StreamViews.{Dead, FinQueued, HasIss, IsNonSynchronized, IsSynchronized, Open, Silent, SocketView, StreamSegment, SynSent, SynReceived, Listening}
 use Rattle.pair_core.specs.declared.host.Opening.{Opening}
 use Rattle.pair_core.specs.declared.host.Opening.TheVariants as opening
 use Rattle.pair_core.specs.declared.moment.Moment.{Moment}
@@ -174,13 +174,22 @@ module _ {G : Type 0} (tells : G → ℕ → Type 0) (p : PairView G) (i : IsPai
   effect : ProcessEffect (is_passive v) (shown v) (shown w) g (option_map (λ r. stream_segment r 0 0) (reply_numbered w (processed_by v.rules v now m.word t.ip t.segment).reply))
   effect = process_heard v now m.word t.ip t.segment t.released_at t.taken_at 0 0 m.fits small sock.receive sock.fin bounded accepted
 
-  -- it is heard, or the connection is over
-  heard_or_over : HearEffect (is_passive v) (shown v) (shown w) g ⊎ (phase_of w.state ≡ Dead)
+  -- it is heard, where a close that waited may be done then, or the connection is over
+  abbrev opened_again : SocketView
+  opened_again = record (shown w) { phase = Open }
+
+  abbrev HeardLate : Type 0
+  HeardLate = HearEffect (is_passive v) (shown v) opened_again g × (phase_of w.state ≡ FinQueued)
+
+  heard_or_over : HearEffect (is_passive v) (shown v) (shown w) g ⊎ HeardLate ⊎ (phase_of w.state ≡ Dead)
   heard_or_over = by effect.ends
     where
-      by : (shown w ≡ effect.heard) ⊎ EndsWithQueues effect.heard (shown w) → HearEffect (is_passive v) (shown v) (shown w) g ⊎ (phase_of w.state ≡ Dead)
+      by : (shown w ≡ effect.heard) ⊎ EndsWithQueues effect.heard (shown w) ⊎ ClosesLate effect.heard (shown w) → HearEffect (is_passive v) (shown v) (shown w) g ⊎ HeardLate ⊎ (phase_of w.state ≡ Dead)
       by (inl is) = inl (subst (λ y. HearEffect (is_passive v) (shown v) y g) (sym is) effect.hears)
-      by (inr x) = inr x.phase
+      by (inr (inl x)) = inr (inr x.phase)
+      by (inr (inr c)) =
+          let is : effect.heard ≡ opened_again = (λ j. record effect.heard { phase = c.phase j }) ∙ ap (λ (y : SocketView). record y { phase = Open }) (sym c.is) in
+          inr (inl (subst (λ y. HearEffect (is_passive v) (shown v) y g) is effect.hears, ap (λ (y : SocketView). y.phase) c.is))
 
   -- ---- what it has
 
@@ -200,9 +209,13 @@ module _ {G : Type 0} (tells : G → ℕ → Type 0) (p : PairView G) (i : IsPai
     bytes = inr (λ n x. may_keeps v w h.taken v.rules t.segment may n x);
   }
     where
-      by : IsSynchronized (phase_of v.state) → HearEffect (is_passive v) (shown v) (shown w) g ⊎ (phase_of w.state ≡ Dead) → (phase_of w.state ≡ Dead) ⊎ Follows first last
+      late : (f : Follows first (record last { view = opened_again })) → phase_of w.state ≡ FinQueued → Follows first last
+      late f e = record { synced = subst IsSynchronized (sym e) tt; more = f.more; counted = f.counted; rcv_nxt = f.rcv_nxt }
+
+      by : IsSynchronized (phase_of v.state) → HearEffect (is_passive v) (shown v) (shown w) g ⊎ HeardLate ⊎ (phase_of w.state ≡ Dead) → (phase_of w.state ≡ Dead) ⊎ Follows first last
       by synced (inl x) = inr (hears_follows first last g (is_passive v) refl x synced)
-      by synced (inr d) = inl d
+      by synced (inr (inl x)) = inr (late (hears_follows first (record last { view = opened_again }) g (is_passive v) refl x.0 synced) x.1)
+      by synced (inr (inr d)) = inl d
 
   pub grows : Grows (endpoint_of h) (endpoint_of k)
   grows = subst (λ e. Grows e (endpoint_of k)) (λ j. record (endpoint_of h) { view = sym at_first j }) (subst (Grows first) (λ j. record (endpoint_of k) { view = sym at_last j }) shown_grow)
@@ -249,15 +262,13 @@ module _ {G : Type 0} (tells : G → ℕ → Type 0) (p : PairView G) (i : IsPai
     follows : FollowsSegment v t.segment w
     follows = subst (λ r. FollowsSegment v t.segment (processed_by r v now m.word t.ip t.segment).view) (sym was_ruled) (scoreboard_follows v now m.word t.ip t.segment pointed.0.una_small)
 
-    hears : HearEffect (is_passive v) (shown v) (shown w) g
-    hears = by heard_or_over
-      where
-        by : HearEffect (is_passive v) (shown v) (shown w) g ⊎ (phase_of w.state ≡ Dead) → HearEffect (is_passive v) (shown v) (shown w) g
-        by (inl x) = x
-        by (inr d) = absurd (not_dead w.state keeps d)
-
     speaking : phase_of v.state ≡ Silent → ⊥
-    speaking d = not_silent w.state keeps (hears_silent (is_passive v) (shown v) (shown w) g hears d)
+    speaking d = by heard_or_over
+      where
+        by : HearEffect (is_passive v) (shown v) (shown w) g ⊎ HeardLate ⊎ (phase_of w.state ≡ Dead) → ⊥
+        by (inl x) = not_silent w.state keeps (hears_silent (is_passive v) (shown v) (shown w) g x d)
+        by (inr (inl x)) = let no : Open ≡ Silent = hears_silent (is_passive v) (shown v) opened_again g x.0 d in cc
+        by (inr (inr x)) = not_dead w.state keeps x
 
     living : phase_of v.state ≡ Dead → ⊥
     living d = alive (dead_closed v.state d)
@@ -295,6 +306,11 @@ module _ {G : Type 0} (tells : G → ℕ → Type 0) (p : PairView G) (i : IsPai
       came_there : (x : ℕ) → IsInAny (sent_of v) v.local_seq_no t.segment.sack_ranges x → has_byte e (h.released + x) ≡ true
       came_there x a = in_any (endpoint_of h) e inv.local_origin inv.outgoing inv.outgoing_holds v.local_seq_no t.taken_at (sent_of v) is_young near synced number_here t.segment.sack_ranges (all_true e.view.phase e t.taken_at t.segment.sack_ranges synced ranges) x a
 
+      moves_on : Placed (endpoint_of h) e inv.local_origin inv.outgoing inv.outgoing_holds → HearEffect (is_passive v) (shown v) (shown w) g ⊎ HeardLate ⊎ (phase_of w.state ≡ Dead) → (w.local_seq_no.0 + (2 ^ 32 - (endpoint_of h).view.snd_una)) % 2 ^ 32 ≡ length (endpoint_of h).view.transmit_queue - length w.tx_buffer.bytes
+      moves_on q (inl y) = moves (endpoint_of h) e inv.local_origin inv.outgoing inv.outgoing_holds (shown w) (is_passive v) g q (subst (λ z. HearEffect (is_passive v) z (shown w) g) (sym at_first) y) (not_silent w.state keeps)
+      moves_on q (inr (inl y)) = moves (endpoint_of h) e inv.local_origin inv.outgoing inv.outgoing_holds opened_again (is_passive v) g q (subst (λ z. HearEffect (is_passive v) z opened_again g) (sym at_first) y.0) (λ d. let no : Open ≡ Silent = d in cc)
+      moves_on q (inr (inr d)) = absurd (not_dead w.state keeps d)
+
       scoreboard_there : (x : ℕ) → Tells w.sacked x → has_byte e (k.released + x) ≡ true
       scoreboard_there x h0 = moved (by (follows x h0))
         where
@@ -308,7 +324,7 @@ module _ {G : Type 0} (tells : G → ℕ → Type 0) (p : PairView G) (i : IsPai
           moved : has_byte e (h.released + (x + d)) ≡ true → has_byte e (k.released + x) ≡ true
           moved has =
               let some : h.released + (x + d) < length h.accepted = has_accepted (endpoint_of h) e inv.local_origin inv.outgoing inv.outgoing_holds (h.released + (x + d)) synced has in
-              let n = moves (endpoint_of h) e inv.local_origin inv.outgoing inv.outgoing_holds (shown w) (is_passive v) g (here (h.released + (x + d)) some) (subst (λ y. HearEffect (is_passive v) y (shown w) g) (sym at_first) hears) (not_silent w.state keeps) in
+              let n = moves_on (here (h.released + (x + d)) some) heard_or_over in
               subst (λ z. has_byte e z ≡ true) {x = h.released + (x + d)} {y = k.released + x} (omega (arith, n, ap (λ (y : SocketView). y.snd_una) at_first, ap (λ (y : SocketView). length y.transmit_queue) at_first)) has
 
   pub heard : ScoreboardIsTrue k e

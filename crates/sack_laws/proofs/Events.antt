@@ -6,7 +6,8 @@ use Rattle.ip_wire.specs.declared.endpoint.IpEndpoint.{IpEndpoint}
 use Rattle.ip_wire.specs.declared.endpoint.IpListenEndpoint.{IpListenEndpoint}
 use Rattle.sock_core.specs.Received.{byte_at}
 use Rattle.sock_core.specs.Streams.{fin_length}
-use Rattle.sock_tcp.specs.Closing.{closed, closed_from}
+use Rattle.sock_tcp.specs.Closing.{closed, closed_from, waits_in}
+use Rattle.sock_tcp.proofs.Late.{called_as}
 use Rattle.sock_tcp.specs.Opening.{connected, is_open, listened, renewed}
 use Rattle.sock_tcp.specs.Queues.{may_recv, may_send, queued, read_off}
 use Rattle.sock_tcp.specs.Rfc.Scoreboard.{nothing_told}
@@ -201,7 +202,7 @@ closed_synced state.LastAck s = inr tt
 closed_synced state.TimeWait s = inr tt
 
 closed_quiet : (v : View) → Quietly v (closed v)
-closed_quiet v = record { held = λ m. refl; rcv_nxt = refl; fin = refl; dead = closed_dead v.state; synced = closed_synced v.state }
+closed_quiet v = record { held = λ m. refl; rcv_nxt = refl; fin = refl; dead = λ d. called_as (λ st. phase_of st ≡ Dead) (waits_in v.state v.rules) v.state d (closed_dead v.state d); synced = λ s. called_as (λ st. (phase_of st ≡ Dead) ⊎ IsSynchronized (phase_of st)) (waits_in v.state v.rules) v.state (inr s) (closed_synced v.state s) }
 
 set_quiet : (x : Setting) (v : View) → Quietly v (set_in x v)
 set_quiet (settings.KeepAlive t) v = record { held = λ m. refl; rcv_nxt = refl; fin = refl; dead = λ d. d; synced = λ s. inr s }
@@ -219,6 +220,9 @@ kept_before_close state.CloseWait k = refl
 kept_before_close state.Closing k = k
 kept_before_close state.LastAck k = k
 kept_before_close state.TimeWait k = k
+
+kept_before : (v : View) → keeps_scoreboard (closed v).state ≡ true → keeps_scoreboard v.state ≡ true
+kept_before v = called_as (λ st. keeps_scoreboard st ≡ true → keeps_scoreboard v.state ≡ true) (waits_in v.state v.rules) v.state (λ k. k) (kept_before_close v.state)
 
 -- a state that keeps a scoreboard is open, and keeps its rules
 kept_is_open : (st : State) → keeps_scoreboard st ≡ true → is_open st ≡ true
@@ -288,7 +292,7 @@ module _ {G : Type 0} (p : PairView G) (s : Side) (told : IsTold p) where
       go true d = let t = hands_some piece size h o k d in subst (λ z. IsTold (with_host s p z)) (sym t.does.host) (read_told t.count t.within)
 
   pub closes : (o : Outcome) (k : HostView G) → Closes h o k → IsTold (with_host s p k)
-  closes o k d = subst (λ z. IsTold (with_host s p z)) (sym d.1) (quiet (closing h) refl refl (closed_quiet h.control_block) (record { rules = λ r st. (r, kept_before_close h.control_block.state st); sacked = λ x t. t; released = refl }))
+  closes o k d = subst (λ z. IsTold (with_host s p z)) (sym d.1) (quiet (closing h) refl refl (closed_quiet h.control_block) (record { rules = λ r st. (r, kept_before h.control_block st); sacked = λ x t. t; released = refl }))
 
   pub aborts : (o : Outcome) (k : HostView G) → Aborts h o k → IsTold (with_host s p k)
   aborts o k d = subst (λ z. IsTold (with_host s p z)) (sym d.1) (alone (aborting h) (closes_grows h (aborting h) refl refl refl) (inr (λ r st x t. absurd (true≢false (sym st)))))

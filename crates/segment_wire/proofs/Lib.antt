@@ -6,3 +6,4 @@ pub mod UdpTrips
 pub mod PacketTrips
 pub mod PseudoSums
 pub mod Controls
+pub mod Bare

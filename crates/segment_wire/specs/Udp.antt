@@ -34,6 +34,9 @@ pub record Datagram : Type 0 where
 abbrev pub datagram_of : UdpRepr × Bor (List ℕ) → Datagram
 datagram_of found = record { header = found.0; payload = found.1.now }
 
+abbrev pub datagram_with : UdpRepr → Bor (List ℕ) → Datagram
+datagram_with header payload = record { header = header; payload = payload.now }
+
 -- what stands in a datagram with this source port, up to its length
 abbrev pub datagram_if : List ℕ → Option ℕ → Option Datagram
 datagram_if octets None = None

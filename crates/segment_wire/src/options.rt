@@ -57,17 +57,20 @@ pub fn read_options(options: &[u8]) -> Option<TcpOptions>
     }
 }
 
+// None of them.
+pub(crate) const NO_OPTIONS: TcpOptions = TcpOptions {
+    max_seg_size: None,
+    window_scale: None,
+    sack_permitted: false,
+    sack_ranges: [None, None, None],
+    timestamp: None,
+};
+
 /// None of them.
 pub(crate) fn no_options() -> TcpOptions
     ensures { result ≡ no_options }
 {
-    TcpOptions {
-        max_seg_size: None,
-        window_scale: None,
-        sack_permitted: false,
-        sack_ranges: [None, None, None],
-        timestamp: None,
-    }
+    NO_OPTIONS
 }
 
 // Reads the option that begins with this kind and length. Answers how many bytes it takes, where it is whole.

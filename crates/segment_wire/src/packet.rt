@@ -7,9 +7,10 @@ ghost use Rattle.ip_wire.specs.declared.protocol.IpProtocol.TheVariants.{Tcp, Ud
 ghost use Rattle.control_wire.specs.Segment.{options_len, segment_header_len, segment_of};
 ghost use Rattle.segment_wire.specs.Packet.{carried, carried_if, carried_of, carried_v4, carried_v6, is_fragment};
 ghost use Rattle.segment_wire.specs.Packet.{is_whole_v4, is_whole_v6, tcp_packet, tcp_packet_of, tcp_packet_parsed};
-ghost use Rattle.segment_wire.specs.Packet.{tcp_of, udp_packet, udp_packet_of, udp_packet_parsed, whole_v4_of};
-ghost use Rattle.segment_wire.specs.Packet.{whole_v6_of, with_segment};
+ghost use Rattle.segment_wire.specs.Packet.{tcp_of, udp_of, udp_packet, udp_packet_of, udp_packet_parsed, whole_v4_of};
+ghost use Rattle.segment_wire.specs.Packet.{whole_v6_of, with_datagram, with_segment};
 ghost use Rattle.segment_wire.specs.Tcp.{filled, read_as};
+ghost use Rattle.segment_wire.specs.Udp.{datagram_with};
 
 use crate::{tcp, udp};
 use control_wire::{TcpRepr, UdpRepr};
@@ -110,6 +111,7 @@ fn emit_headers(
 }
 
 /// Writes an IP header and a datagram behind it, whose bytes the header counts.
+#[inline(always)]
 pub fn emit_udp(
     ip: &IpRepr,
     repr: &UdpRepr,
@@ -254,6 +256,67 @@ pub fn parse_udp<'a>(
     };
     let (repr, payload) = udp::parse(bytes, &ip.src_addr(), &ip.dst_addr(), caps)?;
     Ok((ip, repr, payload))
+}
+
+/// Reads a packet, as [`parse_udp`], into `ip` and `repr`. The payload of the datagram that it carries; none where it
+/// carries none, and `ip` and `repr` say nothing then.
+///
+/// An answer that is handed up by value is copied at each return.
+#[tactic(auto, unfolding(crate::specs::Packet::carried))]
+pub fn read_udp<'a>(
+    packet: &'a [u8],
+    caps: &ChecksumCapabilities,
+    ip: &mut IpRepr,
+    repr: &mut UdpRepr,
+) -> Option<&'a [u8]>
+    ensures { with_datagram ip.new (option_map (datagram_with repr.new) result)
+        ≡ udp_packet_parsed caps.now packet.now }
+{
+    match IpVersion::of_packet(packet) {
+        Ok(IpVersion::Ipv4) => read_udp_v4(packet, caps, ip, repr),
+        Ok(IpVersion::Ipv6) => read_udp_v6(packet, caps, ip, repr),
+        Err(Error) => None,
+    }
+}
+
+fn read_udp_v4<'a>(
+    packet: &'a [u8],
+    caps: &ChecksumCapabilities,
+    ip: &mut IpRepr,
+    repr: &mut UdpRepr,
+) -> Option<&'a [u8]>
+    ensures { with_datagram ip.new (option_map (datagram_with repr.new) result)
+        ≡ udp_of (is_received caps.now.udp) (carried_if 17 (if is_whole_v4 packet.now
+        then carried_v4 packet.now (ipv4_parsed (is_received caps.now.ipv4) packet.now) else None)) }
+{
+    let (header, bytes) = whole_v4(packet, caps)?;
+    if u8::from(header.next_header) != 17 {
+        return None;
+    }
+    *ip = IpRepr::Ipv4(header);
+    let src = IpAddress::Ipv4(header.src_addr);
+    let dst = IpAddress::Ipv4(header.dst_addr);
+    udp::parse_into(repr, bytes, &src, &dst, caps)
+}
+
+fn read_udp_v6<'a>(
+    packet: &'a [u8],
+    caps: &ChecksumCapabilities,
+    ip: &mut IpRepr,
+    repr: &mut UdpRepr,
+) -> Option<&'a [u8]>
+    ensures { with_datagram ip.new (option_map (datagram_with repr.new) result)
+        ≡ udp_of (is_received caps.now.udp) (carried_if 17 (if is_whole_v6 packet.now
+        then carried_v6 packet.now (ipv6_parsed packet.now) else None)) }
+{
+    let (header, bytes) = whole_v6(packet)?;
+    if u8::from(header.next_header) != 17 {
+        return None;
+    }
+    *ip = IpRepr::Ipv6(header);
+    let src = IpAddress::Ipv6(header.src_addr);
+    let dst = IpAddress::Ipv6(header.dst_addr);
+    udp::parse_into(repr, bytes, &src, &dst, caps)
 }
 
 // The header and what stands behind it, where that is of this protocol.

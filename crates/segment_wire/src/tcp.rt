@@ -13,13 +13,13 @@ ghost use Rattle.segment_wire.specs.Tcp.{ack_bit, ack_field, ack_of, control_bit
 ghost use Rattle.segment_wire.specs.Tcp.{filled, is_head, options_of, read_as, segment_at, segment_if};
 ghost use Rattle.segment_wire.specs.Tcp.{tcp_checksum, tcp_header, tcp_octets, tcp_parsed, tcp_with, with_options};
 
-use crate::options::{TcpOptions, be32_at, no_options, read_options};
+use crate::options::{NO_OPTIONS, TcpOptions, be32_at, no_options, read_options};
 use crate::pseudo::pseudo_parts;
 use crate::write::{fill_checksum, header_sum, write_front};
 use control_wire::source::{at_most_one, sum_holds};
 use control_wire::{TcpControl, TcpRepr, TcpSeqNumber};
 use ip_wire::octets::{be16_at, behind, put, word};
-use ip_wire::sum::{pseudo_sum, sum_after_wide};
+use ip_wire::sum::{pseudo_sum, sum_after_wide, sum_of_twenty_after};
 use ip_wire::{ChecksumCapabilities, Error, IpAddress, IpRepr};
 
 /// Writes the segment into `buffer_len` bytes, between these two addresses.
@@ -220,6 +220,7 @@ fn read<'a>(bytes: &'a [u8]) -> Result<TcpRepr<'a>, Error>
 ///
 /// An answer that is handed up by value is copied at each return.
 #[inline(always)]
+#[tactic(auto, using(crate::proofs::Bare::none_read))]
 pub fn parse_into<'a>(
     repr: &mut TcpRepr<'a>,
     bytes: &'a [u8],
@@ -230,9 +231,35 @@ pub fn parse_into<'a>(
     ensures { filled result (segment_of repr.new)
         ≡ tcp_parsed (is_received caps.now.tcp) src_addr.now dst_addr.now bytes.now }
 {
-    if !is_head(bytes) || (caps.tcp.rx() && !sum_holds(bytes, src_addr, dst_addr, 6)) {
+    if !is_head(bytes) || (caps.tcp.rx() && !verifies(bytes, src_addr, dst_addr)) {
         return false;
     }
+    if options_of(bytes).is_empty() {
+        fill(repr, bytes, &NO_OPTIONS);
+        return true;
+    }
+    fill_whole(repr, bytes)
+}
+
+// Whether the checksum holds. Of a header alone, as of an acknowledgement, with no loop.
+#[inline(always)]
+fn verifies(bytes: &[u8], src_addr: &IpAddress, dst_addr: &IpAddress) -> bool
+    ensures { result ≡ sum_holds src_addr.now dst_addr.now 6 bytes.now }
+{
+    if bytes.len() == 20 {
+        return sum_of_twenty_after(pseudo_sum(src_addr, dst_addr, 6, 20), bytes) == 0xffff;
+    }
+    sum_holds(bytes, src_addr, dst_addr, 6)
+}
+
+// Sets each field, where the options are whole. Not inlined, so that a segment without any is read by short code.
+#[inline(never)]
+fn fill_whole<'a>(repr: &mut TcpRepr<'a>, bytes: &'a [u8]) -> bool
+    requires least { 20 ≤ tcp_header_len bytes.now }
+    requires fits { tcp_header_len bytes.now ≤ length bytes.now }
+    ensures { filled result (segment_of repr.new)
+        ≡ segment_if bytes.now (options_read 0 no_options (options_of bytes.now)) }
+{
     match read_options(options_of(bytes)) {
         Some(options) => {
             fill(repr, bytes, &options);

@@ -4,7 +4,8 @@ ghost use Rattle.ip_wire.specs.Checksum.{is_received, is_sent};
 ghost use Rattle.ip_wire.specs.Octets.{be16, be16_at};
 ghost use Rattle.ip_wire.specs.Sum.{complement, sum_after};
 ghost use Rattle.segment_wire.specs.Tcp.{read_as};
-ghost use Rattle.segment_wire.specs.Udp.{datagram_of, ones_if_zero, udp_octets, udp_parsed, udp_with};
+ghost use Rattle.std.specs.Prelude.{option_map};
+ghost use Rattle.segment_wire.specs.Udp.{datagram_of, datagram_with, ones_if_zero, udp_octets, udp_parsed, udp_with};
 
 use control_wire::{UdpRepr, udp_source};
 use ip_wire::octets::{be16, be16_at, behind, put, put_two, word};
@@ -15,6 +16,7 @@ use ip_wire::{ChecksumCapabilities, Error, IpAddress};
 ///
 /// The length is written modulo 2^16. The checksum is 0 where it is not computed before sending; one that comes to 0 is
 /// written as 0xffff.
+#[inline(always)]
 pub fn emit(
     repr: &UdpRepr,
     payload: &[u8],
@@ -33,6 +35,7 @@ pub fn emit(
     }
 }
 
+#[inline(always)]
 fn emit_with_checksum(
     repr: &UdpRepr,
     payload: &[u8],
@@ -106,4 +109,22 @@ pub fn parse<'a>(
     let dst_port = word(bytes[2], bytes[3]);
     let payload = &bytes[8..be16_at(bytes, 4)];
     Ok((UdpRepr { src_port, dst_port }, payload))
+}
+
+/// Reads the datagram that the bytes spell, as [`parse`]: its header into `repr`, and its payload, if it is one; else
+/// `repr` is as it was.
+#[inline(always)]
+pub(crate) fn parse_into<'a>(
+    repr: &mut UdpRepr,
+    bytes: &'a [u8],
+    src_addr: &IpAddress,
+    dst_addr: &IpAddress,
+    caps: &ChecksumCapabilities,
+) -> Option<&'a [u8]>
+    ensures { option_map (datagram_with repr.new) result
+        ≡ udp_parsed (is_received caps.now.udp) src_addr.now dst_addr.now bytes.now }
+{
+    repr.src_port = udp_source(bytes, src_addr, dst_addr, caps)?;
+    repr.dst_port = word(bytes[2], bytes[3]);
+    Some(&bytes[8..be16_at(bytes, 4)])
 }

@@ -8,6 +8,7 @@ mod IcmpSending
 mod Lending
 mod Lent
 mod Owned
+mod Peers
 mod RawSending
 mod Placing
 mod Pointing

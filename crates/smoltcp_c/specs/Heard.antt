@@ -1,6 +1,7 @@
 -- The calls of a datagram socket that take and give packets. P is what a packet carries.
-use Rattle.std.specs.Prelude.{ℤ, pos, ◌≡◌, true, false, Option, Some, None}
+use Rattle.std.specs.Prelude.{ℤ, pos, negsuc, ◌≡◌, true, false, Option, Some, None, if◌then◌else◌}
 use Rattle.sock_core.specs.declared.context.PollAt.{PollAt}
+use Rattle.sock_core.specs.declared.context.PollAt.TheVariants as poll
 use Rattle.smoltcp_c.specs.Answers.{error_context, not_accepted}
 use Rattle.smoltcp_c.specs.Context.{is_context}
 use Rattle.smoltcp_c.specs.Packets.{poll_answer, poll_written}
@@ -16,6 +17,15 @@ pub record TellsPoll (cx : Cx) (poll : PollAt) (at result at' : ℤ) : Type 0 wh
   pub context : is_context cx ≡ false → (result ≡ error_context) × (at' ≡ at)
   pub answer : is_context cx ≡ true → result ≡ poll_answer poll
   pub written : is_context cx ≡ true → at' ≡ poll_written poll cx.now at
+
+-- the same in one number: the greatest where none is wanted, the least where the context is out of its ranges
+abbrev pub moment_told : PollAt → ℤ → ℤ
+moment_told poll.Now now = now
+moment_told (poll.Time t) now = t.micros
+moment_told poll.Ingress now = pos 9223372036854775807
+
+abbrev pub poll_told : Cx → PollAt → ℤ
+poll_told cx poll = if is_context cx then moment_told poll cx.now else negsuc 9223372036854775807
 
 module _ {V P : Type 0} (Accepts : V → P → Type 0) where
   -- a packet that carries something that the socket accepts

@@ -83,10 +83,12 @@ counters_told c = record {
   message = c.message;
   busy = c.busy;
   nobody = c.nobody;
+  full = c.full;
   cookies_sent = c.cookies_sent;
   cookies_taken = c.cookies_taken;
   cookies_wrong = c.cookies_wrong;
   too_long = c.too_long;
+  unsent = c.unsent;
 }
 
 -- 1 where the call wrote what it found, 0 where it found nothing

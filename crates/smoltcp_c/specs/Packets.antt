@@ -82,11 +82,14 @@ replied clock echo ip (Some s) = Some (with_header ip (record s { timestamp = re
 abbrev pub outcome_in : Cx → View → IpRepr → Segment → Outcome
 outcome_in cx v ip s = processed v (moment_of (facts_in cx)) cx.word ip s
 
+-- the packet that answers a segment with this timestamp, of a socket with this clock and this outcome
+abbrev pub reply_by : Option Clock → Option TcpTimestampRepr → IpRepr → Outcome → Option (IpRepr × Segment)
+reply_by clock came ip x = replied clock (echoed x.view came) ip (reply_numbered x.view x.reply)
+
 -- the packet that answers it
 abbrev pub reply_in : Cx → Option Clock → View → IpRepr → Segment → Option (IpRepr × Segment)
 reply_in cx clock v ip s =
-    replied (source_kept (outcome_in cx v ip s).view.stamps clock) (echoed (outcome_in cx v ip s).view s.timestamp) ip
-    (reply_numbered (outcome_in cx v ip s).view (outcome_in cx v ip s).reply)
+    reply_by (source_kept (outcome_in cx v ip s).view.stamps clock) s.timestamp ip (outcome_in cx v ip s)
 
 -- a segment that is not for the socket changes nothing; else the socket, its clock and the reply are those of
 -- `processed` at the context's clock, and the reply's packet stands at the beginning of the buffer

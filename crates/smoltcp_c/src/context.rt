@@ -54,6 +54,13 @@ pub fn moment_in(cx: &Cx) -> Option<Moment>
     Some(Moment { cx })
 }
 
+/// Whether the moment and the MTU are within their ranges.
+pub fn is_in_context(cx: &Cx) -> bool
+    ensures { result ≡ is_context cx.entry.now }
+{
+    moment_in(cx).is_some()
+}
+
 // The context of a call, within its ranges; where it is out of them, the call ends with `ERROR_CONTEXT`.
 macro_rules! in_context {
     ($cx:ident) => {

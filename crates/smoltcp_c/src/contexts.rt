@@ -1,19 +1,21 @@
 //! The calls of a TCP socket that ask for a context, but for those with packets.
 ghost use Rattle.std.specs.Prelude.{◌≡◌, true, false};
+ghost use Rattle.sock_core.specs.declared.context.PollAt.TheVariants.{Ingress};
 ghost use Rattle.sock_tcp.specs.Opening.{after_connect, connect_answer as answer_of};
 ghost use Rattle.sock_tcp.specs.Poll.{poll_moment};
 ghost use Rattle.smoltcp_c.specs.Answers.{connect_answer, error_context};
 ghost use Rattle.smoltcp_c.specs.Context.{facts_in, is_context};
-ghost use Rattle.smoltcp_c.specs.Heard.{TellsPoll};
+ghost use Rattle.smoltcp_c.specs.Heard.{moment_told, poll_told};
 ghost use Rattle.smoltcp_c.specs.Packets.{ends_in, poll_answer, poll_written};
 ghost use Rattle.smoltcp_c.specs.Ends.{ended_by_answer};
 ghost use Rattle.smoltcp_c.specs.Tcp.{Refuses, clock, ended, view, IsSocket};
 
 use crate::answers::{OK, connect_answer};
 use crate::clock::Clock;
-use crate::context::{Cx, Moment, in_context};
+use crate::context::{Cx, Moment, in_context, is_in_context, moment_in};
 use crate::endpoints::{Endpoint, endpoint_in, listen_in};
 use crate::handles::TcpHandle;
+use crate::packets::has_peer;
 use sock_core::PollAt;
 use sock_tcp::Socket;
 
@@ -58,16 +60,54 @@ fn opened(
     connect_answer(socket.connect(&mut cx, endpoint_in(remote), listen_in(local)))
 }
 
-/// When the socket wants its next dispatch: writes the moment in microseconds into `at`, and answers 0. 1 where it
-/// wants none before a packet comes; `at` is then as it was, as with the error `ERROR_CONTEXT`.
+/// When the socket wants its next dispatch: the moment in microseconds. `i64::MAX` where it wants none before a packet
+/// comes, `i64::MIN` where the context is out of its ranges.
 #[unsafe(no_mangle)]
-pub extern "C" fn smoltcp_tcp_poll_at_nonnull(h: &mut TcpHandle, cx: &Cx, at: &mut i64) -> i64
-    ensures told { TellsPoll cx.entry.now (poll_moment (view h.old) (facts_in cx.entry.now)) at.old result at.new }
+#[tactic(auto, using(crate::proofs::Peers::nothing_awaited))]
+pub extern "C" fn smoltcp_tcp_poll_at_nonnull(h: &mut TcpHandle, cx: &Cx) -> i64
+    ensures told { result ≡ poll_told cx.entry.now (poll_moment (view h.old) (facts_in cx.entry.now)) }
     ensures at { h.new.at ≡ h.old.at }
     ensures same { h.new.socket ≡ h.old.socket }
 {
-    let moment = in_context!(cx);
-    told(h.socket().poll_at(&moment), cx, at)
+    let socket = h.socket();
+    if !has_peer(socket) {
+        return unheard(cx);
+    }
+    polled(socket, cx)
+}
+
+// What a socket waits for that has no peer: a packet.
+#[inline(always)]
+fn unheard(cx: &Cx) -> i64
+    ensures { result ≡ poll_told cx.entry.now Ingress }
+{
+    if is_in_context(cx) {
+        i64::MAX
+    } else {
+        i64::MIN
+    }
+}
+
+// Not inlined, so that a socket with no peer, as each that listens, has no registers to save.
+#[inline(never)]
+fn polled(socket: &Socket<'_, Clock>, cx: &Cx) -> i64
+    ensures { result ≡ poll_told cx.entry.now (poll_moment socket.now.control_block (facts_in cx.entry.now)) }
+{
+    match moment_in(cx) {
+        Some(moment) => moment_told(socket.poll_at(&moment), cx),
+        None => i64::MIN,
+    }
+}
+
+// The moment as a number.
+fn moment_told(poll: PollAt, cx: &Cx) -> i64
+    ensures { result ≡ moment_told poll cx.entry.now.now }
+{
+    match poll {
+        PollAt::Now => cx.now,
+        PollAt::Time(moment) => moment.micros,
+        PollAt::Ingress => i64::MAX,
+    }
 }
 
 /// Writes the moment, and answers whether there is one: 0, or 1 where there is none.

@@ -1,6 +1,7 @@
 //! The calls of a datagram socket that take and give packets.
 ghost use Rattle.std.specs.Prelude.{◌≡◌, ◌↔◌, IsTrue, true, false, None, Some, option_map};
-ghost use Rattle.segment_wire.specs.Packet.{Carried, UdpPacket, carried_of, udp_packet_of};
+ghost use Rattle.segment_wire.specs.Packet.{Carried, UdpPacket, carried_of, udp_packet_of, with_datagram};
+ghost use Rattle.segment_wire.specs.Udp.{datagram_with};
 ghost use Rattle.sock_dgram.specs.Datagrams.{poll_moment};
 ghost use Rattle.sock_dgram.specs.IcmpDispatch.{outgoing as message_due, outgoing_of as message_of};
 ghost use Rattle.sock_dgram.specs.RawDispatch.{outgoing_of as raw_of};
@@ -21,10 +22,11 @@ use crate::context::{Cx, Moment, in_context};
 use crate::contexts::told;
 use crate::handles::{IcmpHandle, RawHandle, UdpHandle};
 use crate::message::{Packet, read};
+use crate::packets::NO_HEADER;
 use crate::wire::{Full, Wire, sent};
 use control_wire::{IcmpRepr, UdpRepr};
-use ip_wire::{ChecksumCapabilities, Error, IpRepr};
-use segment_wire::packet::{carried, parse_udp};
+use ip_wire::{ChecksumCapabilities, IpRepr};
+use segment_wire::packet::{carried, read_udp};
 use sock_core::PollAt;
 use sock_dgram::{icmp, raw, udp};
 
@@ -44,21 +46,25 @@ pub extern "C" fn smoltcp_udp_accepts_nonnull(h: &mut UdpHandle, cx: &Cx, packet
 fn is_for_udp(socket: &udp::Socket<'_>, moment: &Moment, packet: &[u8]) -> bool
     ensures { IsTrue result ↔ IsForUdp (facts_in moment.now.cx) socket.now packet.now }
 {
-    match datagram(packet) {
+    let (mut ip, mut repr) = (NO_HEADER, NO_PORTS);
+    match read_datagram(packet, &mut ip, &mut repr) {
         None => false,
-        Some((ip, repr, _)) => socket.accepts(moment, &ip, &repr),
+        Some(_) => socket.accepts(moment, &ip, &repr),
     }
 }
 
-// The datagram that the packet carries, if it is one.
+// What packets are read into.
+const NO_PORTS: UdpRepr = UdpRepr {
+    src_port: 0,
+    dst_port: 0,
+};
+
+// Reads the datagram that the packet carries: its payload, if it carries one.
 #[tactic(auto, unfolding(crate::specs::Udp::carried_datagram))]
-fn datagram(packet: &[u8]) -> Option<(IpRepr, UdpRepr, &[u8])>
-    ensures { option_map udp_packet_of result ≡ carried_datagram packet.now }
+fn read_datagram<'a>(packet: &'a [u8], ip: &mut IpRepr, repr: &mut UdpRepr) -> Option<&'a [u8]>
+    ensures { with_datagram ip.new (option_map (datagram_with repr.new) result) ≡ carried_datagram packet.now }
 {
-    match parse_udp(packet, &ChecksumCapabilities::default()) {
-        Ok(found) => Some(found),
-        Err(Error) => None,
-    }
+    read_udp(packet, &ChecksumCapabilities::default(), ip, repr)
 }
 
 /// Takes an IP packet: the datagram that it carries comes behind the receive queue, or is dropped where the queue has
@@ -76,7 +82,8 @@ pub extern "C" fn smoltcp_udp_process_nonnull(h: &mut UdpHandle, cx: &Cx, packet
     ensures at { h.new.at ≡ h.old.at }
 {
     let moment = in_context!(cx);
-    let Some((ip, repr, payload)) = datagram(packet) else {
+    let (mut ip, mut repr) = (NO_HEADER, NO_PORTS);
+    let Some(payload) = read_datagram(packet, &mut ip, &mut repr) else {
         return NOT_ACCEPTED;
     };
     heard_by_udp(h.socket(), &moment, &ip, &repr, payload)

@@ -1,7 +1,8 @@
 //! The sockets of a host, lent: where each lies, and which were touched.
-ghost use Rattle.std.specs.Prelude.{ℕ, ◌≡◌, ◌+◌, None, Some, length, option_map, pos, slice_set};
+ghost use Rattle.std.specs.Prelude.{ℕ, ◌≡◌, ◌+◌, IfSome, None, Some, length, option_map, pos, slice_set};
 ghost use Rattle.host_bounds.specs.Bounding.{FindsReached, at_once, bound_at};
-ghost use Rattle.net_host.specs.Slots.{handle_at, icmp_at, raw_at, tcp_at, udp_at};
+ghost use Rattle.net_host.specs.Slots.{handle_at, icmp_at, opened_at, raw_at, tcp_at, udp_at};
+ghost use Rattle.net_host.specs.Telling.{FindsEnd};
 ghost use Rattle.smoltcp_c.specs.Host.{IsContext, Tells, found_answer, id_told, interface, named, slots, source_for};
 ghost use Rattle.smoltcp_c.specs.Host.{v4_of, v6_of};
 
@@ -154,6 +155,54 @@ pub extern "C" fn smoltcp_host_touched_nonnull(
             1
         }
         None => 0,
+    }
+}
+
+/// Writes the first place from one on whose connection ended within `emit`, by a timer, its guard or an address that
+/// was lost, since it was lent last, into `out`, and answers 1; 0 where there is none, with `out` as it was. As
+/// `SocketSet::ended`.
+#[unsafe(no_mangle)]
+pub extern "C" fn smoltcp_host_ended_nonnull(
+    h: &mut HostHandle,
+    from: usize,
+    out: &mut usize,
+) -> i64
+    ensures found { result ≡ pos 1
+        → FindsEnd h.old.host.sockets.ended from (length (slots h.old)) (Some out.new) }
+    ensures none { (result ≡ pos 1 → ⊥) → (result ≡ pos 0) × (out.new ≡ out.old)
+        × FindsEnd h.old.host.sockets.ended from (length (slots h.old)) None }
+    ensures at { h.new.at ≡ h.old.at }
+    ensures same { h.new.host ≡ h.old.host }
+{
+    match h.host().sockets.ended(from) {
+        Some(place) => {
+            *out = place;
+            1
+        }
+        None => 0,
+    }
+}
+
+/// Writes how many SYNs have opened the socket of this name since it was added, modulo 2^64, into `out`, and answers 0;
+/// `ERROR_SOCKET` where the host has no socket of this name, with `out` as it was. As `SocketSet::opened`.
+#[unsafe(no_mangle)]
+pub extern "C" fn smoltcp_host_opened_nonnull(
+    h: &mut HostHandle,
+    id: &SocketId,
+    out: &mut u64,
+) -> i64
+    ensures answer { result ≡ found_answer (opened_at (slots h.old) (named id.now)) }
+    ensures told { IfSome (opened_at (slots h.old) (named id.now)) (λ n. out.new ≡ n) }
+    ensures missing { opened_at (slots h.old) (named id.now) ≡ None → out.new ≡ out.old }
+    ensures at { h.new.at ≡ h.old.at }
+    ensures same { h.new.host ≡ h.old.host }
+{
+    match h.host().sockets.opened(named(id)) {
+        Some(count) => {
+            *out = count;
+            OK
+        }
+        None => ERROR_SOCKET,
     }
 }
 

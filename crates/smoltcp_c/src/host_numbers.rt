@@ -50,7 +50,7 @@ pub struct Guards {
 }
 
 /// How many packets were dropped, by their reasons, what became of SYN cookies, and how many packets of sockets were
-/// dropped, as they were longer than the MTU.
+/// dropped, as they were longer than the MTU, or as none could be made.
 #[repr(C)]
 #[derive(Clone, Copy)]
 pub struct Counters {
@@ -63,10 +63,12 @@ pub struct Counters {
     pub message: u64,
     pub busy: u64,
     pub nobody: u64,
+    pub full: u64,
     pub cookies_sent: u64,
     pub cookies_taken: u64,
     pub cookies_wrong: u64,
     pub too_long: u64,
+    pub unsent: u64,
 }
 
 /// Whether the numbers stand for an address of IPv4 or IPv6.
@@ -132,9 +134,11 @@ pub fn counters_of(c: Counted) -> Counters
         message: c.message,
         busy: c.busy,
         nobody: c.nobody,
+        full: c.full,
         cookies_sent: c.cookies_sent,
         cookies_taken: c.cookies_taken,
         cookies_wrong: c.cookies_wrong,
         too_long: c.too_long,
+        unsent: c.unsent,
     }
 }

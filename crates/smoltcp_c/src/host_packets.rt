@@ -6,7 +6,7 @@ ghost use Rattle.net_host.specs.Facts.{facts_by};
 ghost use Rattle.net_host.specs.HostCalls.{EmitsAt, ReceivesAt};
 ghost use Rattle.net_host.specs.Looking.{Unseen};
 ghost use Rattle.net_host.specs.Speaking.{Due, earliest};
-ghost use Rattle.net_host.specs.Touching.{Touches};
+ghost use Rattle.net_host.specs.Touching.{NoneIsMarked, Touches};
 ghost use Rattle.net_host.specs.Walks.{Nowhere};
 ghost use Rattle.smoltcp_c.specs.Answers.{error_room};
 ghost use Rattle.smoltcp_c.specs.Host.{Counts, interface, length_answer, slots};
@@ -57,7 +57,8 @@ pub extern "C" fn smoltcp_host_receive_nonnull(
 
 /// Writes the next packet of a socket that is due at this moment, in microseconds, into `out`, and answers its length;
 /// 0 where no socket is due. As `Interface::emit`: a packet that is longer than the MTU is dropped and counted.
-/// `ERROR_ROOM` where `out` is too short for another: its socket offers it again.
+/// `ERROR_ROOM` where `out` is too short for another: its socket offers it again. Where the answer is 0, no socket is
+/// touched.
 #[unsafe(no_mangle)]
 pub extern "C" fn smoltcp_host_emit_nonnull(h: &mut HostHandle, now: i64, out: &mut [u8]) -> i64
     ensures table { Answers length_answer (λ r. EmitsAt ⟦<IpAddress as PartialEq>⟧.eq ⟦<Clock as TsvalSource>⟧.tells
@@ -69,6 +70,7 @@ pub extern "C" fn smoltcp_host_emit_nonnull(h: &mut HostHandle, now: i64, out: &
     ensures later { result ≡ pos 0 → is_reached (earliest (facts_by ⟦<IpAddress as PartialEq>⟧.eq
         (interface h.new).inner.environment) (slots h.new)) (moment_of (facts_by ⟦<IpAddress as PartialEq>⟧.eq
         (interface h.new).inner.environment)) ≡ false }
+    ensures asleep { result ≡ pos 0 → NoneIsMarked h.new.host.sockets.bounds }
     ensures at { h.new.at ≡ h.old.at }
 {
     let host = h.host();

@@ -1,5 +1,5 @@
 //! The calls of a TCP socket that take and give packets.
-ghost use Rattle.std.specs.Prelude.{◌≡◌, ◌<◌, ◌≤◌, pos, [], length, None, Some, true, false, is_some, option_map};
+ghost use Rattle.std.specs.Prelude.{◌≡◌, ◌<◌, ◌≤◌, ℕ, List, pos, [], length, None, Some, true, false, is_some, option_map};
 ghost use Rattle.std.specs.Prelude.{IsTrue};
 ghost use Rattle.std.specs.Option.{ForSome};
 ghost use Rattle.ip_wire.specs.Checksum.{all_checksums};
@@ -9,23 +9,23 @@ ghost use Rattle.control_wire.specs.Segment.{segment_of};
 ghost use Rattle.segment_wire.specs.Packet.{TcpPacket, tcp_packet_parsed, with_segment};
 ghost use Rattle.segment_wire.specs.Tcp.{filled};
 ghost use Rattle.sock_tcp.specs.Ended.{ended_by_dispatch, ended_by_segment};
-ghost use Rattle.sock_tcp.specs.Process.{Accepts, reply_of, source_kept};
+ghost use Rattle.sock_tcp.specs.Process.{answered, reply_of, source_kept};
 ghost use Rattle.smoltcp_c.specs.Answers.{sent_answer, error_context, error_room, not_accepted};
 ghost use Rattle.smoltcp_c.specs.Context.{is_context};
-ghost use Rattle.smoltcp_c.specs.Packets.{size_of, written_over, outcome_in, reply_in, reset_of, Hears, DispatchesInto};
+ghost use Rattle.smoltcp_c.specs.Packets.{size_of, written_over, outcome_in, reply_by, reset_of, Hears, DispatchesInto};
 ghost use Rattle.smoltcp_c.specs.Wire.{Writes};
 ghost use Rattle.smoltcp_c.specs.Tcp.{IsSocket, RefusesFor, clock, clock_at, ended, view};
 
-use crate::answers::{ERROR_ROOM, NOT_ACCEPTED, OK};
+use crate::answers::{ERROR_CONTEXT, ERROR_ROOM, NOT_ACCEPTED, OK};
 use crate::clock::Clock;
-use crate::context::{Cx, Moment, in_context};
+use crate::context::{Cx, Moment, in_context, is_in_context, moment_in};
 use crate::handles::TcpHandle;
 use crate::ports::has_ports;
 use crate::wire::{Full, Wire, put_packet, sent};
 use control_wire::{TcpControl, TcpRepr, TcpSeqNumber};
 use ip_wire::{ChecksumCapabilities, IpProtocol, IpRepr, Ipv4Address, Ipv4Repr};
 use segment_wire::packet::read_tcp;
-use sock_tcp::{Reply, Socket};
+use sock_tcp::{Answer, Reply, Socket};
 
 // An IPv6 header and the longest TCP header, in bytes: no reply is longer.
 const LONGEST_REPLY: usize = 100;
@@ -71,7 +71,7 @@ pub extern "C" fn smoltcp_tcp_process_nonnull(
 }
 
 // What packets are read into.
-const NO_HEADER: IpRepr = IpRepr::Ipv4(Ipv4Repr {
+pub(crate) const NO_HEADER: IpRepr = IpRepr::Ipv4(Ipv4Repr {
     src_addr: Ipv4Address([0; 4]),
     dst_addr: Ipv4Address([0; 4]),
     next_header: IpProtocol::Tcp,
@@ -146,32 +146,73 @@ fn heard(
         return NOT_ACCEPTED;
     }
     set_clock(socket, moment.cx.tsval);
-    let answer = processed(socket, moment, ip, repr);
-    put_reply(&answer, reply)
+    match taken(socket, moment, ip, repr) {
+        Answer::Nothing => OK,
+        Answer::Ack => put_answer(socket, Answer::Ack, ip, repr, reply),
+        Answer::Rst => put_answer(socket, Answer::Rst, ip, repr, reply),
+    }
 }
 
-// The reply to a segment that is for the socket.
-fn processed(
-    socket: &mut Socket<'_, Clock>,
-    moment: &Moment,
-    ip: &IpRepr,
-    repr: &TcpRepr<'_>,
-) -> Option<Reply>
-    requires accepted { Accepts socket.old.control_block ip.now (segment_of repr.now) }
+// Takes a segment that is for the socket: how it is answered.
+#[inline(always)]
+fn taken(socket: &mut Socket<'_, Clock>, moment: &Moment, ip: &IpRepr, repr: &TcpRepr<'_>) -> Answer
     requires short { length repr.now.payload.now ≤ 65535 }
-    ensures view { socket.new.control_block
-        ≡ (outcome_in moment.now.cx socket.old.control_block ip.now (segment_of repr.now)).view }
+    ensures table { answered result socket.new.control_block (segment_of repr.now)
+        ≡ outcome_in moment.now.cx socket.old.control_block ip.now (segment_of repr.now) }
     ensures clock { socket.new.tsval_generator
         ≡ source_kept socket.new.control_block.stamps socket.old.tsval_generator }
     ensures ended { socket.new.ended ≡ ended_by_segment socket.old.control_block.state repr.now.control
         socket.new.control_block.state socket.old.ended }
-    ensures reply { option_map reply_of result ≡ reply_in moment.now.cx socket.old.tsval_generator
-        socket.old.control_block ip.now (segment_of repr.now) }
+{
+    let mut cx = *moment;
+    socket.take_segment(&mut cx, ip, repr)
+}
+
+// Writes the answer to a segment that was taken, and answers its length.
+// Not inlined: most segments are answered by nothing, and the space for a reply is cleared where it is made.
+#[inline(never)]
+fn put_answer(
+    socket: &mut Socket<'_, Clock>,
+    answer: Answer,
+    ip: &IpRepr,
+    repr: &TcpRepr<'_>,
+    out: &mut [u8],
+) -> i64
+    requires short { length repr.now.payload.now ≤ 65535 }
+    requires room { 100 ≤ length out.old }
+    ensures view { socket.new.control_block
+        ≡ (answered answer socket.old.control_block (segment_of repr.now)).view }
+    ensures state { socket.new.control_block.state ≡ socket.old.control_block.state }
+    ensures answer { result ≡ pos (size_of (reply_by socket.old.tsval_generator repr.now.timestamp ip.now
+        (answered answer socket.old.control_block (segment_of repr.now)))) }
+    ensures bytes { out.new ≡ written_over (reply_by socket.old.tsval_generator repr.now.timestamp ip.now
+        (answered answer socket.old.control_block (segment_of repr.now))) out.old }
+    ensures clock { socket.new.tsval_generator ≡ socket.old.tsval_generator }
+    ensures ended { socket.new.ended ≡ socket.old.ended }
+{
+    let reply = replied(socket, answer, ip, repr);
+    put_reply(&reply, out)
+}
+
+// The reply to a segment that was taken.
+fn replied(
+    socket: &mut Socket<'_, Clock>,
+    answer: Answer,
+    ip: &IpRepr,
+    repr: &TcpRepr<'_>,
+) -> Option<Reply>
+    requires short { length repr.now.payload.now ≤ 65535 }
+    ensures view { socket.new.control_block
+        ≡ (answered answer socket.old.control_block (segment_of repr.now)).view }
+    ensures state { socket.new.control_block.state ≡ socket.old.control_block.state }
+    ensures clock { socket.new.tsval_generator ≡ socket.old.tsval_generator }
+    ensures ended { socket.new.ended ≡ socket.old.ended }
+    ensures reply { option_map reply_of result ≡ reply_by socket.old.tsval_generator repr.now.timestamp ip.now
+        (answered answer socket.old.control_block (segment_of repr.now)) }
     ensures bare { ForSome result (λ r. r.1.payload.now ≡ []) }
     ensures fits { ForSome (option_map reply_of result) (λ r. FitsPacket r.0 r.1) }
 {
-    let mut cx = *moment;
-    socket.process(&mut cx, ip, repr)
+    socket.reply_by(answer, ip, repr)
 }
 
 // Writes the reply, if any, and answers its length. There is room for any.
@@ -202,13 +243,59 @@ pub extern "C" fn smoltcp_tcp_dispatch_nonnull(h: &mut TcpHandle, cx: &Cx, out: 
         (view h.new).state (is_some (view h.new).remote_last_ts) (ended h.old) }
     ensures at { h.new.at ≡ h.old.at }
 {
-    let moment = in_context!(cx);
+    if !is_in_context(cx) {
+        return ERROR_CONTEXT;
+    }
     let socket = h.socket();
+    if !has_peer(socket) {
+        return sent_to_nobody(socket, cx);
+    }
     set_clock(socket, cx.tsval);
-    sent(socket, &moment, out)
+    sent_in(socket, cx, out)
 }
 
-// Writes what is due.
+/// Whether there is a peer: else nothing is sent, and nothing is waited for.
+#[inline(always)]
+#[tactic(auto, using(crate::proofs::Peers::none_there))]
+pub(crate) fn has_peer(socket: &Socket<'_, Clock>) -> bool
+    ensures { result ≡ false → socket.now.control_block.tuple ≡ None }
+{
+    socket.remote_endpoint().is_some()
+}
+
+// A dispatch of a socket without a peer.
+#[inline(always)]
+#[tactic(auto, using(crate::proofs::Peers::nothing_sent))]
+fn sent_to_nobody(socket: &mut Socket<'_, Clock>, cx: &Cx) -> i64
+    requires { socket.old.control_block.tuple ≡ None }
+    ensures table { (out : List ℕ) → DispatchesInto cx.entry.now
+        (clock_at socket.old.tsval_generator cx.entry.now.tsval) socket.old.control_block out result
+        socket.new.control_block out }
+    ensures clock { socket.new.tsval_generator ≡ clock_at socket.old.tsval_generator cx.entry.now.tsval }
+    ensures view { socket.new.control_block ≡ socket.old.control_block }
+    ensures ended { socket.new.ended ≡ socket.old.ended }
+{
+    set_clock(socket, cx.tsval);
+    OK
+}
+
+// Writes what is due. Not inlined, so that a dispatch with nobody to send to has no registers to save.
+#[inline(never)]
+fn sent_in(socket: &mut Socket<'_, Clock>, cx: &Cx, out: &mut [u8]) -> i64
+    requires { is_context cx.now ≡ true }
+    ensures table { DispatchesInto cx.entry.now socket.old.tsval_generator socket.old.control_block out.old result
+        socket.new.control_block out.new }
+    ensures clock { socket.new.tsval_generator ≡ socket.old.tsval_generator }
+    ensures ended { socket.new.ended ≡ ended_by_dispatch socket.old.control_block.state
+        socket.new.control_block.state (is_some socket.new.control_block.remote_last_ts) socket.old.ended }
+{
+    match moment_in(cx) {
+        Some(moment) => sent(socket, &moment, out),
+        None => ERROR_CONTEXT,
+    }
+}
+
+// Writes what is due at this moment.
 fn sent(socket: &mut Socket<'_, Clock>, moment: &Moment, out: &mut [u8]) -> i64
     ensures table { DispatchesInto moment.now.cx socket.old.tsval_generator socket.old.control_block out.old result
         socket.new.control_block out.new }

@@ -135,13 +135,17 @@ pub extern "C" fn smoltcp_tcp_set_min_rto_nonnull(h: &mut TcpHandle, micros: i64
 }
 
 /// Sets the interval of keep-alives in microseconds (RFC 9293, section 3.8.4), or none where it is below 0. 0, or
-/// `ERROR_RANGE` above 2^61, where nothing changes.
+/// `ERROR_RANGE` for 0, which would send without end, and above 2^61, where nothing changes.
 #[unsafe(no_mangle)]
 pub extern "C" fn smoltcp_tcp_set_keep_alive_nonnull(h: &mut TcpHandle, micros: i64) -> i64
     ensures far { lasting micros ≡ None → Refuses error_range h.old result h.new }
-    ensures set { (d : Option Duration) → lasting micros ≡ Some d
+    ensures endless { micros ≡ pos 0 → Refuses error_range h.old result h.new }
+    ensures set { (d : Option Duration) → (micros ≡ pos 0 → ⊥) → lasting micros ≡ Some d
         → Sets h.old (keep_alive_set (view h.old) d) result h.new }
 {
+    if micros == 0 {
+        return ERROR_RANGE;
+    }
     let Some(duration) = lasting(micros) else {
         return ERROR_RANGE;
     };

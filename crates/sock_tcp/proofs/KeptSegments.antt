@@ -11,7 +11,8 @@ use Rattle.sock_core.specs.Received.{makes_fifth_range, holds_nothing}
 use Rattle.sock_tcp.specs.Acked.{acked_of}
 use Rattle.sock_tcp.specs.Advance.{advance_in, advanced, counted_control, dropped, fallen_back, fin_counted, moved_to, syn_answered, syn_received, waiting}
 use Rattle.sock_tcp.specs.Arrival.{Arrival, arrival}
-use Rattle.sock_tcp.specs.Process.{stopped, ack_sent, challenged, close_restarted, outside_by, outside, gap_answered, bytes_taken, tuple_of, after_advance, processed_inside, has_window, cut_inside, tested_by, by_verdict, processed_by, without_place}
+use Rattle.sock_tcp.specs.Process.{stopped, ack_sent, challenged, close_restarted, outside_by, outside, gap_answered, bytes_taken, tuple_of, after_advance, processed_inside, has_window, cut_inside, tested_by, by_verdict, closed_then, processed_by, without_place}
+use Rattle.sock_tcp.specs.Closing.{closed_from}
 use Rattle.sock_tcp.specs.Replies.{ack_kept}
 use Rattle.sock_tcp.specs.Rfc.Recovery.{before_of, recovered, recovered_by}
 use Rattle.sock_tcp.specs.Rfc.Refused.{refused}
@@ -31,6 +32,7 @@ use Rattle.sock_tcp.specs.declared.state.State.TheVariants as state
 use Rattle.sock_tcp.specs.declared.tuple.Tuple.{Tuple}
 use Rattle.sock_tcp.specs.declared.verdict.Verdict.{Verdict}
 use Rattle.sock_tcp.specs.declared.verdict.Verdict.TheVariants as verdicts
+use Rattle.sock_tcp.proofs.Late.{closed_as}
 use Rattle.sock_tcp.proofs.Recovering.{recovered_as}
 use Rattle.sock_tcp.proofs.Refusing.{heard_alone, refused_as}
 
@@ -194,9 +196,12 @@ module _ (P : View → Type 0) (now : Instant) (word : ℕ) (ip : IpRepr) (s : S
       go false = refused_kept r v h
       go true = inside_kept (record v { local_rx_last_seq = Some s.seq_number }) (counted_control s.control (accepted_window r v) s.seq_number (length s.payload)) _ _ (k.numbers v s.seq_number h)
 
-  -- and where it has recovered, by either rules
-  pub passed_kept : (r : Rules) (v : View) → P v → (b : Bool) → P (recovered_by r v now s (tested_by r b v come)).view
-  passed_kept r v h b = let i = tested_kept r v h b in recovered_as (λ o. P o.view) r v now s (tested_by r b v come) i (k.recovers v (tested_by r b v come).view h i)
+  -- and where it has recovered, by either rules, and a close that waited is done
+  pub passed_kept : (r : Rules) (v : View) → P v → (b : Bool) → P (closed_then r (recovered_by r v now s (tested_by r b v come))).view
+  passed_kept r v h b =
+      let i = tested_kept r v h b in
+      let j = recovered_as (λ o. P o.view) r v now s (tested_by r b v come) i (k.recovers v (tested_by r b v come).view h i) in
+      closed_as (λ o. P o.view) r (recovered_by r v now s (tested_by r b v come)) j (k.rows.moves (recovered_by r v now s (tested_by r b v come)).view (closed_from (recovered_by r v now s (tested_by r b v come)).view.state) j)
 
   verdict_kept : (r : Rules) (v : View) → P v → (x : Verdict) → P (by_verdict r x v come).view
   verdict_kept r v h verdicts.Drop = h

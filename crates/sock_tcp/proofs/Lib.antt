@@ -3,6 +3,8 @@ pub mod Checking
 pub mod Refusing
 pub mod Telling
 pub mod Recovering
+pub mod Late
+pub mod Answering
 pub mod Arming
 pub mod KeptSegments
 pub mod Stamping

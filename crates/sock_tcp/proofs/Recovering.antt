@@ -9,13 +9,14 @@ use Rattle.ip_wire.specs.declared.repr.IpRepr.{IpRepr}
 use Rattle.sock_tcp.specs.Arrival.{arrival}
 use Rattle.sock_tcp.specs.Process.{Outcome, answered, by_verdict, processed_by, tuple_of}
 use Rattle.sock_tcp.specs.Replies.{ack_kept, ack_segment, sack_range}
-use Rattle.sock_tcp.specs.Rfc.Recovery.{before_of, begun_by, echo_known, gone_on_from, has_timer, is_called, is_later_partial, is_news, kept_if, left_running, probe_from_last, probe_soonest, recovered, recovered_by, running, soonest, tells_controller, timer_after, waited_for, marked_by, waits_tail}
+use Rattle.sock_tcp.specs.Rfc.Recovery.{before_of, begun_by, echo_known, gone_on_from, has_timer, heard_for, is_called, is_later_partial, is_news, kept_if, left_running, probe_from_last, probe_soonest, recovered, recovered_by, reordering_after, running, soonest, tells_controller, timer_after, waited_for, waits_late, marked_by, waits_tail}
 use Rattle.sock_tcp.specs.Due.{flight, window_field}
 use Rattle.sock_tcp.proofs.OwnWindow.{field_is}
+use Rattle.sock_tcp.specs.Rfc.Reordering.{late_set, late_wait}
 use Rattle.sock_tcp.specs.Rfc.TailLoss.{is_alone, tail_from, tail_waits}
 use Rattle.sock_core.specs.Estimator.{Estimator}
 use Rattle.sock_tcp.specs.Rfc.RoundTrips.{begun_again, is_sample}
-use Rattle.sock_tcp.specs.Timers.{idle_from, probe_from, retransmit_from}
+use Rattle.sock_tcp.specs.Timers.{after, idle_from, is_over, probe_from, retransmit_from}
 use Rattle.sock_tcp.specs.Rfc.Checks.{verdict_by}
 use Rattle.sock_tcp.specs.Rfc.Windows.{windowed}
 use Rattle.sock_tcp.specs.View.{View}
@@ -82,9 +83,9 @@ unfolding processed_by
 passes o r v now word ip s p h = h ∙ ap (λ x. by_verdict r x v (arrival now (tuple_of ip s) word (windowed r v s))) (sym p)
 
 -- ---- the timer that is left: as it was, a fast retransmission's, one that went on, a new one, that of a tail-loss probe,
--- or that of keep-alives where it was a probe's; a probe may come sooner
+-- or that of keep-alives where it was a probe's; a probe may come sooner, and a loss may be waited for
 
-module _ (Q : Timer → Type 0) (b : Before) (w : View) (now : Instant) (same : Q w.timer) (fast : Q timer.FastRetransmit) (kept : (at : Instant) → b.timer ≡ timer.Retransmit at → Q (timer.Retransmit at)) (new : Q (retransmit_from now w.rtte)) (tail : Q (tail_from now w.rtte (is_alone w))) (idle : (at : Instant) (delay : Duration) → w.timer ≡ timer.ZeroWindowProbe at delay → Q (idle_from now w.keep_alive)) (soon : (at : Instant) (delay : Duration) → Q (timer.ZeroWindowProbe at delay) → Q (timer.ZeroWindowProbe (soonest w.idle_at at) delay)) where
+module _ (Q : Timer → Type 0) (b : Before) (w : View) (now : Instant) (same : Q w.timer) (fast : Q timer.FastRetransmit) (kept : (at : Instant) → b.timer ≡ timer.Retransmit at → Q (timer.Retransmit at)) (new : Q (retransmit_from now w.rtte)) (tail : Q (tail_from now w.rtte (is_alone w))) (idle : (at : Instant) (delay : Duration) → w.timer ≡ timer.ZeroWindowProbe at delay → Q (idle_from now w.keep_alive)) (soon : (at : Instant) (delay : Duration) → Q (timer.ZeroWindowProbe at delay) → Q (timer.ZeroWindowProbe (soonest w.idle_at at) delay)) (late : Q (timer.Retransmit (after now (late_wait (reordering_after b w) w.rtte)))) where
   goes : (t : Timer) → b.timer ≡ t → Q (gone_on_from t now w.rtte)
   goes (timer.Retransmit at) e = kept at e
   goes (timer.Idle at) e = new
@@ -145,8 +146,21 @@ module _ (Q : Timer → Type 0) (b : Before) (w : View) (now : Instant) (same : 
   begins timer.FastRetransmit t h = comes t h
   begins (timer.Close at) t h = comes t h
 
+  -- or a loss is waited for
+  waits : (c : Bool) (t : Timer) → Q t → Q (late_set c t now (late_wait (reordering_after b w) w.rtte))
+  waits true (timer.Retransmit at) h = by (is_over at (after now (late_wait (reordering_after b w) w.rtte)))
+    where
+      by : (o : Bool) → Q (timer.Retransmit (if o then at else after now (late_wait (reordering_after b w) w.rtte)))
+      by true = h
+      by false = late
+  waits true (timer.Idle at) h = h
+  waits true timer.FastRetransmit h = h
+  waits true (timer.ZeroWindowProbe at delay) h = h
+  waits true (timer.Close at) h = h
+  waits false t h = h
+
   pub waited_as : Q (waited_for b w now)
-  waited_as = by (tells_controller b w) (is_called b w)
+  waited_as = waits (waits_late b w) (heard_for b w now) (by (tells_controller b w) (is_called b w))
     where
       by : (r c : Bool) → Q (if r then timer.FastRetransmit else (if c then gone_on_from b.timer now w.rtte else tail_waits (waits_tail b w) (left_running b w now) now w.rtte (is_alone w)))
       by true c = fast

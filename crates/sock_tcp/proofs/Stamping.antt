@@ -6,7 +6,7 @@ use Rattle.ip_wire.specs.declared.repr.IpRepr.{IpRepr}
 use Rattle.control_wire.specs.Segment.{Segment}
 use Rattle.sock_tcp.specs.Advance.{fallen_back, fin_counted, options_taken, syn_answered, syn_received}
 use Rattle.sock_tcp.specs.Arrival.{arrival}
-use Rattle.sock_tcp.specs.Process.{Outcome, answered, close_restarted, source_kept, tested, tuple_of}
+use Rattle.sock_tcp.specs.Process.{Outcome, answered, closed_then, close_restarted, source_kept, tested, tuple_of}
 use Rattle.sock_tcp.specs.Replies.{ack_kept}
 use Rattle.sock_tcp.specs.Rfc.Recovery.{recovered, recovered_by}
 use Rattle.sock_tcp.specs.Steps.{ack_counted, ack_delayed, duplicate_counted, heard, joined, released, timer_set, timestamp_taken, una_advanced, window_taken}
@@ -63,7 +63,7 @@ answer_keeps answers.Nothing v s = refl
 answer_keeps answers.Ack v s = refl
 answer_keeps answers.Rst v s = refl
 
-pub stamps_fall : (r : Answer) (v w : View) (now : Instant) (word : ℕ) (ip : IpRepr) (s : Segment) (b : Bool) → answered r w s ≡ recovered_by v.rules v now (windowed v.rules v s) (tested b v (arrival now (tuple_of ip s) word (windowed v.rules v s))) → IsTrue w.stamps → IsTrue v.stamps
+pub stamps_fall : (r : Answer) (v w : View) (now : Instant) (word : ℕ) (ip : IpRepr) (s : Segment) (b : Bool) → answered r w s ≡ closed_then v.rules (recovered_by v.rules v now (windowed v.rules v s) (tested b v (arrival now (tuple_of ip s) word (windowed v.rules v s)))) → IsTrue w.stamps → IsTrue v.stamps
 stamps_fall r v w now word ip s b e h = passed_kept (Falls v) now word ip (windowed v.rules v s) (segments_fall v now word (windowed v.rules v s)) v.rules v (λ i. i) b (sym (ap (λ (o : Outcome). o.view.stamps) e) ∙ answer_keeps r w s ∙ h)
 
 -- so the source that is kept is there exactly where they are

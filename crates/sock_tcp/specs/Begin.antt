@@ -5,7 +5,7 @@ use Rattle.sock_core.specs.Congestion.{congestion_window, lost, pre_transmitted,
 use Rattle.sock_core.specs.Estimator.{backed_off, retransmitted}
 use Rattle.sock_core.specs.Facts.{Facts}
 use Rattle.sock_tcp.specs.Advance.{dropped}
-use Rattle.sock_tcp.specs.Due.{flight, is_due}
+use Rattle.sock_tcp.specs.Due.{flight, flight_lost, is_due, usable}
 use Rattle.sock_tcp.specs.Opening.{renewed}
 use Rattle.sock_tcp.specs.Polls.{is_reached, timeout_poll}
 use Rattle.sock_tcp.specs.Rfc.Recovery.{begun_by, marked_by, timed_out_by}
@@ -72,17 +72,6 @@ retransmission_begun v now =
       sacked = nothing_told;
       undo = undo_timed_out v.rules v.recovery v.undo v.congestion_controller;
     }
-
--- what was in flight when a loss is told: by the RFCs' rules as much as both windows let out of what is queued, since a
--- host may hear many segments before it lets the socket speak, and without what the first two duplicates let out beyond
--- the congestion window (RFC 5681, section 3.2, step 2)
-abbrev pub flight_lost : Rules → ℕ → ℕ → ℕ → ℕ
-flight_lost rules.Smoltcp flight usable window = flight
-flight_lost rules.Rfc flight usable window = min (max flight usable) window
-
--- what the peer's window lets out of what is queued
-abbrev pub usable : View → ℕ
-usable v = min v.remote_win_len (length v.tx_buffer.bytes)
 
 -- a fast retransmission is marked (RFC 5681, section 3.2)
 unfoldable pub fast_retransmission_marked : View → Instant → View

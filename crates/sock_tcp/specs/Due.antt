@@ -12,7 +12,7 @@ use Rattle.sock_core.specs.declared.context.PollAt.{PollAt}
 use Rattle.sock_core.specs.declared.context.PollAt.TheVariants as poll
 use Rattle.sock_tcp.specs.Polls.{is_reached, delay_poll}
 use Rattle.sock_tcp.specs.Rfc.OwnWindow.{field_by, may_grow, space_field}
-use Rattle.sock_tcp.specs.Rfc.Pipe.{counts, room}
+use Rattle.sock_tcp.specs.Rfc.Pipe.{counts, room, told_late}
 use Rattle.sock_tcp.specs.Rfc.SmallSegments.{held_by, is_cut_by, small_poll, waits_alone}
 use Rattle.sock_tcp.specs.Timers.{is_keep_alive_over, is_probe_over}
 use Rattle.sock_tcp.specs.View.{View, moment_of}
@@ -79,15 +79,16 @@ effective_mss v t f = min (own_mss f t) v.remote_mss - timestamp_room v.stamps
 abbrev pub flight : View → ℕ
 flight v = seq_sub v.remote_last_seq v.local_seq_no
 
--- what the first two duplicates let out beyond the congestion window, a segment each (RFC 3042), or a tail-loss probe
--- of new bytes (RFC 8985, section 7.3)
-abbrev pub limited_by : Rules → Recovery → ℕ → ℕ → ℕ
-limited_by rules.Rfc recovery.Open duplicates mss = min duplicates 2 * mss
-limited_by rules.Rfc (recovery.Probe start end again) duplicates mss = if again then min duplicates 2 * mss else mss
-limited_by _ r duplicates mss = 0
+-- what the first two duplicates let out beyond the congestion window, a segment each (RFC 3042), or what was told while
+-- a loss is waited for, or a tail-loss probe of new bytes (RFC 8985, section 7.3)
+abbrev pub limited_by : Rules → Recovery → ℕ → ℕ → ℕ → ℕ
+limited_by rules.Rfc recovery.Open duplicates mss told = max (min duplicates 2 * mss) told
+limited_by rules.Rfc (recovery.Probe start end again) duplicates mss told =
+    if again then max (min duplicates 2 * mss) told else mss
+limited_by _ r duplicates mss told = 0
 
 abbrev pub limited : View → ℕ
-limited v = limited_by v.rules v.recovery v.local_rx_dup_acks v.remote_mss
+limited v = limited_by v.rules v.recovery v.local_rx_dup_acks v.remote_mss (told_late v.reordering v.sacked)
 
 -- a recovery that counts what is in the network
 abbrev pub is_counted : View → Bool
@@ -106,6 +107,19 @@ congestion_left v =
 -- what of the transmit queue both windows let go out behind SND.NXT
 abbrev pub sendable : View → ℕ
 sendable v = min (min v.remote_win_len (length v.tx_buffer.bytes) - flight v) (congestion_left v)
+
+-- ---- what was in flight
+
+-- what was in flight when a loss is told: by the RFCs' rules as much as both windows let out of what is queued, since a
+-- host may hear many segments before it lets the socket speak, and without what the first two duplicates let out beyond
+-- the congestion window (RFC 5681, section 3.2, step 2)
+abbrev pub flight_lost : Rules → ℕ → ℕ → ℕ → ℕ
+flight_lost rules.Smoltcp flight usable window = flight
+flight_lost rules.Rfc flight usable window = min (max flight usable) window
+
+-- what the peer's window lets out of what is queued
+abbrev pub usable : View → ℕ
+usable v = min v.remote_win_len (length v.tx_buffer.bytes)
 
 -- ---- data, a SYN or a FIN
 
@@ -128,12 +142,15 @@ control_due v =
     (is_opening v.state && (flight v == 0))
     || (is_closing v.state && seq_eq v.remote_last_seq (seq_add v.local_seq_no (length v.tx_buffer.bytes)))
 
--- a fast retransmission, data, a SYN or a FIN
-unfoldable pub data_due : View → Tuple → Facts → Bool
-data_due v t f =
+-- a fast retransmission, data, a SYN or a FIN, with segments of up to so many bytes
+abbrev pub data_due_by : View → ℕ → Bool
+data_due_by v mss =
     (v.pending_fast_retransmit && not (length v.tx_buffer.bytes == 0))
-    || (not (sendable v == 0) && not (is_held_back v (effective_mss v t f)))
+    || (not (sendable v == 0) && not (is_held_back v mss))
     || control_due v
+
+unfoldable pub data_due : View → Tuple → Facts → Bool
+data_due v t f = data_due_by v (effective_mss v t f)
 
 -- ---- an acknowledgement
 

@@ -1,6 +1,7 @@
 pub mod Queue
 pub mod Scale
 pub mod Timers
+pub mod Kept
 pub mod Polls
 pub mod View
 pub mod Same

@@ -15,6 +15,7 @@ use Rattle.control_wire.specs.declared.tcp.TcpTimestampRepr.{TcpTimestampRepr}
 use Rattle.sock_core.specs.Facts.{Facts}
 use Rattle.sock_tcp.specs.Advance.{counted_control}
 use Rattle.sock_tcp.specs.Arrival.{Arrival, arrival}
+use Rattle.sock_tcp.specs.Closing.{closed_late}
 use Rattle.sock_tcp.specs.Draw.{draws, Draws}
 pub use Rattle.sock_tcp.specs.Inside.{Outcome, stopped, ack_sent, rst_sent, answered, timer_restarted, outside_by}
 pub use Rattle.sock_tcp.specs.Inside.{without_place}
@@ -33,6 +34,7 @@ use Rattle.sock_tcp.specs.declared.window.Cut.{Cut}
 use Rattle.sock_tcp.specs.declared.window.Window.{Window}
 use Rattle.sock_tcp.specs.Replies.{Answers}
 use Rattle.sock_tcp.specs.declared.rules.Rules.{Rules}
+use Rattle.sock_tcp.specs.declared.rules.Rules.TheVariants as rules
 use Rattle.sock_tcp.specs.declared.state.State.{State}
 use Rattle.sock_tcp.specs.declared.state.State.TheVariants as state
 use Rattle.sock_tcp.specs.declared.tuple.Tuple.{Tuple}
@@ -77,10 +79,10 @@ Accepts v ip s = AcceptsIn v.state v ip s
 -- asks for the verdict, which is by the socket's rules (`Rfc/Checks.antt`), and which window the segment tells by these
 -- (`Rfc/Windows.antt`); `by_verdict` drops, resets, challenges or lets pass; `tested` tests the window in which a
 -- segment is taken by these rules, in a state that has one, and `recovered_by` (`Rfc/Recovery.antt`) does by the
--- socket's rules what is done of loss then; `cut_inside` cuts what lies inside, and `refused` (`Rfc/Refused.antt`) does
--- by the socket's rules what is done outside. The rest stands in `Inside.antt`: `outside` answers a segment;
--- `processed_inside` goes through the state table; `after_advance` stops, challenges or hears the acknowledgement;
--- `bytes_taken` takes the bytes and answers a gap.
+-- socket's rules what is done of loss then, and `closed_then` a close that waited; `cut_inside` cuts what lies inside,
+-- and `refused` (`Rfc/Refused.antt`) does by the socket's rules what is done outside. The rest stands in `Inside.antt`:
+-- `outside` answers a segment; `processed_inside` goes through the state table; `after_advance` stops, challenges or
+-- hears the acknowledgement; `bytes_taken` takes the bytes and answers a gap.
 
 -- a segment inside the window is cut to it, and its number is remembered
 abbrev pub cut_inside : Window → Cut → View → Arrival → Outcome
@@ -101,11 +103,17 @@ tested_by r true v a =
 abbrev pub tested : Bool → View → Arrival → Outcome
 tested b v a = tested_by v.rules b v a
 
+-- by the RFCs' rules a close that waited for the SYN's acknowledgement is done then
+abbrev pub closed_then : Rules → Outcome → Outcome
+closed_then rules.Smoltcp o = o
+closed_then rules.Rfc o = record { view = closed_late o.view; reply = o.reply }
+
 abbrev pub by_verdict : Rules → Verdict → View → Arrival → Outcome
 by_verdict r verdicts.Drop v a = stopped v
 by_verdict r verdicts.Reset v a = rst_sent v a.segment
 by_verdict r verdicts.Challenge v a = challenged v a.now a.segment
-by_verdict r verdicts.Pass v a = recovered_by r v a.now a.segment (tested_by r (has_window v.state) v a)
+by_verdict r verdicts.Pass v a =
+    closed_then r (recovered_by r v a.now a.segment (tested_by r (has_window v.state) v a))
 
 unfoldable pub processed_by : Rules → View → Instant → ℕ → IpRepr → Segment → Outcome
 processed_by r v now word ip s =

@@ -11,3 +11,4 @@ pub mod TailLoss
 pub mod Pipe
 pub mod OwnWindow
 pub mod SmallSegments
+pub mod Reordering

@@ -1,5 +1,5 @@
 -- Moments and timers.
-use Rattle.std.specs.Prelude.{◌*◌, ◌≤◌, min, pos, ◌+ℤ◌, int_le, Option, Some, None, Bool, true, false}
+use Rattle.std.specs.Prelude.{◌*◌, ◌≤◌, min, pos, ◌+ℤ◌, int_le, Option, Some, None, Bool, true, false, if◌then◌else◌}
 use Rattle.std.specs.Option.{ForSome}
 use Rattle.net_base.specs.declared.time.Duration.{Duration}
 use Rattle.net_base.specs.declared.time.Instant.{Instant}
@@ -16,6 +16,9 @@ after t d = record { micros = t.micros +ℤ pos d.micros }
 -- now is t or later
 abbrev pub is_over : Instant → Instant → Bool
 is_over t now = int_le t.micros now.micros
+
+abbrev pub sooner : Instant → Instant → Instant
+sooner t u = if is_over t u then t else u
 
 -- ---- lengths of time
 

@@ -76,6 +76,8 @@ pub record View : Type 0 where
   pub idle_at : Option Instant  -- from when on nothing was sent for a retransmission timeout, by the RFCs' rules
   pub largest_window : ℕ  -- the largest SND.WND that was told, by the RFCs' rules
   pub undo : Undo  -- what undoes a recovery that was for nothing, by the RFCs' rules
+  pub close_waits : Bool  -- a close waits for the acknowledgement of the SYN, by the RFCs' rules
+  pub reordering : ℕ  -- how many quarters of a round trip a loss is waited for, by the RFCs' rules
 
 -- the moment that a context tells
 abbrev pub moment_of : Facts → Instant
@@ -160,4 +162,6 @@ fresh rx tx =
       idle_at = None;
       largest_window = 0;
       undo = nothing_to_undo;
+      close_waits = false;
+      reordering = 0;
     }

@@ -125,7 +125,7 @@ impl<'a> ControlBlock<'a> {
         self.tuple = Some(tuple);
         self.local_seq_no = TcpSeqNumber(word);
         self.remote_last_seq = TcpSeqNumber(word);
-        self.timer = Timer::idle(now, self.keep_alive);
+        self.timer = Timer::idle(now, self.keep_alive());
         Next::Continue
     }
 

@@ -2,10 +2,10 @@
 ghost use Rattle.std.specs.Prelude.{◌≡◌};
 ghost use Rattle.sock_core.specs.Bounds.{IsMoment};
 ghost use Rattle.sock_tcp.specs.View.{moment_of};
-ghost use Rattle.sock_tcp.specs.Due.{flight, is_due};
+ghost use Rattle.sock_tcp.specs.Due.{flight, flight_lost, is_due, usable};
 ghost use Rattle.sock_tcp.specs.Begin.{last_ts_set, readied, retransmission_begun, fast_retransmission_marked};
 ghost use Rattle.sock_core.specs.Congestion.{congestion_window};
-ghost use Rattle.sock_tcp.specs.Begin.{after_timers, flight_lost, probing_begun, usable};
+ghost use Rattle.sock_tcp.specs.Begin.{after_timers, probing_begun};
 ghost use Rattle.sock_tcp.specs.Rfc.Recovery.{marked_by};
 ghost use Rattle.sock_tcp.specs.Timers.{IsTimer};
 ghost use Rattle.sock_tcp.specs.Begin.{is_paused, begun, nothing_due, before_emit_to, before_emit};
@@ -37,8 +37,9 @@ impl<'a> ControlBlock<'a> {
         ensures table { self.new ≡ last_ts_set self.old now }
         ensures stamps { self.new.stamps ≡ self.old.stamps }
     {
-        if self.remote_last_ts.is_none() {
-            self.remote_last_ts = Some(now);
+        if !self.has_remote_last_ts {
+            self.has_remote_last_ts = true;
+            self.remote_last_ts = now;
         }
     }
 
@@ -84,7 +85,7 @@ impl<'a> ControlBlock<'a> {
 
     // What was in flight when a loss is told: by the RFCs' rules what both windows let out, also where the host heard
     // many segments and has not let it out yet, without what went out beyond the congestion window.
-    fn flight_lost(&self) -> usize
+    pub(crate) fn flight_lost(&self) -> usize
         ensures { result ≡ flight_lost self.now.rules (flight self.now) (usable self.now)
             (congestion_window self.now.congestion_controller) }
     {
@@ -104,7 +105,7 @@ impl<'a> ControlBlock<'a> {
         ensures lawful { IsTimer result }
     {
         match self.rules {
-            Rules::Smoltcp => Timer::idle(now, self.keep_alive),
+            Rules::Smoltcp => Timer::idle(now, self.keep_alive()),
             Rules::Rfc => Timer::retransmit(now, &self.rtte),
         }
     }
@@ -144,14 +145,14 @@ impl<'a> ControlBlock<'a> {
         ensures table { self.new ≡ after_timers self.old now }
         ensures stamps { self.new.stamps ≡ self.old.stamps }
     {
-        if is_reached(timeout_poll(self.timeout, self.remote_last_ts), now) {
+        if is_reached(timeout_poll(self.timeout(), self.remote_last_ts()), now) {
             self.state = State::Closed;
             return;
         }
         match self.timer {
             Timer::Retransmit { expires_at } => {
                 if is_over(expires_at, now) {
-                    if self.may_probe_now() {
+                    if self.may_speak_now() {
                         self.probe_tail(now);
                     } else {
                         self.begin_retransmission(now);

@@ -5,6 +5,7 @@ ghost use Rattle.control_wire.specs.Segment.{segment_of};
 ghost use Rattle.sock_tcp.specs.Draw.{draws};
 ghost use Rattle.sock_tcp.specs.Rfc.Checks.{ack_checked, acks_unsent, checked, is_forgotten, is_older, probe_places};
 ghost use Rattle.sock_tcp.specs.Rfc.Checks.{rst_checked, sent_end, stamp_checked, verdict_by};
+ghost use Rattle.sock_tcp.specs.Rfc.Windows.{ack_heeded};
 ghost use Rattle.sock_tcp.specs.Verdict.{verdict_of};
 ghost use Rattle.sock_tcp.specs.declared.rules.Rules.TheVariants.{Rfc};
 ghost use Rattle.sock_tcp.specs.declared.verdict.Verdict.TheVariants.{Pass};
@@ -50,7 +51,7 @@ impl<'a> ControlBlock<'a> {
     fn is_forgotten(&self, now: Instant) -> bool
         ensures { result ≡ is_forgotten self.now.remote_last_ts now }
     {
-        match self.remote_last_ts {
+        match self.remote_last_ts() {
             None => true,
             Some(at) => is_over(after(at, RECENT_LIFE), now),
         }
@@ -133,7 +134,7 @@ impl<'a> ControlBlock<'a> {
         match self.check(now, repr) {
             Next::Stop => Verdict::Drop,
             Next::Challenge => Verdict::Challenge,
-            Next::Continue => self.verdict(repr.control, repr.ack_number),
+            Next::Continue => self.verdict(repr.control, self.ack_heeded(repr)),
         }
     }
 
@@ -141,7 +142,8 @@ impl<'a> ControlBlock<'a> {
     #[inline(always)]
     pub(crate) fn verdict_by_rules(&self, now: Instant, repr: &TcpRepr<'_>) -> Verdict
         ensures value { result ≡ verdict_by self.now.rules self.now now (segment_of repr.now) }
-        ensures passes { result ≡ Pass → verdict_of self.now repr.now.control repr.now.ack_number ≡ Pass }
+        ensures passes { result ≡ Pass → verdict_of self.now repr.now.control
+            (ack_heeded self.now.rules self.now (segment_of repr.now) repr.now.ack_number) ≡ Pass }
         ensures draws { draws (verdict_of self.now repr.now.control repr.now.ack_number) self.now.state repr.now.control
             ≡ draws result self.now.state repr.now.control }
     {

@@ -1,16 +1,17 @@
 //! Closing a connection (RFC 9293, sections 3.10.4 and 3.10.5).
 ghost use Rattle.std.specs.Prelude.{◌≡◌};
-ghost use Rattle.sock_tcp.specs.Closing.{closed, aborted};
+ghost use Rattle.sock_tcp.specs.Closing.{closed, closed_from, closed_late, aborted};
 ghost use Rattle.sock_tcp.specs.Ended.{ended_by_abort, ended_by_close};
 
 use crate::control_block::ControlBlock;
 use crate::ended::{Ended, by_close};
+use crate::rules::Rules;
 use crate::socket::Socket;
 use crate::state::State;
 
 impl<'a> ControlBlock<'a> {
-    pub(crate) fn close(&mut self)
-        ensures { self.new ≡ closed self.old }
+    fn close_now(&mut self)
+        ensures { self.new ≡ record self.old { state = closed_from self.old.state } }
     {
         self.state = match self.state {
             State::Listen => State::Closed,
@@ -20,6 +21,30 @@ impl<'a> ControlBlock<'a> {
             State::CloseWait => State::LastAck,
             state => state,
         };
+    }
+
+    // By the RFCs' rules a close in SYN-RECEIVED waits.
+    pub(crate) fn close(&mut self)
+        ensures { self.new ≡ closed self.old }
+    {
+        match (self.state, self.rules) {
+            (State::SynReceived, Rules::Rfc) => self.close_waits = true,
+            _ => {
+                self.close_waits = false;
+                self.close_now();
+            }
+        }
+    }
+
+    // A close that waited, once the state is another.
+    #[inline(always)]
+    pub(crate) fn close_late(&mut self)
+        ensures { self.new ≡ closed_late self.old }
+    {
+        match (self.close_waits, self.state) {
+            (false, _) | (_, State::SynReceived) => {}
+            _ => self.close_now(),
+        }
     }
 
     pub(crate) fn abort(&mut self)
@@ -34,7 +59,8 @@ impl<'a, G> Socket<'a, G> {
     /// read.
     ///
     /// LISTEN and SYN-SENT go to CLOSED, SYN-RECEIVED and ESTABLISHED to FIN-WAIT-1, CLOSE-WAIT to LAST-ACK; in the
-    /// other states nothing changes (RFC 9293, section 3.10.4).
+    /// other states nothing changes (RFC 9293, section 3.10.4). By `Rules::Rfc` SYN-RECEIVED stays: the call is done as
+    /// soon as the SYN is acknowledged, and the FIN follows it.
     pub fn close(&mut self)
         ensures control_block { self.new.control_block ≡ closed self.old.control_block }
         ensures generator { self.new.tsval_generator ≡ self.old.tsval_generator }

@@ -4,11 +4,12 @@ ghost use Rattle.net_base.specs.Ring.{capacity_of};
 ghost use Rattle.sock_core.specs.Received.{room_of};
 ghost use Rattle.sock_tcp.specs.Queue.{queue_of};
 
+use crate::kept::DelayKind;
 use crate::recovery::Recovery;
 use crate::rules::Rules;
 use crate::scoreboard::Scoreboard;
 use crate::state::State;
-use crate::timer::{AckDelayTimer, Timer};
+use crate::timer::Timer;
 use crate::tuple::Tuple;
 use crate::undo::Undo;
 use control_wire::TcpSeqNumber;
@@ -21,30 +22,41 @@ use sock_core::rtte::RttEstimator;
 use std::marker::Model;
 
 /// All that a socket keeps but its source of timestamps: the transmission control block (RFC 9293, section 3.3.1).
+// The fields stand by their alignment, so that no room is lost between them.
 #[derive(Debug, Drop)]
 pub struct ControlBlock<'a> {
-    // the connection state (section 3.3.2)
-    pub(crate) state: State,
     // what is waited for: a retransmission, a probe, the end of TIME-WAIT
     pub(crate) timer: Timer,
     // the round-trip estimate and the retransmission timeout (RFC 6298)
     pub(crate) rtte: RttEstimator,
     // the receive queue, and what is held behind it
     pub(crate) rx_buffer: ReceiveBuffer<'a>,
-    // a FIN of the peer was counted
-    pub(crate) rx_fin_received: bool,
     // the transmit queue, which is the retransmission queue too
     pub(crate) tx_buffer: RingBuffer<'a, u8>,
     // the user's timeout
-    pub(crate) timeout: Option<Duration>,
+    pub(crate) timeout: Duration,
     // how long after the last segment a keep-alive comes
-    pub(crate) keep_alive: Option<Duration>,
-    // of packets that go out; 64 where none is set
-    pub(crate) hop_limit: Option<u8>,
-    // what a listener listens on, also while its connection lasts
-    pub(crate) listen_endpoint: IpListenEndpoint,
-    // both endpoints, where there is a peer
-    pub(crate) tuple: Option<Tuple>,
+    pub(crate) keep_alive: Duration,
+    // when the last segment came
+    pub(crate) remote_last_ts: Instant,
+    // how long an acknowledgement may wait for data to go with
+    pub(crate) ack_delay: Duration,
+    // whether an acknowledgement waits, and until when
+    pub(crate) ack_delay_until: Instant,
+    // before this moment no further challenge ACK goes out
+    pub(crate) challenge_ack_timer: Instant,
+    // from when on nothing was sent for a retransmission timeout, by the RFCs' rules
+    pub(crate) idle_at: Instant,
+    // how many bytes may be in flight
+    pub(crate) congestion_controller: AnyController,
+    // what undoes a recovery that was for nothing, by the RFCs' rules
+    pub(crate) undo: Undo,
+    // SND.WND
+    pub(crate) remote_win_len: usize,
+    // the largest segment that the peer takes, in bytes
+    pub(crate) remote_mss: usize,
+    // the largest SND.WND that was told, by the RFCs' rules
+    pub(crate) largest_window: usize,
     // SND.UNA
     pub(crate) local_seq_no: TcpSeqNumber,
     // the number of the first byte of the receive queue
@@ -53,46 +65,12 @@ pub struct ControlBlock<'a> {
     pub(crate) remote_last_seq: TcpSeqNumber,
     // the acknowledgement that was sent last
     pub(crate) remote_last_ack: Option<TcpSeqNumber>,
-    // the window field that was sent last
-    pub(crate) remote_last_win: u16,
-    // by how many bits the own window field is shifted
-    pub(crate) remote_win_shift: u8,
-    // SND.WND
-    pub(crate) remote_win_len: usize,
-    // by how many bits the peer's window field is shifted
-    pub(crate) remote_win_scale: Option<u8>,
-    // the peer permits SACK (RFC 2018)
-    pub(crate) remote_has_sack: bool,
-    // the largest segment that the peer takes, in bytes
-    pub(crate) remote_mss: usize,
-    // when the last segment came
-    pub(crate) remote_last_ts: Option<Instant>,
     // the number of the last segment in the window
-    pub(crate) local_rx_last_seq: Option<TcpSeqNumber>,
+    pub(crate) local_rx_last_seq: TcpSeqNumber,
     // the last acknowledgement that was no duplicate
-    pub(crate) local_rx_last_ack: Option<TcpSeqNumber>,
-    // how many duplicates of it came
-    pub(crate) local_rx_dup_acks: u8,
-    // the segment at SND.UNA goes out again, or by the RFCs' rules the next hole
-    pub(crate) pending_fast_retransmit: bool,
-    // how long an acknowledgement may wait for data to go with
-    pub(crate) ack_delay: Option<Duration>,
-    // whether an acknowledgement waits, and until when
-    pub(crate) ack_delay_timer: AckDelayTimer,
-    // before this moment no further challenge ACK goes out
-    pub(crate) challenge_ack_timer: Instant,
-    // small segments wait while data is in flight (section 3.7.4)
-    pub(crate) nagle: bool,
-    // how many bytes may be in flight
-    pub(crate) congestion_controller: AnyController,
+    pub(crate) local_rx_last_ack: TcpSeqNumber,
     // the last timestamp value of the peer
     pub(crate) last_remote_tsval: u32,
-    // a SYN|ACK waits
-    pub(crate) synack_paused: bool,
-    // segments carry a timestamp (RFC 7323, section 3)
-    pub(crate) stamps: bool,
-    // where smoltcp's differ from the RFCs'
-    pub(crate) rules: Rules,
     // what goes on of a loss, by the RFCs' rules
     pub(crate) recovery: Recovery,
     // what the peer told by SACK, by the RFCs' rules
@@ -100,15 +78,53 @@ pub struct ControlBlock<'a> {
     // SND.WL1 and SND.WL2, by the RFCs' rules
     pub(crate) snd_wl1: TcpSeqNumber,
     pub(crate) snd_wl2: TcpSeqNumber,
-    // from when on nothing was sent for a retransmission timeout, by the RFCs' rules
-    pub(crate) idle_at: Option<Instant>,
-    // the largest SND.WND that was told, by the RFCs' rules
-    pub(crate) largest_window: usize,
-    // what undoes a recovery that was for nothing, by the RFCs' rules
-    pub(crate) undo: Undo,
+    // both endpoints, where there is a peer
+    pub(crate) tuple: Option<Tuple>,
+    // what a listener listens on, also while its connection lasts
+    pub(crate) listen_endpoint: IpListenEndpoint,
+    // the window field that was sent last
+    pub(crate) remote_last_win: u16,
+    // the connection state (section 3.3.2)
+    pub(crate) state: State,
+    // where smoltcp's differ from the RFCs'
+    pub(crate) rules: Rules,
+    // a FIN of the peer was counted
+    pub(crate) rx_fin_received: bool,
+    // of packets that go out; 64 where none is set
+    pub(crate) hop_limit: Option<u8>,
+    // by how many bits the own window field is shifted
+    pub(crate) remote_win_shift: u8,
+    // by how many bits the peer's window field is shifted
+    pub(crate) remote_win_scale: Option<u8>,
+    // the peer permits SACK (RFC 2018)
+    pub(crate) remote_has_sack: bool,
+    // how many duplicates of it came
+    pub(crate) local_rx_dup_acks: u8,
+    // for how many quarters of a round trip a loss is waited for, as segments came late, by the RFCs' rules
+    pub(crate) reordering: u8,
+    // the segment at SND.UNA goes out again, or by the RFCs' rules the next hole
+    pub(crate) pending_fast_retransmit: bool,
+    // small segments wait while data is in flight (section 3.7.4)
+    pub(crate) nagle: bool,
+    // a SYN|ACK waits
+    pub(crate) synack_paused: bool,
+    // segments carry a timestamp (RFC 7323, section 3)
+    pub(crate) stamps: bool,
+    // a close waits for the acknowledgement of the SYN, by the RFCs' rules
+    pub(crate) close_waits: bool,
+    // which of these there are (kept.rt)
+    pub(crate) has_timeout: bool,
+    pub(crate) has_keep_alive: bool,
+    pub(crate) has_remote_last_ts: bool,
+    pub(crate) has_local_rx_last_seq: bool,
+    pub(crate) has_local_rx_last_ack: bool,
+    pub(crate) has_ack_delay: bool,
+    pub(crate) ack_delay_kind: DelayKind,
+    pub(crate) has_idle_at: bool,
 }
 
 impl<'a> Model for ControlBlock<'a> {
+    ghost use Rattle.sock_tcp.specs.Kept.{delay_kept, kept};
     ghost use Rattle.sock_tcp.specs.Queue.{queue_of};
     ghost use Rattle.sock_tcp.specs.View.{View, IsSound};
 
@@ -121,8 +137,8 @@ impl<'a> Model for ControlBlock<'a> {
       rx_buffer = s.rx_buffer;
       rx_fin_received = s.rx_fin_received;
       tx_buffer = queue_of s.tx_buffer;
-      timeout = s.timeout;
-      keep_alive = s.keep_alive;
+      timeout = kept s.has_timeout s.timeout;
+      keep_alive = kept s.has_keep_alive s.keep_alive;
       hop_limit = s.hop_limit;
       listen_endpoint = s.listen_endpoint;
       tuple = s.tuple;
@@ -136,13 +152,13 @@ impl<'a> Model for ControlBlock<'a> {
       remote_win_scale = s.remote_win_scale;
       remote_has_sack = s.remote_has_sack;
       remote_mss = s.remote_mss;
-      remote_last_ts = s.remote_last_ts;
-      local_rx_last_seq = s.local_rx_last_seq;
-      local_rx_last_ack = s.local_rx_last_ack;
+      remote_last_ts = kept s.has_remote_last_ts s.remote_last_ts;
+      local_rx_last_seq = kept s.has_local_rx_last_seq s.local_rx_last_seq;
+      local_rx_last_ack = kept s.has_local_rx_last_ack s.local_rx_last_ack;
       local_rx_dup_acks = s.local_rx_dup_acks;
       pending_fast_retransmit = s.pending_fast_retransmit;
-      ack_delay = s.ack_delay;
-      ack_delay_timer = s.ack_delay_timer;
+      ack_delay = kept s.has_ack_delay s.ack_delay;
+      ack_delay_timer = delay_kept s.ack_delay_kind s.ack_delay_until;
       challenge_ack_timer = s.challenge_ack_timer;
       nagle = s.nagle;
       congestion_controller = s.congestion_controller;
@@ -154,14 +170,18 @@ impl<'a> Model for ControlBlock<'a> {
       sacked = s.sacked;
       snd_wl1 = s.snd_wl1;
       snd_wl2 = s.snd_wl2;
-      idle_at = s.idle_at;
+      idle_at = kept s.has_idle_at s.idle_at;
       largest_window = s.largest_window;
       undo = s.undo;
+      close_waits = s.close_waits;
+      reordering = s.reordering;
     } };
 
     ghost invariant = { λ s. IsSound s.rx_buffer (queue_of s.tx_buffer) s.tuple
         s.remote_win_shift s.remote_win_scale
-        s.remote_mss s.timeout s.keep_alive s.ack_delay s.remote_last_ts s.timer s.state s.rx_fin_received };
+        s.remote_mss (kept s.has_timeout s.timeout) (kept s.has_keep_alive s.keep_alive)
+        (kept s.has_ack_delay s.ack_delay) (kept s.has_remote_last_ts s.remote_last_ts)
+        s.timer s.state s.rx_fin_received };
 }
 
 impl<'a> ControlBlock<'a> {

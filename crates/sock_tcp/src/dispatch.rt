@@ -12,10 +12,10 @@ use crate::control_block::ControlBlock;
 use crate::emission::{Emitted, Kind};
 use crate::ended::by_dispatch;
 use crate::generator::TsvalSource;
+use crate::kept::DelayKind;
 use crate::recovery::Recovery;
 use crate::socket::Socket;
 use crate::state::State;
-use crate::timer::AckDelayTimer;
 use control_wire::TcpRepr;
 use ip_wire::IpRepr;
 use net_base::time::Instant;
@@ -31,8 +31,8 @@ impl<'a> ControlBlock<'a> {
         ensures view { self.new ≡ after_any self.old now }
         ensures stamps { self.new.stamps ≡ self.old.stamps }
     {
-        self.timer = self.timer.keep_alive_renewed(now, self.keep_alive);
-        self.ack_delay_timer = AckDelayTimer::Idle;
+        self.timer = self.timer.keep_alive_renewed(now, self.keep_alive());
+        self.ack_delay_kind = DelayKind::Idle;
         self.pending_fast_retransmit = self.pending_fast_retransmit && !self.state.carries_data();
     }
 
@@ -206,7 +206,7 @@ impl<'a, G: TsvalSource> Socket<'a, G> {
         self.ended = by_dispatch(
             before,
             block.state,
-            block.remote_last_ts.is_some(),
+            block.remote_last_ts().is_some(),
             self.ended,
         );
     }

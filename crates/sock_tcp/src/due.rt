@@ -4,7 +4,7 @@ ghost use Rattle.sock_core.specs.Bounds.{IsMoment};
 ghost use Rattle.sock_tcp.specs.View.{moment_of};
 ghost use Rattle.sock_tcp.specs.Due.{control_due, own_mss, effective_mss, timestamp_room};
 ghost use Rattle.sock_tcp.specs.Due.{flight, limited, congestion_left, sendable, waits_by_nagle, is_held_back};
-ghost use Rattle.sock_tcp.specs.Due.{data_due, ack_due};
+ghost use Rattle.sock_tcp.specs.Due.{data_due, data_due_by, ack_due};
 ghost use Rattle.sock_tcp.specs.Due.{ack_poll};
 ghost use Rattle.sock_tcp.specs.Due.{edge_sent, field_left, is_doubled, window_doubled, is_due};
 
@@ -62,15 +62,15 @@ impl<'a> ControlBlock<'a> {
         self.remote_last_seq.since(self.local_seq_no)
     }
 
-    // What the first two duplicates let out beyond the congestion window, a segment each (RFC 3042), or a tail-loss
-    // probe of new bytes.
+    // What the first two duplicates let out beyond the congestion window, a segment each (RFC 3042), or what was told
+    // while a loss is waited for, or a tail-loss probe of new bytes.
     fn limited(&self) -> usize
         ensures { result ≡ limited self.now }
     {
         match (self.rules, self.recovery) {
             (Rules::Rfc, Recovery::Probe { again: false, .. }) => self.remote_mss,
             (Rules::Rfc, Recovery::Open) | (Rules::Rfc, Recovery::Probe { .. }) => {
-                (self.local_rx_dup_acks.min(2) as usize) * self.remote_mss
+                ((self.local_rx_dup_acks.min(2) as usize) * self.remote_mss).max(self.told_late())
             }
             _ => 0,
         }
@@ -134,9 +134,20 @@ impl<'a> ControlBlock<'a> {
         if self.tx_buffer.is_empty() {
             return self.control_due();
         }
+        self.data_due_by(self.effective_mss(cx, tuple))
+    }
+
+    // The same with segments of up to so many bytes.
+    #[inline(always)]
+    pub(crate) fn data_due_by(&self, mss: usize) -> bool
+        ensures { result ≡ data_due_by self.now mss }
+    {
+        if self.tx_buffer.is_empty() {
+            return self.control_due();
+        }
         let marked = self.pending_fast_retransmit;
         let out = self.sendable();
-        let some = out != 0 && !self.is_held_back(out, self.effective_mss(cx, tuple));
+        let some = out != 0 && !self.is_held_back(out, mss);
         marked || some || self.control_due()
     }
 
@@ -165,7 +176,7 @@ impl<'a> ControlBlock<'a> {
         ensures { result ≡ ack_poll self.now }
     {
         if self.ack_due() {
-            self.ack_delay_timer.poll_at()
+            self.ack_delay_timer().poll_at()
         } else {
             PollAt::Ingress
         }

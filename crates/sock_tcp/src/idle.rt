@@ -14,7 +14,7 @@ impl<'a> ControlBlock<'a> {
     fn was_idle(&self, now: Instant) -> bool
         ensures { result ≡ was_idle self.now.idle_at now }
     {
-        match self.idle_at {
+        match self.idle_at() {
             None => false,
             Some(at) => is_over(at, now),
         }
@@ -32,6 +32,7 @@ impl<'a> ControlBlock<'a> {
         if self.was_idle(now) {
             self.congestion_controller.restart();
         }
-        self.idle_at = Some(after(now, self.rtte.retransmission_timeout()));
+        self.has_idle_at = true;
+        self.idle_at = after(now, self.rtte.retransmission_timeout());
     }
 }

@@ -10,11 +10,12 @@ ghost use Rattle.sock_tcp.specs.Opening.{Connects};
 
 use crate::control_block::ControlBlock;
 use crate::error::{ConnectError, ListenError};
+use crate::kept::DelayKind;
 use crate::recovery::Recovery;
 use crate::rules::Rules;
 use crate::scoreboard::NOTHING_TOLD;
 use crate::state::State;
-use crate::timer::{AckDelayTimer, Timer};
+use crate::timer::Timer;
 use crate::tuple::Tuple;
 use crate::undo::NOTHING_TO_UNDO;
 use control_wire::TcpSeqNumber;
@@ -55,8 +56,10 @@ impl<'a> ControlBlock<'a> {
             rx_buffer: ReceiveBuffer::new(rx_buffer),
             rx_fin_received: false,
             tx_buffer,
-            timeout: None,
-            keep_alive: None,
+            has_timeout: false,
+            timeout: Duration::ZERO,
+            has_keep_alive: false,
+            keep_alive: Duration::ZERO,
             hop_limit: None,
             listen_endpoint: IpListenEndpoint::default(),
             tuple: None,
@@ -70,13 +73,18 @@ impl<'a> ControlBlock<'a> {
             remote_win_scale: None,
             remote_has_sack: false,
             remote_mss: DEFAULT_MSS,
-            remote_last_ts: None,
-            local_rx_last_seq: None,
-            local_rx_last_ack: None,
+            has_remote_last_ts: false,
+            remote_last_ts: Instant::ZERO,
+            has_local_rx_last_seq: false,
+            local_rx_last_seq: TcpSeqNumber(0),
+            has_local_rx_last_ack: false,
+            local_rx_last_ack: TcpSeqNumber(0),
             local_rx_dup_acks: 0,
             pending_fast_retransmit: false,
-            ack_delay: Some(ACK_DELAY),
-            ack_delay_timer: AckDelayTimer::Idle,
+            has_ack_delay: true,
+            ack_delay: ACK_DELAY,
+            ack_delay_kind: DelayKind::Idle,
+            ack_delay_until: Instant::ZERO,
             challenge_ack_timer: Instant::ZERO,
             nagle: true,
             congestion_controller: AnyController::new(),
@@ -88,9 +96,12 @@ impl<'a> ControlBlock<'a> {
             sacked: NOTHING_TOLD,
             snd_wl1: TcpSeqNumber(0),
             snd_wl2: TcpSeqNumber(0),
-            idle_at: None,
+            has_idle_at: false,
+            idle_at: Instant::ZERO,
             largest_window: 0,
             undo: NOTHING_TO_UNDO,
+            close_waits: false,
+            reordering: 0,
         }
     }
 
@@ -117,19 +128,21 @@ impl<'a> ControlBlock<'a> {
         self.remote_win_len = 0;
         self.remote_win_scale = None;
         self.remote_mss = DEFAULT_MSS;
-        self.remote_last_ts = None;
+        self.has_remote_last_ts = false;
         self.local_rx_dup_acks = 0;
         self.pending_fast_retransmit = false;
-        self.ack_delay_timer = AckDelayTimer::Idle;
+        self.ack_delay_kind = DelayKind::Idle;
         self.challenge_ack_timer = Instant::ZERO;
         self.congestion_controller = self.congestion_control().controller();
         self.recovery = Recovery::Open;
         self.sacked = NOTHING_TOLD;
         self.snd_wl1 = TcpSeqNumber(0);
         self.snd_wl2 = TcpSeqNumber(0);
-        self.idle_at = None;
+        self.has_idle_at = false;
         self.largest_window = 0;
         self.undo = NOTHING_TO_UNDO;
+        self.close_waits = false;
+        self.reordering = 0;
     }
 
     pub(crate) fn is_open(&self) -> bool

@@ -27,7 +27,7 @@ impl SackBlock {
 impl Scoreboard {
     // How many of the bytes before a place were told.
     #[tactic(auto, unfolding(crate::specs::Rfc::Pipe::told_before))]
-    fn told_before(&self, place: u64) -> u64
+    pub(crate) fn told_before(&self, place: u64) -> u64
         requires { place ≤ 2 ^ 32 }
         ensures value { result ≡ told_before self.now place }
         ensures small { result ≤ place }

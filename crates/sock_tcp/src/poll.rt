@@ -3,7 +3,7 @@ ghost use Rattle.std.specs.Prelude.{◌≡◌, IsTrue, Some, false};
 ghost use Rattle.sock_tcp.specs.View.{IsShort};
 ghost use Rattle.sock_tcp.specs.Timers.{IsLastTs};
 ghost use Rattle.sock_tcp.specs.Polls.{is_reached, earlier, timeout_poll, timer_poll};
-ghost use Rattle.sock_tcp.specs.Poll.{is_due_now, poll_moment, poll_moment_to};
+ghost use Rattle.sock_tcp.specs.Poll.{is_due_by, is_due_now, poll_moment, poll_moment_by};
 ghost use Rattle.sock_tcp.specs.Window.{next_ack};
 ghost use Rattle.sock_tcp.specs.Due.{ack_due, held_poll, window_doubled};
 ghost use Rattle.sock_core.specs.Facts.{Facts};
@@ -14,7 +14,6 @@ use crate::control_block::ControlBlock;
 use crate::socket::Socket;
 use crate::state::State;
 use crate::timer::{Timer, after, is_over};
-use crate::tuple::Tuple;
 use net_base::time::{Duration, Instant};
 use sock_core::{Context, PollAt};
 
@@ -68,16 +67,16 @@ impl<'a> ControlBlock<'a> {
         )
     }
 
-    fn is_due_now<C: Context>(&self, cx: &C, tuple: &Tuple) -> bool
-        ensures { result ≡ is_due_now self.now tuple.now (C.facts cx.now) }
+    fn is_due_by(&self, mss: usize) -> bool
+        ensures { result ≡ is_due_by self.now mss }
     {
-        self.remote_last_ts.is_none()
+        self.remote_last_ts().is_none()
             || self.state.is_closed()
-            || self.data_due(cx, tuple)
+            || self.data_due_by(mss)
             || self.window_doubled()
     }
 
-    #[tactic(auto, unfolding(crate::specs::Poll::poll_moment))]
+    #[tactic(auto, unfolding(crate::specs::Poll::poll_moment, crate::specs::Due::data_due))]
     fn poll_at<C: Context>(&self, cx: &C) -> PollAt
         ensures { result ≡ poll_moment self.now (C.facts cx.now) }
     {
@@ -85,21 +84,22 @@ impl<'a> ControlBlock<'a> {
             None => return PollAt::Ingress,
             Some(tuple) => tuple,
         };
-        let timeout = timeout_poll(self.timeout, self.remote_last_ts);
+        let timeout = timeout_poll(self.timeout(), self.remote_last_ts());
         if self.is_quiet() {
             return self.timer_or(timeout);
         }
-        self.poll_at_in_full(cx, tuple, timeout)
+        self.poll_at_in_full(self.effective_mss(cx, tuple), timeout)
     }
 
-    // The poll moment of a socket with a peer, by all that it may wait for. Not inlined, so that the path of a quiet
-    // socket has no registers to save.
+    // The poll moment of a socket with a peer, by all that it may wait for, with segments of up to so many bytes. Not
+    // inlined, so that the path of a quiet socket has no registers to save; and of the context it takes the one number,
+    // which then need not lie in memory.
     #[inline(never)]
-    fn poll_at_in_full<C: Context>(&self, cx: &C, tuple: &Tuple, timeout: PollAt) -> PollAt
+    fn poll_at_in_full(&self, mss: usize, timeout: PollAt) -> PollAt
         requires { timeout ≡ timeout_poll self.now.timeout self.now.remote_last_ts }
-        ensures { result ≡ poll_moment_to (Some tuple.now) self.now (C.facts cx.now) }
+        ensures { result ≡ poll_moment_by self.now mss }
     {
-        if self.is_due_now(cx, tuple) {
+        if self.is_due_by(mss) {
             return PollAt::Now;
         }
         match self.held_poll() {
@@ -115,7 +115,7 @@ impl<'a> ControlBlock<'a> {
         ensures due { IsTrue result → (t : Tuple) (f : Facts) → is_due_now self.now t f ≡ false }
         ensures held { IsTrue result → held_poll self.now ≡ PollAt.Ingress }
     {
-        match (self.state, self.remote_last_ts) {
+        match (self.state, self.remote_last_ts()) {
             (State::Established, Some(_)) => self.tx_buffer.is_empty() && self.has_told_all(),
             _ => false,
         }

@@ -10,10 +10,10 @@ ghost use Rattle.sock_tcp.specs.Arrival.{arrival};
 ghost use Rattle.sock_tcp.specs.Process.{IsToListener, IsAddressed, Opens, Accepts, tuple_of, has_window};
 ghost use Rattle.sock_tcp.specs.Process.{answered, challenged, close_restarted, outside, bytes_taken};
 ghost use Rattle.sock_tcp.specs.Process.{without_place};
-ghost use Rattle.sock_tcp.specs.Process.{by_verdict, processed_inside, tested, processed};
+ghost use Rattle.sock_tcp.specs.Process.{by_verdict, closed_then, processed_inside, tested, processed};
 ghost use Rattle.sock_tcp.specs.Draw.{draws, Draws};
 ghost use Rattle.sock_tcp.specs.Rfc.Recovery.{recovered_by};
-ghost use Rattle.sock_tcp.specs.Rfc.Windows.{windowed};
+ghost use Rattle.sock_tcp.specs.Rfc.Windows.{ack_heeded, windowed};
 ghost use Rattle.sock_tcp.specs.Window.{accepted_window};
 ghost use Rattle.sock_tcp.specs.declared.rules.Rules.TheVariants.{Rfc};
 
@@ -242,7 +242,8 @@ impl<'a> ControlBlock<'a> {
             offset: cut.offset,
             bytes,
         };
-        self.local_rx_last_seq = Some(number);
+        self.has_local_rx_last_seq = true;
+        self.local_rx_last_seq = number;
         self.process_inside(cx, now, taken, ip_repr, repr)
     }
 
@@ -281,7 +282,8 @@ impl<'a> ControlBlock<'a> {
         repr: &TcpRepr<'_>,
     ) -> Answer
         requires moment { IsMoment now.micros }
-        requires passed { verdict_of self.old repr.now.control repr.now.ack_number ≡ Pass }
+        requires passed { verdict_of self.old repr.now.control
+            (ack_heeded Rfc self.old (segment_of repr.now) repr.now.ack_number) ≡ Pass }
         requires small { length repr.now.payload.now ≤ 65535 }
         ensures table { answered result self.new (segment_of repr.now)
             ≡ recovered_by Rfc self.old now (windowed Rfc self.old (segment_of repr.now))
@@ -291,6 +293,30 @@ impl<'a> ControlBlock<'a> {
     {
         let windowed = self.windowed(repr);
         self.process_and_recover(cx, now, ip_repr, &windowed)
+    }
+
+    // And a close that waited is done then.
+    #[inline(always)]
+    fn process_and_close<C: Context>(
+        &mut self,
+        cx: &mut C,
+        now: Instant,
+        ip_repr: &IpRepr,
+        repr: &TcpRepr<'_>,
+    ) -> Answer
+        requires moment { IsMoment now.micros }
+        requires passed { verdict_of self.old repr.now.control
+            (ack_heeded Rfc self.old (segment_of repr.now) repr.now.ack_number) ≡ Pass }
+        requires small { length repr.now.payload.now ≤ 65535 }
+        ensures table { answered result self.new (segment_of repr.now)
+            ≡ closed_then Rfc (recovered_by Rfc self.old now (windowed Rfc self.old (segment_of repr.now))
+            (tested (has_window self.old.state) self.old (arrival now (tuple_of ip_repr.now (segment_of repr.now))
+            (C.word_at cx.old 0) (windowed Rfc self.old (segment_of repr.now))))) }
+        ensures context { Draws (draws Pass self.old.state repr.now.control) C.facts C.word_at cx.old cx.new }
+    {
+        let answer = self.process_by_rfc(cx, now, ip_repr, repr);
+        self.close_late();
+        answer
     }
 
     // By the socket's rules.
@@ -303,7 +329,8 @@ impl<'a> ControlBlock<'a> {
         repr: &TcpRepr<'_>,
     ) -> Answer
         requires moment { IsMoment now.micros }
-        requires passed { verdict_of self.old repr.now.control repr.now.ack_number ≡ Pass }
+        requires passed { verdict_of self.old repr.now.control
+            (ack_heeded self.old.rules self.old (segment_of repr.now) repr.now.ack_number) ≡ Pass }
         requires small { length repr.now.payload.now ≤ 65535 }
         ensures table { answered result self.new (segment_of repr.now)
             ≡ by_verdict self.old.rules Pass self.old (arrival now (tuple_of ip_repr.now (segment_of repr.now))
@@ -315,7 +342,7 @@ impl<'a> ControlBlock<'a> {
                 let window = self.receive_window();
                 self.process_passed(cx, now, window, ip_repr, repr)
             }
-            Rules::Rfc => self.process_by_rfc(cx, now, ip_repr, repr),
+            Rules::Rfc => self.process_and_close(cx, now, ip_repr, repr),
         }
     }
 

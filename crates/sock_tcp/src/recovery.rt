@@ -98,7 +98,7 @@ pub(crate) fn is_fast(timer: Timer) -> bool
 }
 
 impl Recovery {
-    fn is_over(self) -> bool
+    pub(crate) fn is_over(self) -> bool
         ensures { result ≡ is_over self }
     {
         matches!(self, Recovery::Open | Recovery::Probe { .. })
@@ -240,11 +240,12 @@ impl Before {
         }
     }
 
-    // Duplicates begin a recovery, where none goes on.
+    // Duplicates begin a recovery, where none goes on, and the loss is not waited for.
     fn begins(&self, after: &ControlBlock<'_>) -> bool
         ensures { result ≡ begins self.now after.now }
     {
-        after.may_resend() && (self.tells_loss(after) && self.recovery.is_over())
+        after.may_resend()
+            && (self.tells_loss(after) && (self.recovery.is_over() && !self.is_waited(after)))
     }
 
     // A hole goes out again, or the segment at SND.UNA.
@@ -288,7 +289,7 @@ impl Before {
         recovery.gone_on(after.local_seq_no)
     }
 
-    fn duplicates_after(&self, after: &ControlBlock<'_>) -> u8
+    pub(crate) fn duplicates_after(&self, after: &ControlBlock<'_>) -> u8
         ensures { result ≡ duplicates_after self.now after.now }
     {
         if self.is_void(after) {
@@ -403,7 +404,7 @@ impl<'a> ControlBlock<'a> {
     }
 
     // There are bytes to send again.
-    fn may_resend(&self) -> bool
+    pub(crate) fn may_resend(&self) -> bool
         ensures { result ≡ may_resend self.now }
     {
         self.state.carries_data() && !self.tx_buffer.is_empty()
@@ -449,6 +450,7 @@ impl<'a> ControlBlock<'a> {
         let undone = before.is_undone(self);
         let marked = (self.pending_fast_retransmit || before.marks(self)) && !undone;
         let undo = before.undo_after(self);
+        let reordering = before.reordering_after(self);
         self.timer = timer;
         self.rtte = rtte;
         self.local_rx_dup_acks = duplicates;
@@ -458,5 +460,6 @@ impl<'a> ControlBlock<'a> {
         self.sacked = sacked;
         self.largest_window = largest;
         self.undo = undo;
+        self.reordering = reordering;
     }
 }

@@ -92,7 +92,7 @@ impl<'a> ControlBlock<'a> {
         ensures { result ≡ chosen_range (edges (ranges_of self.now.rx_buffer.held)) (next_ack self.now)
             self.now.local_rx_last_seq }
     {
-        let around = match self.local_rx_last_seq {
+        let around = match self.local_rx_last_seq() {
             None => None,
             Some(number) => self.rx_buffer.range_around(number.since(self.next_ack())),
         };

@@ -57,7 +57,7 @@ impl<'a> ControlBlock<'a> {
         requires { IsShort interval }
         ensures { self.new ≡ keep_alive_set self.old interval }
     {
-        self.keep_alive = interval;
+        self.keep_keep_alive(interval);
         if let (
             Some(_),
             Timer::Idle {
@@ -95,7 +95,7 @@ impl<'a, G> Socket<'a, G> {
     pub fn timeout(&self) -> Option<Duration>
         ensures { result ≡ self.now.control_block.timeout }
     {
-        self.control_block.timeout
+        self.control_block.timeout()
     }
 
     /// Sets the user timeout, of at most 2^61 microseconds.
@@ -105,7 +105,7 @@ impl<'a, G> Socket<'a, G> {
         ensures generator { self.new.tsval_generator ≡ self.old.tsval_generator }
         ensures ended { self.new.ended ≡ self.old.ended }
     {
-        self.control_block.timeout = duration;
+        self.control_block.keep_timeout(duration);
     }
 
     /// The lowest retransmission timeout that a measured round trip makes: a second in a new socket (RFC 6298, section
@@ -136,7 +136,7 @@ impl<'a, G> Socket<'a, G> {
     pub fn ack_delay(&self) -> Option<Duration>
         ensures { result ≡ self.now.control_block.ack_delay }
     {
-        self.control_block.ack_delay
+        self.control_block.ack_delay()
     }
 
     /// Sets how long an acknowledgement may wait, at most 2^61 microseconds, or lets none wait.
@@ -146,7 +146,7 @@ impl<'a, G> Socket<'a, G> {
         ensures generator { self.new.tsval_generator ≡ self.old.tsval_generator }
         ensures ended { self.new.ended ≡ self.old.ended }
     {
-        self.control_block.ack_delay = duration;
+        self.control_block.keep_ack_delay(duration);
     }
 
     /// Whether small segments wait while bytes are in flight (RFC 9293, section 3.7.4); they do in a new socket.
@@ -169,7 +169,7 @@ impl<'a, G> Socket<'a, G> {
     pub fn keep_alive(&self) -> Option<Duration>
         ensures { result ≡ self.now.control_block.keep_alive }
     {
-        self.control_block.keep_alive
+        self.control_block.keep_alive()
     }
 
     /// Sets the interval of keep-alives, of at most 2^61 microseconds, or lets none go out. Where none is to come and

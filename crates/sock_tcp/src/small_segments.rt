@@ -41,7 +41,7 @@ impl<'a> ControlBlock<'a> {
             self.now.largest_window }
     {
         self.remote_win_len < self.largest_window / 2
-            && (self.idle_at.is_some() && !self.recovery.sends_again())
+            && (self.has_idle_at && !self.recovery.sends_again())
     }
 
     // Whether the peer's window makes the next segment smaller than one of `mss` bytes, or the congestion window does
@@ -98,7 +98,7 @@ impl<'a> ControlBlock<'a> {
         ensures { result ≡ small_poll ((flight self.now == 0) && not (sendable self.now == 0)) self.now.idle_at }
     {
         if self.flight() == 0 && self.sendable() != 0 {
-            moment_at(self.idle_at)
+            moment_at(self.idle_at())
         } else {
             PollAt::Ingress
         }

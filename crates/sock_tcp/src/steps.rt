@@ -13,6 +13,7 @@ ghost use Rattle.sock_tcp.specs.Timers.{IsTimer};
 
 use crate::acked::Acked;
 use crate::control_block::ControlBlock;
+use crate::kept::DelayKind;
 use crate::rules::Rules;
 use crate::timer::{AckDelayTimer, Timer, after};
 use control_wire::{TcpControl, TcpRepr, TcpSeqNumber};
@@ -38,7 +39,8 @@ impl<'a> ControlBlock<'a> {
             _ => (field as usize) << scale,
         };
         let changed = window != self.remote_win_len;
-        self.remote_last_ts = Some(now);
+        self.has_remote_last_ts = true;
+        self.remote_last_ts = now;
         self.remote_win_len = window;
         self.congestion_controller.set_remote_window(window);
         changed
@@ -56,7 +58,7 @@ impl<'a> ControlBlock<'a> {
     pub(crate) fn is_duplicate(&self, ack: TcpSeqNumber, length: usize, changed: bool) -> bool
         ensures { result ≡ is_duplicate self.now ack length changed }
     {
-        let is_last = match self.local_rx_last_ack {
+        let is_last = match self.local_rx_last_ack() {
             None => false,
             Some(last) => last == ack,
         };
@@ -83,7 +85,8 @@ impl<'a> ControlBlock<'a> {
         ensures received { self.new.rx_buffer ≡ self.old.rx_buffer }
     {
         self.local_rx_dup_acks = 0;
-        self.local_rx_last_ack = Some(ack);
+        self.has_local_rx_last_ack = true;
+        self.local_rx_last_ack = ack;
         self.rtte.on_ack(now, ack);
         let flight = self.flight().saturating_sub(count);
         self.congestion_controller
@@ -154,10 +157,10 @@ impl<'a> ControlBlock<'a> {
         ensures lawful { IsTimer result }
     {
         match self.timer {
-            Timer::Idle { .. } => Timer::idle(now, self.keep_alive),
+            Timer::Idle { .. } => Timer::idle(now, self.keep_alive()),
             Timer::Retransmit { .. } | Timer::FastRetransmit => {
                 if acked.all {
-                    Timer::idle(now, self.keep_alive)
+                    Timer::idle(now, self.keep_alive())
                 } else if acked.len == 0 {
                     self.timer
                 } else {
@@ -184,7 +187,7 @@ impl<'a> ControlBlock<'a> {
         match (self.remote_win_len, timer) {
             (0, _) if self.begins_probe(timer, acked) => Timer::probe(now, &self.rtte),
             (0, _) => timer,
-            (_, Timer::ZeroWindowProbe { .. }) => Timer::idle(now, self.keep_alive),
+            (_, Timer::ZeroWindowProbe { .. }) => Timer::idle(now, self.keep_alive()),
             _ => timer,
         }
     }
@@ -242,20 +245,21 @@ impl<'a> ControlBlock<'a> {
         requires { IsMoment now.micros }
         ensures { self.new ≡ ack_delayed self.old now }
     {
-        let delay = match self.ack_delay {
+        let delay = match self.ack_delay() {
             None => return,
             Some(delay) => delay,
         };
         if !self.is_ack_owed(0) {
             return;
         }
-        match self.ack_delay_timer {
+        match self.ack_delay_timer() {
             AckDelayTimer::Idle => {
-                self.ack_delay_timer = AckDelayTimer::Waiting(after(now, delay));
+                self.ack_delay_kind = DelayKind::Waiting;
+                self.ack_delay_until = after(now, delay);
             }
             AckDelayTimer::Waiting(_) => {
                 if self.is_ack_owed(self.remote_mss) {
-                    self.ack_delay_timer = AckDelayTimer::Immediate;
+                    self.ack_delay_kind = DelayKind::Immediate;
                 }
             }
             AckDelayTimer::Immediate => {}

@@ -5,9 +5,11 @@
 //! ends before the last byte, and what is lost behind it waits for the timeout. Where the last segment was acknowledged
 //! in part before its emit succeeded, the segment at SND.UNA goes out in its place. Where the timeout is earlier than
 //! the probe, the probe takes its place, and the timeout comes one timeout later.
-ghost use Rattle.std.specs.Prelude.{◌≡◌, ◌≤◌};
+ghost use Rattle.std.specs.Prelude.{◌≡◌, ◌≤◌, true, false};
 ghost use Rattle.sock_core.specs.Bounds.{IsMoment};
 ghost use Rattle.sock_tcp.specs.Rfc.Recovery.{is_probe_told, is_told_to_end, waits_tail};
+ghost use Rattle.sock_tcp.specs.Rfc.Reordering.{is_late};
+ghost use Rattle.sock_tcp.specs.Rfc.TailLoss.{may_speak, probed_by};
 ghost use Rattle.sock_tcp.specs.Rfc.TailLoss.{is_alone, is_calm, last_len, margin_of, may_probe, may_probe_by};
 ghost use Rattle.sock_tcp.specs.Rfc.TailLoss.{probe_of, sooner, tail_armed, tail_from, tail_probed, tail_set};
 ghost use Rattle.sock_tcp.specs.Rfc.TailLoss.{tail_wait};
@@ -21,6 +23,7 @@ use crate::scoreboard::Scoreboard;
 use crate::timer::{Timer, after, is_over};
 use control_wire::TcpSeqNumber;
 use net_base::time::{Duration, Instant};
+use sock_core::congestion::Controller;
 use sock_core::rtte::RttEstimator;
 use sock_core::seq::before;
 
@@ -154,13 +157,21 @@ impl<'a> ControlBlock<'a> {
         peer && (bytes && (self.remote_win_len != 0 && self.rtte.is_measured()))
     }
 
-    // A probe goes out where the retransmission timer is over.
-    pub(crate) fn may_probe_now(&self) -> bool
-        ensures { result ≡ may_probe_by self.now.rules (may_probe self.now.recovery self.now) }
+    // A loss was waited for, or a probe may go out.
+    #[tactic(auto, unfolding(crate::specs::Rfc::TailLoss::may_speak))]
+    fn may_speak(&self) -> bool
+        ensures { result ≡ may_speak self.now }
+    {
+        self.is_late() || self.may_probe(self.recovery)
+    }
+
+    // The same, where the retransmission timer is over.
+    pub(crate) fn may_speak_now(&self) -> bool
+        ensures { result ≡ may_probe_by self.now.rules (may_speak self.now) }
     {
         match self.rules {
             Rules::Smoltcp => false,
-            Rules::Rfc => self.may_probe(self.recovery),
+            Rules::Rfc => self.may_speak(),
         }
     }
 
@@ -194,11 +205,32 @@ impl<'a> ControlBlock<'a> {
         }
     }
 
-    // A segment of new bytes is to go out, or the last one again; then the retransmission timer runs.
-    #[tactic(auto, unfolding(crate::specs::Rfc::TailLoss::tail_probed))]
-    pub(crate) fn probe_tail(&mut self, now: Instant)
+    // A fast recovery begins with the segment at SND.UNA; then the retransmission timer runs.
+    #[tactic(auto, unfolding(crate::specs::Rfc::TailLoss::probed_by))]
+    fn begin_recovery(&mut self, now: Instant)
         requires { IsMoment now.micros }
-        ensures table { self.new ≡ tail_probed self.old now }
+        ensures table { self.new ≡ probed_by true self.old now }
+        ensures stamps { self.new.stamps ≡ self.old.stamps }
+    {
+        let flight = self.flight_lost();
+        self.undo = self.undo.marked(self.rules, &self.congestion_controller);
+        self.congestion_controller.on_loss(now, flight);
+        self.recovery = Recovery::Fast {
+            point: self.remote_last_seq,
+            high_rxt: self.local_seq_no,
+            resent_at: self.remote_last_seq,
+            acked: false,
+        };
+        self.pending_fast_retransmit = true;
+        self.rtte.on_retransmit();
+        self.timer = Timer::retransmit(now, &self.rtte);
+    }
+
+    // A segment of new bytes is to go out, or the last one again; then the retransmission timer runs.
+    #[tactic(auto, unfolding(crate::specs::Rfc::TailLoss::probed_by))]
+    fn begin_probe_of_tail(&mut self, now: Instant)
+        requires { IsMoment now.micros }
+        ensures table { self.new ≡ probed_by false self.old now }
         ensures stamps { self.new.stamps ≡ self.old.stamps }
     {
         self.recovery = self.probe(false);
@@ -208,5 +240,19 @@ impl<'a> ControlBlock<'a> {
         self.pending_fast_retransmit = again;
         self.rtte.on_retransmit();
         self.timer = Timer::retransmit(now, &self.rtte);
+    }
+
+    // The hole goes out for which a loss was waited, or a probe.
+    #[tactic(auto, unfolding(crate::specs::Rfc::TailLoss::tail_probed))]
+    pub(crate) fn probe_tail(&mut self, now: Instant)
+        requires { IsMoment now.micros }
+        ensures table { self.new ≡ tail_probed self.old now }
+        ensures stamps { self.new.stamps ≡ self.old.stamps }
+    {
+        if self.is_late() {
+            self.begin_recovery(now)
+        } else {
+            self.begin_probe_of_tail(now)
+        }
     }
 }

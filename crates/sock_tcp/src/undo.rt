@@ -1,5 +1,5 @@
-//! What undoes a recovery that was for nothing, by the RFCs' rules: segments came late and were not lost, as the echo of
-//! a timestamp tells (RFC 3522) or, without timestamps, D-SACKs of all that went out again (RFC 3708).
+//! What undoes a recovery that was for nothing, by the RFCs' rules: segments came late and were not lost, as the echo
+//! of a timestamp tells (RFC 3522) or, without timestamps, D-SACKs of all that went out again (RFC 3708).
 ghost use Rattle.std.specs.Prelude.{◌≡◌, ◌≤◌, ◌<◌, ◌^◌, length};
 ghost use Rattle.control_wire.specs.Segment.{segment_of};
 ghost use Rattle.sock_tcp.specs.Rfc.Recovery.{controller_told, is_decided, is_decided_by, is_told_twice, is_undone, undone_if};

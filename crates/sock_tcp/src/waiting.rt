@@ -3,7 +3,7 @@
 ghost use Rattle.std.specs.Prelude.{◌≡◌, length};
 ghost use Rattle.sock_core.specs.Bounds.{IsMoment};
 ghost use Rattle.sock_tcp.specs.Due.{flight};
-ghost use Rattle.sock_tcp.specs.Rfc.Recovery.{begun_by, gone_on_from, has_timer, is_later_partial, kept_if};
+ghost use Rattle.sock_tcp.specs.Rfc.Recovery.{begun_by, gone_on_from, has_timer, heard_for, is_later_partial, kept_if};
 ghost use Rattle.sock_tcp.specs.Rfc.Recovery.{left_running, probe_soonest, running, soonest, timer_after, waited_for};
 ghost use Rattle.sock_tcp.specs.Timers.{IsTimer};
 
@@ -84,13 +84,13 @@ impl Before {
         let timer = self.kept(after, after.running(now));
         match self.timer {
             Timer::ZeroWindowProbe { .. } => timer,
-            _ => probe_soonest(after.idle_at, timer),
+            _ => probe_soonest(after.idle_at(), timer),
         }
     }
 
-    fn waited_for(&self, after: &ControlBlock<'_>, now: Instant) -> Timer
+    fn heard_for(&self, after: &ControlBlock<'_>, now: Instant) -> Timer
         requires { IsMoment now.micros }
-        ensures value { result ≡ waited_for self.now after.now now }
+        ensures value { result ≡ heard_for self.now after.now now }
         ensures lawful { IsTimer result }
     {
         if self.tells_controller(after) {
@@ -103,6 +103,15 @@ impl Before {
         let alone = after.is_alone();
         let running = self.left_running(after, now);
         running.or_tail(waits, now, &after.rtte, alone)
+    }
+
+    fn waited_for(&self, after: &ControlBlock<'_>, now: Instant) -> Timer
+        requires { IsMoment now.micros }
+        ensures value { result ≡ waited_for self.now after.now now }
+        ensures lawful { IsTimer result }
+    {
+        let timer = self.heard_for(after, now);
+        self.with_late(after, timer, now)
     }
 
     pub(crate) fn timer_after(&self, after: &ControlBlock<'_>, now: Instant) -> Timer
@@ -140,7 +149,7 @@ impl<'a> ControlBlock<'a> {
             Rules::Rfc if self.remote_win_len == 0 && !self.tx_buffer.is_empty() => {
                 Timer::probe(now, &self.rtte)
             }
-            _ => Timer::idle(now, self.keep_alive),
+            _ => Timer::idle(now, self.keep_alive()),
         }
     }
 
@@ -155,7 +164,7 @@ impl<'a> ControlBlock<'a> {
             Timer::Idle { .. } if self.flight() != 0 => Timer::retransmit(now, &self.rtte),
             Timer::ZeroWindowProbe { .. } if self.tx_buffer.len() <= self.flight() => {
                 if self.flight() == 0 {
-                    Timer::idle(now, self.keep_alive)
+                    Timer::idle(now, self.keep_alive())
                 } else {
                     Timer::retransmit(now, &self.rtte)
                 }

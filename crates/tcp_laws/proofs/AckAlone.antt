@@ -21,7 +21,7 @@ use Rattle.sock_tcp.specs.Polls.{is_reached, timeout_poll}
 use Rattle.sock_tcp.specs.Queue.{IsLent, Queue}
 use Rattle.sock_tcp.specs.Rfc.Scoreboard.{hole_number, hole_start}
 use Rattle.sock_tcp.specs.Timers.{idle_from, is_over, retransmit_from, rto_of}
-use Rattle.sock_tcp.specs.Rfc.TailLoss.{probes_tail, tail_probed}
+use Rattle.sock_tcp.specs.Rfc.TailLoss.{probes_tail, probed_by, tail_probed}
 use Rattle.sock_tcp.specs.declared.scoreboard.Hole.{Hole}
 use Rattle.sock_tcp.proofs.Holes.{again_some, start_within}
 use Rattle.sock_tcp.specs.View.{View, moment_of}
@@ -80,7 +80,7 @@ timer_settles (timer.ZeroWindowProbe at delay) x now paced is known e = go (is_o
 timer_settles (timer.Close at) x now paced is known e = record { known = known; alive = inr (e, subst (λ t. IsSet t now) (sym is) tt) }
 
 pub timers_settle : (x : View) (now : Instant) → 0 < x.rtte.rto → is_none x.remote_last_ts ≡ false → Settled (after_timers x now) now
-unfolding after_timers tail_probed
+unfolding after_timers tail_probed probed_by
 timers_settle x now paced known = go (is_reached (timeout_poll x.timeout x.remote_last_ts) now) refl
   where
     probed : (b : Bool) → is_reached (timeout_poll x.timeout x.remote_last_ts) now ≡ false → Settled (timers_by b x now) now

@@ -17,7 +17,8 @@ use Rattle.sock_core.specs.Seq.{later_of}
 use Rattle.sock_core.specs.declared.context.PollAt.TheVariants as poll
 use Rattle.sock_tcp.proofs.Arming.{armed_as}
 use Rattle.sock_tcp.specs.Begin.{before_emit, fast_retransmission_marked, peer_of, retransmission_begun}
-use Rattle.sock_tcp.specs.Closing.{closed_from}
+use Rattle.sock_tcp.specs.Closing.{waits_in}
+use Rattle.sock_tcp.proofs.Late.{called_as}
 use Rattle.sock_tcp.specs.Content.{Sending, content, emission_kind, filled, of_kind, plain_segment, sent_as}
 use Rattle.sock_tcp.specs.Due.{flight, is_closing}
 use Rattle.sock_tcp.specs.Opening.{Listens, connected, endpoints, is_listening, is_open, listened, renewed}
@@ -27,7 +28,7 @@ use Rattle.sock_tcp.specs.Queue.{queue_of}
 use Rattle.sock_tcp.specs.Queues.{first_probe, fitting, may_recv, may_send, queued, read_off, readable}
 use Rattle.sock_tcp.specs.Rfc.Idle.{idle_by, restarted_by}
 use Rattle.sock_tcp.specs.Rfc.Recovery.{begun_by, marked_by}
-use Rattle.sock_tcp.specs.Rfc.TailLoss.{tail_armed, tail_probed}
+use Rattle.sock_tcp.specs.Rfc.TailLoss.{tail_armed, probed_by, tail_probed}
 use Rattle.sock_tcp.specs.Rfc.RoundTrips.{sending_measured}
 use Rattle.sock_tcp.specs.Sent.{goes_on, after_any, after_probe, after_sending, emitted_as, left_by, sending_timed, snd_nxt_moved}
 use Rattle.sock_tcp.specs.Settings.{keep_alive_timer}
@@ -56,7 +57,7 @@ use Rattle.tcp_laws.proofs.Probing.{IsProbing, before_probing, kept_probing, rea
 use Rattle.tcp_laws.proofs.Repeating.{nxt_stays}
 use Rattle.tcp_laws.proofs.Ruled.{IsRuled, dispatch_ruled, is_rfc, process_ruled, uses_ruled}
 use Rattle.tcp_laws.proofs.Sleeping.{Waits, fin_due, no_peer, sleeps_only_so, waits}
-use Rattle.tcp_laws.proofs.Tabled.{AwakeIn, IsAwakeByRfc, Rests, process_awake}
+use Rattle.tcp_laws.proofs.Tabled.{AwakeIn, IsAwakeByRfc, Rests, close_row, process_awake}
 
 -- ---- timers
 
@@ -134,7 +135,7 @@ marked_rests rules.Smoltcp now keep e flight window n is = absurd cc
 marked_rests rules.Rfc now keep e flight window n is = tt
 
 begins_both : (now : Instant) → KeptByBeginnings Both now
-unfolding retransmission_begun fast_retransmission_marked tail_probed
+unfolding retransmission_begun fast_retransmission_marked tail_probed probed_by
 begins_both now = record {
   remembers = λ v h. ((begins_ordered now).remembers v h.0, h.1);
   tells = λ v h. ((begins_ordered now).tells v h.0, h.1);
@@ -251,14 +252,6 @@ decided_awake v w is n h = record { rfc = rfc_is w.rules (flag (λ x. is_rfc x.r
     flag : (f : View → Bool) → f w ≡ f v
     flag f = same_flag (f w) (f v) (λ d. n (λ e. d (ap f e)))
 
-close_row : (st : State) (t : Timer) (i window n : ℕ) → AwakeIn st t i window n → AwakeIn (closed_from st) t i window n
-close_row state.Listen t i window n h = tt
-close_row state.SynSent t i window n h = tt
-close_row state.SynReceived t i window n h = h
-close_row state.Established t i window n h = h
-close_row state.CloseWait t i window n h = h
-close_row _ t i window n h = h
-
 uses_awake : KeptByUses IsAwakeByRfc
 unfolding read_off connected listened renewed fresh
 uses_awake = record {
@@ -331,7 +324,7 @@ module _ (v w : View) (i j : Counts) where
     call_awake (WriteStr bs all h is) b o = slice bs h.view
     call_awake (RecvSlice bs bs' r h is) b o = by_rules (slice_read_kept Ruled (uses_ruled v.rules) v w (readable v (length bs)) (may_recv v) h.view refl) (slice_read_kept IsAwakeByRfc uses_awake v w (readable v (length bs)) (may_recv v) h.view) a.awake
     call_awake (Recv r h is) b o = by_rules (closure_read_kept Ruled (uses_ruled v.rules) (may_recv v) v w r h refl) (closure_read_kept IsAwakeByRfc uses_awake (may_recv v) v w r h) a.awake
-    call_awake (Close h is) b o = subst IsOwnAwake (sym h) (λ e. let k = a.awake e in record { rfc = k.rfc; row = close_row v.state v.timer (flight v) v.remote_win_len (length v.tx_buffer.bytes) k.row })
+    call_awake (Close h is) b o = subst IsOwnAwake (sym h) (λ e. let k = a.awake e in record { rfc = k.rfc; row = called_as (λ st. AwakeIn st v.timer (flight v) v.remote_win_len (length v.tx_buffer.bytes)) (waits_in v.state v.rules) v.state k.row (close_row v.state v.timer (flight v) v.remote_win_len (length v.tx_buffer.bytes) k.row) })
     call_awake (Abort h is) b o = subst IsOwnAwake (sym h) (λ e. record { rfc = e; row = tt })
     call_awake (Set x is) b o = sets_awake v w x b a.awake
     call_awake (Process r now word ip s small numbered short bare h is) b o = by_rules same step a.awake

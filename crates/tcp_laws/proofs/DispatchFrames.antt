@@ -9,7 +9,7 @@ use Rattle.sock_tcp.specs.Begin.{Begun, ended, readied, retransmission_begun, fa
 use Rattle.sock_tcp.specs.Content.{Sending}
 use Rattle.sock_tcp.specs.Due.{is_due}
 use Rattle.sock_tcp.specs.Opening.{renewed}
-use Rattle.sock_tcp.specs.Rfc.TailLoss.{tail_probed}
+use Rattle.sock_tcp.specs.Rfc.TailLoss.{probed_by, tail_probed}
 use Rattle.sock_tcp.specs.Sent.{after_any, after_probe, snd_nxt_moved}
 use Rattle.sock_tcp.specs.declared.rules.Rules.{Rules}
 use Rattle.sock_tcp.specs.declared.rules.Rules.TheVariants as rules
@@ -34,7 +34,7 @@ keeps_both v u w a b = record { tx = b.tx ∙ a.tx; rx = b.rx ∙ a.rx; una = b.
 -- ---- the beginning
 
 beginnings_keep : (v : View) (now : Instant) → KeptByBeginnings (Keeps v) now
-unfolding retransmission_begun fast_retransmission_marked tail_probed
+unfolding retransmission_begun fast_retransmission_marked tail_probed probed_by
 beginnings_keep v now = record {
   remembers = λ w k. record { tx = k.tx; rx = k.rx; una = k.una };
   tells = λ w k. record { tx = k.tx; rx = k.rx; una = k.una };

@@ -15,6 +15,7 @@ use Rattle.sock_tcp.specs.Rfc.Checks.{verdict_by}
 use Rattle.sock_tcp.specs.Window.{accepted_window, is_inside, cut_of, cut_bytes}
 use Rattle.sock_tcp.specs.Acked.{acked_of}
 use Rattle.sock_tcp.specs.Advance.{Advance, advance_in, advanced, counted_control, fallen_back, fin_counted, opened_state, options_taken, syn_answered, syn_received}
+use Rattle.sock_tcp.specs.Closing.{closed_from}
 use Rattle.tcp_laws.specs.Laws.{IsPeered}
 use Rattle.sock_tcp.specs.Replies.{ack_kept, ack_segment}
 use Rattle.sock_tcp.specs.Timers.{after, challenge_interval}
@@ -29,10 +30,11 @@ use Rattle.sock_tcp.specs.declared.tuple.Tuple.{Tuple}
 use Rattle.sock_tcp.specs.declared.verdict.Verdict.{Verdict}
 use Rattle.sock_tcp.specs.declared.verdict.Verdict.TheVariants as verdicts
 use Rattle.tcp_laws.proofs.Kept.{KeptByAnswers, KeptByRows, challenged_kept, outside_kept, rows_kept}
-use Rattle.sock_tcp.specs.Rfc.Recovery.{before_of, recovered}
+use Rattle.sock_tcp.specs.Rfc.Recovery.{before_of, recovered, recovered_by}
 use Rattle.sock_tcp.specs.Rfc.Refused.{refused}
 use Rattle.sock_tcp.specs.declared.rules.Rules.{Rules}
 use Rattle.sock_tcp.specs.declared.rules.Rules.TheVariants as rules
+use Rattle.sock_tcp.proofs.Late.{closed_as}
 use Rattle.sock_tcp.proofs.Recovering.{recovered_as}
 use Rattle.sock_tcp.proofs.Refusing.{heard_alone, refused_as}
 
@@ -247,6 +249,12 @@ module _ (s : Segment) (now : Instant) where
 
 -- ---- the whole
 
+-- a close leaves the peer
+pub closed_peers : (st : State) (o : Option Tuple) (t : Tuple) → IsPeered st o t → IsPeered (closed_from st) o t
+closed_peers state.Listen o t p = inl p
+closed_peers state.SynSent o t p = inr p
+closed_peers _ o t p = p
+
 module _ (v : View) (now : Instant) (word : ℕ) (ip : IpRepr) (s : Segment) where
   -- the bytes that the window takes, and how far past RCV.NXT
   abbrev pub offset_in : Rules → ℕ
@@ -329,7 +337,11 @@ module _ (v : View) (now : Instant) (word : ℕ) (ip : IpRepr) (s : Segment) whe
   by_verdict_brings r verdicts.Drop = kept r v (same v)
   by_verdict_brings r verdicts.Reset = kept r v (same v)
   by_verdict_brings r verdicts.Challenge = kept r _ (challenged_keeps s now v)
-  by_verdict_brings r verdicts.Pass = let h = tested_brings r (has_window v.state) in recovered_as (λ o. Brings r o.view) r v now s _ h (recovered_brings r _ h)
+  by_verdict_brings r verdicts.Pass =
+      let o = tested_by r (has_window v.state) v (arrival now (tuple_of ip s) word s) in
+      let h = tested_brings r (has_window v.state) in
+      let j = recovered_as (λ o. Brings r o.view) r v now s o h (recovered_brings r _ h) in
+      closed_as (λ o. Brings r o.view) r (recovered_by r v now s o) j (record { listen = j.listen; rx = j.rx })
 
   -- ---- the peer
 
@@ -378,7 +390,11 @@ module _ (v : View) (now : Instant) (word : ℕ) (ip : IpRepr) (s : Segment) whe
   by_verdict_peers r verdicts.Drop p = p
   by_verdict_peers r verdicts.Reset p = p
   by_verdict_peers r verdicts.Challenge p = kept_peered _ (challenged_keeps s now v) p
-  by_verdict_peers r verdicts.Pass p = let h = tested_peers r (has_window v.state) p in recovered_as (λ o. Peered o.view) r v now s _ h (recovered_peers _ h)
+  by_verdict_peers r verdicts.Pass p =
+      let o = tested_by r (has_window v.state) v (arrival now (tuple_of ip s) word s) in
+      let h = tested_peers r (has_window v.state) p in
+      let j = recovered_as (λ o. Peered o.view) r v now s o h (recovered_peers _ h) in
+      closed_as (λ o. Peered o.view) r (recovered_by r v now s o) j (closed_peers (recovered_by r v now s o).view.state (recovered_by r v now s o).view.tuple (tuple_of ip s) j)
 
   -- ---- the reply
 
@@ -407,7 +423,11 @@ module _ (v : View) (now : Instant) (word : ℕ) (ip : IpRepr) (s : Segment) whe
   by_verdict_back r verdicts.Drop = tt
   by_verdict_back r verdicts.Reset = (refl, refl)
   by_verdict_back r verdicts.Challenge = challenged_back s now v
-  by_verdict_back r verdicts.Pass = let h = tested_back r (has_window v.state) in recovered_as (λ o. GoesBack s o.reply) r v now s _ h h
+  by_verdict_back r verdicts.Pass =
+      let o = tested_by r (has_window v.state) v (arrival now (tuple_of ip s) word s) in
+      let h = tested_back r (has_window v.state) in
+      let j = recovered_as (λ o. GoesBack s o.reply) r v now s o h h in
+      closed_as (λ o. GoesBack s o.reply) r (recovered_by r v now s o) j j
 
 -- ---- the whole, of a segment with the window that it counts as telling
 

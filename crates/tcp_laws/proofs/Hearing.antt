@@ -18,7 +18,7 @@ use Rattle.sock_tcp.specs.Arrival.{arrival}
 use Rattle.sock_tcp.specs.Acked.{acked_at, acked_of, is_fin_acked}
 use Rattle.sock_tcp.specs.Advance.{advance_in, advanced, counted_control, moved_to, nothing_new_by, waiting}
 use Rattle.sock_tcp.specs.Due.{data_due, flight, may_wait}
-use Rattle.sock_tcp.specs.Process.{Outcome, challenged, close_restarted, outside, bytes_taken, tuple_of, after_advance, after_table, processed_inside, has_window, tested_by, by_verdict, processed, processed_by}
+use Rattle.sock_tcp.specs.Process.{Outcome, challenged, close_restarted, outside, bytes_taken, tuple_of, after_advance, after_table, processed_inside, has_window, tested_by, by_verdict, closed_then, processed, processed_by}
 use Rattle.sock_tcp.specs.Replies.{ack_kept}
 use Rattle.sock_tcp.specs.Steps.{scale_of, window_of, window_taken, released, is_duplicate, is_last_ack, is_window_changed, duplicate_counted, ack_counted, una_advanced, acknowledged, timestamp_taken, timer_set, heard, joined, ack_delayed}
 use Rattle.sock_tcp.specs.Rfc.Checks.{verdict_by}
@@ -48,6 +48,8 @@ use Rattle.sock_tcp.specs.Timers.{idle_from}
 use Rattle.sock_tcp.specs.declared.recovery.Before.{Before}
 use Rattle.sock_tcp.specs.declared.rules.Rules.{Rules}
 use Rattle.sock_tcp.specs.declared.rules.Rules.TheVariants as rules
+use Rattle.tcp_laws.proofs.Heeding.{later_stays}
+use Rattle.sock_tcp.proofs.Late.{closed_as}
 use Rattle.sock_tcp.proofs.Recovering.{known_as, recovered_as, timer_as}
 
 unheard : (v : View) → HeardNothing v v
@@ -115,7 +117,7 @@ module _ (now : Instant) (s : Segment) where
 -- a fast retransmission that the tables call for
 fast_or_timed : (b : Before) (w : View) (now : Instant) → w.timer ≡ timer.FastRetransmit → Resends rules.Rfc (recovered b w now).timer
 unfolding recovered
-fast_or_timed b w now e = timer_as (Resends rules.Rfc) b (echo_known b w now) now (inl known) (inl refl) (λ at i. inr refl) (inr refl) (inr refl) no_probe (λ at delay h. no_sooner at _ delay h)
+fast_or_timed b w now e = timer_as (Resends rules.Rfc) b (echo_known b w now) now (inl known) (inl refl) (λ at i. inr refl) (inr refl) (inr refl) no_probe (λ at delay h. no_sooner at _ delay h) (inr refl)
   where
     known : (echo_known b w now).timer ≡ timer.FastRetransmit
     known = known_as (λ t. t ≡ timer.FastRetransmit) b w now (λ at i. let no : timer.Retransmit at ≡ timer.FastRetransmit = i in absurd cc) e
@@ -127,7 +129,7 @@ fast_or_timed b w now e = timer_as (Resends rules.Rfc) b (echo_known b w now) no
     no_probe : (at : Instant) (delay : Duration) → (echo_known b w now).timer ≡ timer.ZeroWindowProbe at delay → Resends rules.Rfc (idle_from now w.keep_alive)
     no_probe at delay i = let no : timer.FastRetransmit ≡ timer.ZeroWindowProbe at delay = sym known ∙ i in absurd cc
 
-fast_resends : (r : Rules) (v : View) (now : Instant) (s : Segment) (o : Outcome) → o.view.timer ≡ timer.FastRetransmit → Resends r (recovered_by r v now s o).view.timer
+fast_resends : (r : Rules) (v : View) (now : Instant) (s : Segment) (o : Outcome) → o.view.timer ≡ timer.FastRetransmit → Resends r (closed_then r (recovered_by r v now s o)).view.timer
 fast_resends rules.Smoltcp v now s o e = e
 fast_resends rules.Rfc v now s o e = fast_or_timed (before_of v s) o.view now e
 
@@ -160,7 +162,7 @@ module _ (r : Rules) (v : View) (now : Instant) (word : ℕ) (ip : IpRepr) (s : 
   inside_as st b = after_table (advance_in st b a.fin u (arrival now (tuple_of ip s) word s) a.len) (arrival now (tuple_of ip s) word s) a cut.offset (cut_bytes cut s.payload)
 
   -- behind the test of the window
-  in_window : has_window v.state ≡ true → is_inside (accepted_window r v) s.seq_number (length s.payload) ≡ true → by_verdict r verdicts.Pass v (arrival now (tuple_of ip s) word s) ≡ recovered_by r v now s (inside_as v.state c)
+  in_window : has_window v.state ≡ true → is_inside (accepted_window r v) s.seq_number (length s.payload) ≡ true → by_verdict r verdicts.Pass v (arrival now (tuple_of ip s) word s) ≡ closed_then r (recovered_by r v now s (inside_as v.state c))
   unfolding processed_inside advanced
   in_window has i = rw (has, i) refl
 
@@ -200,7 +202,7 @@ module _ (r : Rules) (v : View) (now : Instant) (word : ℕ) (ip : IpRepr) (s : 
   recovered_tells o h = h
 
   tells_inside : hears_window v.state ≡ true → is_inside (accepted_window r v) s.seq_number (length s.payload) ≡ true → c ≡ control.None → Tells (by_verdict r verdicts.Pass v (arrival now (tuple_of ip s) word s))
-  tells_inside hears inside no_bit = let t : Tells (inside_as v.state c) = rw no_bit (row_tells v.state a.fin hears) in rw (in_window (has v.state hears) inside) (recovered_as Tells r v now s (inside_as v.state c) t (recovered_tells (inside_as v.state c) t))
+  tells_inside hears inside no_bit = let t : Tells (inside_as v.state c) = rw no_bit (row_tells v.state a.fin hears) in let j = recovered_as Tells r v now s (inside_as v.state c) t (recovered_tells (inside_as v.state c) t) in rw (in_window (has v.state hears) inside) (closed_as Tells r (recovered_by r v now s (inside_as v.state c)) j j)
 
   abbrev Fast : Outcome → Type 0
   Fast x = x.view.timer ≡ timer.FastRetransmit
@@ -310,6 +312,14 @@ not_zero n h = go (n == 0) refl
     go true e = let z : n ≡ 0 = eqb-true n 0 e in absurd (omega (arith, z, h))
     go false e = e
 
+-- SND.UNA does not lie before itself
+not_behind : (k una : TcpSeqNumber) → k.0 < 2 ^ 32 → una.0 < 2 ^ 32 → seq_sub k una ≡ 0 → is_before k una ≡ false
+not_behind k una hk hu z = go (is_before k una) refl
+  where
+    go : (t : Bool) → is_before k una ≡ t → is_before k una ≡ false
+    go false e = e
+    go true e = absurd (omega (arith, far k una e, hk, hu, z))
+
 pub third_duplicate_wakes : ThirdDuplicateWakes
 unfolding acked_at
 third_duplicate_wakes v now word ip s k r numbered h d =
@@ -322,6 +332,8 @@ third_duplicate_wakes v now word ip s k r numbered h d =
     let n = not_all v.remote_last_seq k v.local_seq_no o.nxt_small (numbered.ack_number k d.number) o.una_small (omega (arith, i, o.room)) z b in
     let all : (acked_of v s.control s.ack_number).all ≡ false = ap (λ (x : Acked). x.all) e ∙ all_sent v.state s.control k v.local_seq_no v.remote_last_seq (length v.tx_buffer.bytes) n in
     let y : Segment = windowed v.rules v s in
-    let timer = heard_third now y (u v.rules v now word ip y) (a v.rules v now word ip y) k d.number all d.nothing.bytes d.two_before d.duplicate (not_zero _ (some_window s.control (told_by v.rules v s) v.remote_win_scale h.window)) in
-    let fast : Fast v.rules v now word ip y (inside_as v.rules v now word ip y v.state (c v.rules v now word ip y)) = rw (h.no_bit, d.nothing.fin) (row_fast v.rules v now word ip y v.state h.hears timer) in
+    let same : y.ack_number ≡ s.ack_number = later_stays v.rules v s k d.number (not_behind k v.local_seq_no (numbered.ack_number k d.number) o.una_small z) in
+    let of_y = ap (acked_of v s.control) same in
+    let timer = heard_third now y (u v.rules v now word ip y) (a v.rules v now word ip y) k (same ∙ d.number) (ap (λ (x : Acked). x.all) of_y ∙ all) (ap (λ (x : Acked). x.len) of_y ∙ d.nothing.bytes) d.two_before d.duplicate (not_zero _ (some_window s.control (told_by v.rules v s) v.remote_win_scale h.window)) in
+    let fast : Fast v.rules v now word ip y (inside_as v.rules v now word ip y v.state (c v.rules v now word ip y)) = rw (h.no_bit, ap (λ (x : Acked). x.fin) of_y ∙ d.nothing.fin) (row_fast v.rules v now word ip y v.state h.hears timer) in
     rw (passed_as v.rules v now word ip s h.passes, in_window v.rules v now word ip y (has v.rules v now word ip y v.state h.hears) h.inside) (fast_resends v.rules v now y (inside_as v.rules v now word ip y v.state (c v.rules v now word ip y)) fast)

@@ -25,7 +25,7 @@ use Rattle.sock_tcp.specs.Polls.{is_reached, timeout_poll}
 use Rattle.sock_tcp.specs.Process.{processed_by}
 use Rattle.sock_tcp.specs.Queue.{queue_of}
 use Rattle.sock_tcp.specs.Queues.{ReadsWithIf, SendsWithIf, fitting, may_recv, may_send, queued, read_off, readable}
-use Rattle.sock_tcp.specs.Rfc.TailLoss.{is_alone, is_retransmission_over, may_probe, may_probe_by, probes_tail, sooner, tail_probed, tail_wait}
+use Rattle.sock_tcp.specs.Rfc.TailLoss.{is_alone, is_retransmission_over, may_probe_by, may_speak, probes_tail, sooner, tail_probed, tail_wait}
 use Rattle.sock_tcp.specs.Rfc.RoundTrips.{sending_measured}
 use Rattle.sock_tcp.specs.Sent.{goes_on, after_any, after_kind, after_probe, after_sending, emitted_as, left_by, sending_timed, snd_nxt_moved}
 use Rattle.sock_tcp.specs.Timers.{after, is_close_over, is_over, retransmit_unless_set}
@@ -104,9 +104,9 @@ module _ (P : View → Type 0) (now : Instant) (k : KeptByBeginnings P now) wher
   unfolding after_timers
   timers_kept v h = go (is_reached (timeout_poll v.timeout v.remote_last_ts) now)
     where
-      probed : (t : Timer) → v.timer ≡ t → (b : Bool) → (may_probe_by v.rules (may_probe v.recovery v) && is_retransmission_over t now) ≡ b → P (timers_by b v now)
+      probed : (t : Timer) → v.timer ≡ t → (b : Bool) → (may_probe_by v.rules (may_speak v) && is_retransmission_over t now) ≡ b → P (timers_by b v now)
       probed (timer.Retransmit at) e true i = k.probes_tail v at e h
-      probed t e true i = absurd (true≢false (sym (and_parts (may_probe_by v.rules (may_probe v.recovery v)) (is_retransmission_over t now) i).1))
+      probed t e true i = absurd (true≢false (sym (and_parts (may_probe_by v.rules (may_speak v)) (is_retransmission_over t now) i).1))
       probed t e false i = timer_kept v.timer v refl h
 
       go : (b : Bool) → P (if b then record v { state = state.Closed } else timers_by (probes_tail v now) v now)

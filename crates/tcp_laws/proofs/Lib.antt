@@ -1,4 +1,6 @@
 pub mod Polling
+pub mod Heeding
+pub mod Passing
 pub mod PayloadWindows
 pub mod Frames
 pub mod Receiving
@@ -35,6 +37,7 @@ pub mod LossSaid
 pub mod Telling
 pub mod LossFollows
 pub mod Undoing
+pub mod Late
 pub mod Pointed
 pub mod OwnWindows
 pub mod OlderWindows

@@ -18,6 +18,7 @@ use Rattle.sock_tcp.specs.declared.rules.Rules.{Rules}
 use Rattle.sock_tcp.specs.declared.rules.Rules.TheVariants as rules
 use Rattle.sock_core.specs.Seq.{is_before}
 use Rattle.sock_tcp.specs.Process.{timer_restarted}
+use Rattle.sock_tcp.specs.Rfc.Reordering.{late_wait}
 use Rattle.sock_tcp.specs.Rfc.TailLoss.{tail_wait, sooner}
 use Rattle.sock_tcp.specs.Rfc.Recovery.{soonest}
 use Rattle.sock_tcp.specs.Steps.{delay_of, next_delay, is_ack_owed, timer_acked, probe_ended, probe_set, begins_probe}
@@ -193,6 +194,9 @@ module _ (most : Duration) (minute : 60000000 ≤ most.micros) where
 
     pub tail_by : (e : Estimator) (alone : Bool) → e.rto ≤ 60000 → is_by now most (after now (tail_wait e alone)) ≡ true
     tail_by e alone h = soon (tail_wait e alone) (omega (arith, h, minute))
+
+    pub late_by : (n : ℕ) (e : Estimator) → e.rto ≤ 60000 → is_by now most (after now (late_wait n e)) ≡ true
+    late_by n e h = soon (late_wait n e) (omega (arith, h, minute))
 
     pub sooner_by : (t u : Instant) → is_by now most t ≡ true → is_by now most u ≡ true → is_by now most (sooner t u) ≡ true
     sooner_by t u h k = go (is_over t u)

@@ -1,5 +1,5 @@
 -- By the RFCs' rules a segment that is older than the one that told the peer's window makes it no larger.
-use Rattle.std.proofs.Common.{◌≡◌, ℕ, ◌-◌, ◌*◌, ◌/◌, ◌^◌, ◌≤◌, Bool, true, false, true≢false, refl, sym, ap, subst, ◌∙◌, List, [], length, Some, arith, div-mul-le_self, mul-le-mul_right}
+use Rattle.std.proofs.Common.{◌≡◌, ℕ, ◌-◌, ◌*◌, ◌/◌, ◌^◌, ◌≤◌, Bool, true, false, true≢false, not, ◌&&◌, refl, sym, ap, subst, ◌∙◌, List, [], length, Some, arith, div-mul-le_self, mul-le-mul_right}
 use Rattle.std.specs.Prelude.{if◌then◌else◌}
 use Rattle.ip_wire.specs.declared.repr.IpRepr.{IpRepr}
 use Rattle.net_base.specs.declared.time.Instant.{Instant}
@@ -8,17 +8,18 @@ use Rattle.control_wire.specs.declared.seq_number.TcpSeqNumber.{TcpSeqNumber}
 use Rattle.control_wire.specs.declared.tcp.TcpControl.{TcpControl}
 use Rattle.control_wire.specs.declared.tcp.TcpControl.TheVariants as control
 use Rattle.sock_tcp.proofs.KeptSegments.{KeptByAnswers, bytes_kept, challenged_kept, heard_kept, outside_kept}
+use Rattle.sock_tcp.proofs.Late.{closed_as}
 use Rattle.sock_tcp.proofs.Recovering.{recovered_as}
 use Rattle.sock_tcp.proofs.Refusing.{heard_alone, refused_as}
 use Rattle.sock_tcp.specs.Acked.{acked_of}
 use Rattle.sock_tcp.specs.Advance.{advance_in, advanced, counted_control, fallen_back, fin_counted}
 use Rattle.sock_tcp.specs.Arrival.{Arrival, arrival}
-use Rattle.sock_tcp.specs.Process.{after_advance, by_verdict, close_restarted, cut_inside, has_window, processed_by, processed_inside, tested_by, tuple_of}
+use Rattle.sock_tcp.specs.Process.{after_advance, by_verdict, close_restarted, closed_then, cut_inside, has_window, processed_by, processed_inside, tested_by, tuple_of}
 use Rattle.sock_tcp.specs.Replies.{ack_kept}
 use Rattle.sock_tcp.specs.Rfc.Checks.{verdict_by}
 use Rattle.sock_tcp.specs.Rfc.Recovery.{recovered, recovered_by}
 use Rattle.sock_tcp.specs.Rfc.Refused.{refused}
-use Rattle.sock_tcp.specs.Rfc.Windows.{field_kept, is_newer, is_newer_by, told_by, windowed}
+use Rattle.sock_tcp.specs.Rfc.Windows.{ack_heeded, field_kept, is_ignored, is_newer, is_newer_by, told_by, windowed}
 use Rattle.sock_tcp.specs.Scale.{scale_of}
 use Rattle.sock_tcp.specs.Steps.{ack_counted, ack_delayed, duplicate_counted, heard, joined, released, timer_set, timestamp_taken, una_advanced, window_of, window_taken}
 use Rattle.sock_tcp.specs.View.{View}
@@ -51,13 +52,13 @@ counted_no_syn control.Fin w n len no_syn e = either _ e
 
 module _ (v : View) (s : Segment) (is : v.rules ≡ rules.Rfc) (old : is_newer v.snd_wl1 v.snd_wl2 s ≡ false) where
   abbrev left : ℕ
-  left = v.remote_win_len - (acked_of v s.control s.ack_number).len
+  left = v.remote_win_len - (acked_of v s.control (ack_heeded rules.Rfc v s s.ack_number)).len
 
   no_syn : s.control ≡ control.Syn → ⊥
   no_syn e = true≢false (sym (ap (λ c. is_newer_by c v.snd_wl1 v.snd_wl2 s.seq_number s.ack_number) e) ∙ old)
 
   kept : told_by v.rules v s ≡ field_kept v s
-  kept = ap (λ r. told_by r v s) is ∙ ap (λ b. if b then s.window_len else field_kept v s) old
+  kept = ap (λ r. told_by r v s) is ∙ ap (λ b. if b && not (is_ignored v s s.ack_number) then s.window_len else field_kept v s) old
 
   within : field_kept v s * 2 ^ scale_of v.remote_win_scale ≤ left
   within =
@@ -164,9 +165,9 @@ module _ (v : View) (s : Segment) (is : v.rules ≡ rules.Rfc) (old : is_newer v
         go false = refuses r
         go true = inside (record v { local_rx_last_seq = Some g.seq_number }) (counted_control g.control (accepted_window r v) g.seq_number (length g.payload)) _ _ (counted_no_syn g.control (accepted_window r v) g.seq_number (length g.payload) no_syn) start
 
-    passes : (r : Rules) (b : Bool) → Bounded (recovered_by r v now g (tested_by r b v come)).view
+    passes : (r : Rules) (b : Bool) → Bounded (closed_then r (recovered_by r v now g (tested_by r b v come))).view
     unfolding recovered
-    passes r b = let i = tests r b in recovered_as (λ o. Bounded o.view) r v now g (tested_by r b v come) i i
+    passes r b = let i = tests r b in let j = recovered_as (λ o. Bounded o.view) r v now g (tested_by r b v come) i i in closed_as (λ o. Bounded o.view) r (recovered_by r v now g (tested_by r b v come)) j j
 
     whole : (r : Rules) (x : Verdict) → Bounded (by_verdict r x v come).view
     whole r verdicts.Drop = start

@@ -15,6 +15,7 @@ use Rattle.sock_tcp.specs.Rfc.Idle.{restarted_by, was_idle}
 use Rattle.sock_tcp.specs.declared.rules.Rules.{Rules}
 use Rattle.sock_tcp.specs.declared.rules.Rules.TheVariants as rules
 use Rattle.sock_tcp.specs.Advance.{controller_taken}
+use Rattle.sock_tcp.specs.Closing.{closed_from}
 use Rattle.sock_tcp.specs.Queue.{Queue, capacity}
 use Rattle.sock_tcp.specs.Settings.{of_kind}
 use Rattle.sock_tcp.specs.Steps.{begins_probe, probe_ended, probe_set, timer_acked}
@@ -87,6 +88,19 @@ pub record Ordered (st : State) (t : Timer) (keep : Option Duration) (peer : Opt
 
 abbrev pub IsOrdered : View → Type 0
 IsOrdered v = Ordered v.state v.timer v.keep_alive v.tuple v.local_seq_no v.remote_last_seq v.tx_buffer v.congestion_controller
+
+-- ---- a close
+
+pub closed_row : (v : View) (st : State) → IsPeeredIn st v.tuple → Row st v.timer v.keep_alive (seq_sub v.remote_last_seq v.local_seq_no) (length v.tx_buffer.bytes) → IsPeeredIn (closed_from st) v.tuple × Row (closed_from st) v.timer v.keep_alive (seq_sub v.remote_last_seq v.local_seq_no) (length v.tx_buffer.bytes)
+closed_row v state.Listen p r = (tt, tt)
+closed_row v state.SynSent p r = (tt, tt)
+closed_row v state.SynReceived p r = (p, (r.0, omega (arith, r.2)))
+closed_row v state.Established p r = (p, (r.0, omega (arith, r.1)))
+closed_row v state.CloseWait p r = (p, (r.0, omega (arith, r.1)))
+closed_row v _ p r = (p, r)
+
+pub closed_ordered : (v : View) → IsOrdered v → IsOrdered (record v { state = closed_from v.state })
+closed_ordered v h = let c = closed_row v v.state h.peered h.row in record { una_small = h.una_small; nxt_small = h.nxt_small; room = h.room; congestion = h.congestion; peered = c.0; row = c.1 }
 
 -- ---- numbers
 

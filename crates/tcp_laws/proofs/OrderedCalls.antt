@@ -13,16 +13,18 @@ use Rattle.sock_core.specs.Received.{receiving}
 use Rattle.sock_core.specs.declared.congestion.AnyController.{AnyController}
 use Rattle.sock_core.specs.declared.congestion.AnyController.TheVariants as controller
 use Rattle.sock_tcp.specs.Begin.{readied, retransmission_begun, fast_retransmission_marked, after_timers, before_emit}
-use Rattle.sock_tcp.specs.Closing.{closed_from}
+use Rattle.sock_tcp.specs.Closing.{closed, waits_in}
 use Rattle.sock_tcp.specs.Due.{flight}
 use Rattle.sock_tcp.specs.Opening.{connected, is_listening, listened, renewed}
 use Rattle.sock_tcp.specs.Queue.{capacity, queue_of}
 use Rattle.sock_tcp.specs.Queues.{first_probe, may_send, queued, read_off}
 use Rattle.sock_tcp.specs.Settings.{keep_alive_timer}
 use Rattle.tcp_laws.specs.SocketRun.{Sets}
+use Rattle.sock_tcp.proofs.Late.{called_as}
 use Rattle.sock_tcp.proofs.Recovering.{begun_as, marked_as}
 use Rattle.sock_tcp.specs.Rfc.Recovery.{begun_by}
-use Rattle.sock_tcp.specs.Rfc.TailLoss.{tail_probed}
+use Rattle.sock_tcp.specs.Rfc.Reordering.{is_late}
+use Rattle.sock_tcp.specs.Rfc.TailLoss.{controller_lost_if, probed_by, tail_probed}
 use Rattle.sock_tcp.specs.Timers.{idle_from, is_idle, probe_from, retransmit_from}
 use Rattle.sock_tcp.specs.declared.rules.Rules.{Rules}
 use Rattle.sock_tcp.specs.View.{View, fresh, moment_of}
@@ -34,7 +36,7 @@ use Rattle.sock_tcp.specs.declared.timer.Timer.{Timer}
 use Rattle.sock_tcp.specs.declared.timer.Timer.TheVariants as timer
 use Rattle.sock_tcp.specs.declared.tuple.Tuple.{Tuple}
 use Rattle.tcp_laws.proofs.Kept.{Kept, KeptByBeginnings, KeptByCalls, before_kept, listening_is, readied_kept, reached_kept, timers_kept}
-use Rattle.tcp_laws.proofs.Ordered.{HasMoment, IsOpen, IsOpening, IsOrdered, IsPeeredIn, Row, is_close, idle_has_moment, kind_open, lost_open, no_distance, pre_transmitted_open, timed_out_open}
+use Rattle.tcp_laws.proofs.Ordered.{HasMoment, IsOpen, IsOpening, IsOrdered, IsPeeredIn, Row, closed_row, is_close, idle_has_moment, kind_open, lost_open, no_distance, pre_transmitted_open, timed_out_open}
 use Rattle.tcp_laws.proofs.OrderedSegments.{process_ordered}
 use Rattle.tcp_laws.proofs.OrderedSendings.{sends_ordered}
 use Rattle.tcp_laws.proofs.SocketSteps.{same_number, setting_leaves}
@@ -147,8 +149,12 @@ later_row state.LastAck at now e keep flight n r = r
 later_row state.FinWait2 at now e keep flight n r = r
 later_row state.TimeWait at now e keep flight n r = absurd cc
 
+lost_if_open : (b : Bool) (v : View) (now : Instant) → IsOpen v.congestion_controller → IsOpen (controller_lost_if b v now)
+lost_if_open true v now h = lost_open v.congestion_controller _ _ h
+lost_if_open false v now h = h
+
 pub begins_ordered : (now : Instant) → KeptByBeginnings IsOrdered now
-unfolding retransmission_begun fast_retransmission_marked tail_probed
+unfolding retransmission_begun fast_retransmission_marked tail_probed probed_by
 begins_ordered now = record {
   remembers = λ v h. h;
   tells = λ v h. record { una_small = h.una_small; nxt_small = h.nxt_small; room = h.room; congestion = pre_transmitted_open _ _ h.congestion; peered = h.peered; row = h.row };
@@ -174,7 +180,7 @@ begins_ordered now = record {
     una_small = h.una_small;
     nxt_small = h.nxt_small;
     room = h.room;
-    congestion = h.congestion;
+    congestion = lost_if_open (is_late v) v now h.congestion;
     peered = h.peered;
     row = later_row v.state at now (retransmitted v.rtte) v.keep_alive _ _ (was v (timer.Retransmit at) e h);
   };
@@ -298,16 +304,11 @@ module _ (v w : View) (h : IsOrdered v) where
 
   -- ---- closing
 
-  closed_row : (st : State) → IsPeeredIn st v.tuple → Row st v.timer v.keep_alive (flight v) (length v.tx_buffer.bytes) → IsPeeredIn (closed_from st) v.tuple × Row (closed_from st) v.timer v.keep_alive (flight v) (length v.tx_buffer.bytes)
-  closed_row state.Listen p r = (tt, tt)
-  closed_row state.SynSent p r = (tt, tt)
-  closed_row state.SynReceived p r = (p, (r.0, omega (arith, r.2)))
-  closed_row state.Established p r = (p, (r.0, omega (arith, r.1)))
-  closed_row state.CloseWait p r = (p, (r.0, omega (arith, r.1)))
-  closed_row _ p r = (p, r)
-
-  close_ordered : IsOrdered (record v { state = closed_from v.state })
-  close_ordered = let c = closed_row v.state h.peered h.row in record { una_small = h.una_small; nxt_small = h.nxt_small; room = h.room; congestion = h.congestion; peered = c.0; row = c.1 }
+  -- in SYN-RECEIVED it may wait
+  close_ordered : IsOrdered (closed v)
+  close_ordered =
+      let c = called_as (λ st. IsPeeredIn st v.tuple × Row st v.timer v.keep_alive (flight v) (length v.tx_buffer.bytes)) (waits_in v.state v.rules) v.state (h.peered, h.row) (closed_row v v.state h.peered h.row) in
+      record { una_small = h.una_small; nxt_small = h.nxt_small; room = h.room; congestion = h.congestion; peered = c.0; row = c.1 }
 
   -- ---- opening
 

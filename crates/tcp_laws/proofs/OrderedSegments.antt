@@ -20,7 +20,7 @@ use Rattle.sock_tcp.specs.Queue.{Queue, capacity}
 use Rattle.sock_tcp.specs.Replies.{ack_kept}
 use Rattle.sock_tcp.specs.Steps.{window_taken, released, is_duplicate, is_last_ack, is_window_changed, ack_heard, duplicate_counted, ack_counted, una_advanced, acknowledged, timestamp_taken, timer_set, timer_acked, probe_set, heard, joined, ack_delayed}
 use Rattle.sock_tcp.specs.Verdict.{fin_place, is_next, open_verdict, verdict_at, verdict_of}
-use Rattle.sock_tcp.specs.Rfc.Windows.{windowed}
+use Rattle.sock_tcp.specs.Rfc.Windows.{ack_heeded, windowed}
 use Rattle.sock_tcp.specs.View.{View}
 use Rattle.sock_tcp.specs.Window.{accepted_window, is_inside, cut_of}
 use Rattle.sock_tcp.specs.declared.acked.Acked.{Acked}
@@ -35,16 +35,18 @@ use Rattle.sock_tcp.specs.declared.verdict.Verdict.{Verdict}
 use Rattle.sock_tcp.specs.declared.verdict.Verdict.TheVariants as verdicts
 use Rattle.sock_tcp.proofs.Acking.{acked_fits, none_acked, between, fin_place_le, one_place, passes, two_guards}
 use Rattle.tcp_laws.proofs.Kept.{KeptByAnswers, bytes_kept, challenged_kept, outside_kept}
-use Rattle.tcp_laws.proofs.Ordered.{HasMoment, IsOpen, IsOrdered, IsPeeredIn, Row, is_close, acked_open, bytes_acked_open, close_stays, dup_acked_open, idle_has_moment, later_small, lost_open, opened_open, partially_acked_open, left_in_flight, less_in_flight, set_has_moment, taken_open, undone_open, window_open}
+use Rattle.tcp_laws.proofs.Ordered.{HasMoment, IsOpen, IsOrdered, IsPeeredIn, Row, closed_ordered, is_close, acked_open, bytes_acked_open, close_stays, dup_acked_open, idle_has_moment, later_small, lost_open, opened_open, partially_acked_open, left_in_flight, less_in_flight, set_has_moment, taken_open, undone_open, window_open}
 use Rattle.sock_core.specs.Congestion.{dup_acked, lost, opened, partially_acked}
 use Rattle.sock_tcp.specs.Due.{flight as flight_of}
 use Rattle.sock_tcp.specs.Content.{carries_data}
-use Rattle.sock_tcp.specs.Rfc.Recovery.{before_it, before_of, controller_after, controller_told, echo_known, flight_before, has_timer, is_news, is_partial, is_repaired, is_timed_out, is_uncounted, is_undone, is_void, lets_out, opens_well, recovered, told_of_bytes, told_of_count, told_repaired, undone_if, waited_for}
+use Rattle.sock_tcp.specs.Rfc.Recovery.{before_it, before_of, controller_after, controller_told, echo_known, flight_before, has_timer, is_news, is_partial, is_repaired, is_timed_out, is_uncounted, is_undone, is_void, lets_out, opens_well, recovered, told_of_bytes, told_of_count, told_repaired, undone_if, waited_for, recovered_by}
 use Rattle.sock_tcp.specs.Rfc.Refused.{is_plain_control, refused}
 use Rattle.sock_tcp.specs.declared.recovery.Before.{Before}
 use Rattle.sock_tcp.specs.declared.rules.Rules.{Rules}
 use Rattle.sock_tcp.specs.declared.rules.Rules.TheVariants as rules
 use Rattle.sock_tcp.specs.Timers.{after as moment_after, rto_of}
+use Rattle.tcp_laws.proofs.Heeding.{heeded_none, heeded_small}
+use Rattle.sock_tcp.proofs.Late.{closed_as}
 use Rattle.sock_tcp.proofs.Recovering.{known_as, recovered_as, waited_as}
 use Rattle.sock_tcp.proofs.Checking.{verdict_as}
 use Rattle.sock_tcp.proofs.Refusing.{fin_is_plain, heard_alone, plain_is_no_rst, refused_as}
@@ -517,18 +519,22 @@ module _ (now : Instant) (word : ℕ) (ip : IpRepr) (s : Segment) (small : word 
     room = i.room;
     congestion = told_open (before_of v s) (known v w) h.congestion i.congestion;
     peered = i.peered;
-    row = row_recovers w.state (waited_for (before_of v s) (known v w) now) (known v w).timer w.keep_alive (seq_sub w.remote_last_seq w.local_seq_no) (length w.tx_buffer.bytes) (λ m. waited_as (λ t. HasMoment t w.keep_alive) (before_of v s) (known v w) now m tt (λ at e. tt) tt tt (λ at delay e. idle_has_moment now w.keep_alive) (λ at delay h. h)) (row_known v w w.state (seq_sub w.remote_last_seq w.local_seq_no) (length w.tx_buffer.bytes) i.row);
+    row = row_recovers w.state (waited_for (before_of v s) (known v w) now) (known v w).timer w.keep_alive (seq_sub w.remote_last_seq w.local_seq_no) (length w.tx_buffer.bytes) (λ m. waited_as (λ t. HasMoment t w.keep_alive) (before_of v s) (known v w) now m tt (λ at e. tt) tt tt (λ at delay e. idle_has_moment now w.keep_alive) (λ at delay h. h) tt) (row_known v w w.state (seq_sub w.remote_last_seq w.local_seq_no) (length w.tx_buffer.bytes) i.row);
   }
 
   verdict_ordered : (r : Rules) (v : View) → IsOrdered v → (v.state ≡ state.Listen → s.ack_number ≡ None) → (x : Verdict) → verdict_of v s.control s.ack_number ≡ x → IsOrdered (by_verdict r x v (arrival now (tuple_of ip s) word s)).view
   verdict_ordered r v h bare verdicts.Drop e = h
   verdict_ordered r v h bare verdicts.Reset e = h
   verdict_ordered r v h bare verdicts.Challenge e = challenged_ordered s now v h
-  verdict_ordered r v h bare verdicts.Pass e = let i = tested_ordered r v h bare e (has_window v.state) in recovered_as (λ o. IsOrdered o.view) r v now s _ i (recovered_ordered v _ h i)
+  verdict_ordered r v h bare verdicts.Pass e =
+      let o = tested_by r (has_window v.state) v (arrival now (tuple_of ip s) word s) in
+      let i = tested_ordered r v h bare e (has_window v.state) in
+      let j = recovered_as (λ o. IsOrdered o.view) r v now s o i (recovered_ordered v _ h i) in
+      closed_as (λ o. IsOrdered o.view) r (recovered_by r v now s o) j (closed_ordered (recovered_by r v now s o).view j)
 
 -- of a segment with the window that it counts as telling
 pub process_ordered : (now : Instant) (word : ℕ) (ip : IpRepr) (s : Segment) → word < 2 ^ 32 → ForSome s.ack_number (λ k. k.0 < 2 ^ 32) → (r : Rules) (v : View) → IsOrdered v → (v.state ≡ state.Listen → s.ack_number ≡ None) → IsOrdered (processed_by r v now word ip s).view
 unfolding processed_by
 process_ordered now word ip s small ack r v h bare =
     let y : Segment = windowed r v s in
-    verdict_as (λ x. IsOrdered (by_verdict r x v (arrival now (tuple_of ip s) word y)).view) r v now s (λ w. h) (λ w. challenged_ordered y now v h) (verdict_ordered now word ip y small ack r v h bare (verdict_of v s.control s.ack_number) refl)
+    verdict_as (λ x. IsOrdered (by_verdict r x v (arrival now (tuple_of ip s) word y)).view) r v now s (λ w. h) (λ w. challenged_ordered y now v h) (verdict_ordered now word ip y small (heeded_small r v s s.ack_number ack) r v h (λ e. heeded_none r v s s.ack_number (bare e)) (verdict_of v s.control (ack_heeded r v s s.ack_number)) refl)

@@ -23,7 +23,7 @@ use Rattle.sock_tcp.specs.Process.{close_restarted}
 use Rattle.sock_tcp.specs.Queues.{queued, read_off}
 use Rattle.sock_tcp.specs.Replies.{ack_kept}
 use Rattle.sock_tcp.specs.Rfc.Recovery.{before_of, echo_known, is_news, is_opened, marks, recovered}
-use Rattle.sock_tcp.specs.Rfc.TailLoss.{tail_probed}
+use Rattle.sock_tcp.specs.Rfc.TailLoss.{probed_by, tail_probed}
 use Rattle.sock_tcp.specs.Sent.{after_any, after_probe, snd_nxt_moved}
 use Rattle.sock_tcp.specs.Steps.{window_taken, released, duplicate_counted, ack_counted, una_advanced, timestamp_taken, timer_set, heard, joined, ack_delayed}
 use Rattle.sock_tcp.specs.Timers.{after, is_over}
@@ -156,7 +156,7 @@ unfolding renewed fresh
 new_paced v = omega arith
 
 begins_paced : (now : Instant) → KeptByBeginnings IsPaced now
-unfolding retransmission_begun fast_retransmission_marked tail_probed
+unfolding retransmission_begun fast_retransmission_marked tail_probed probed_by
 begins_paced now = record {
   remembers = λ v h. h;
   tells = λ v h. h;

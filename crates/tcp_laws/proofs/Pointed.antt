@@ -24,7 +24,8 @@ use Rattle.sock_tcp.specs.Queues.{queued, read_off}
 use Rattle.sock_tcp.specs.Replies.{ack_kept}
 use Rattle.sock_tcp.specs.Rfc.Checks.{verdict_by}
 use Rattle.sock_tcp.specs.Rfc.Recovery.{again, again_by, before_of, begins, came_twice, echo_known, gone_on, highest_of, reached_by, recovered, recovery_after, is_undone, spared, sent_of, timed_out_by, unless_beyond, unless_twice}
-use Rattle.sock_tcp.specs.Rfc.TailLoss.{tail_probed}
+use Rattle.sock_tcp.specs.Rfc.Reordering.{is_late}
+use Rattle.sock_tcp.specs.Rfc.TailLoss.{probed_by, recovery_probed, tail_probed}
 use Rattle.sock_tcp.specs.Rfc.Windows.{windowed}
 use Rattle.sock_tcp.specs.Sent.{after_any, after_probe, resent_by, snd_nxt_moved}
 use Rattle.sock_tcp.specs.Steps.{ack_counted, ack_delayed, duplicate_counted, heard, joined, released, timer_set, timestamp_taken, una_advanced, window_taken}
@@ -245,8 +246,12 @@ resent_fits (recovery.Probe start end again) nxt e f = f
 resent_fits (recovery.Fast point high_rxt resent_at acked) nxt e f = f
 resent_fits (recovery.Timeout point) nxt e f = f
 
+probed_fits : (b : Bool) (v : View) → v.remote_last_seq.0 < 2 ^ 32 → fits (recovery_probed b v) ≡ true
+probed_fits true v h = is_small v.remote_last_seq h
+probed_fits false v h = refl
+
 begins_pointed : (now : Instant) → KeptByBeginnings IsPointed now
-unfolding retransmission_begun fast_retransmission_marked tail_probed
+unfolding retransmission_begun fast_retransmission_marked tail_probed probed_by
 begins_pointed now = record {
   remembers = λ v h. ((begins_ordered now).remembers v h.0, h.1);
   tells = λ v h. ((begins_ordered now).tells v h.0, h.1);
@@ -255,7 +260,7 @@ begins_pointed now = record {
   begins_again = λ v at e h. ((begins_ordered now).begins_again v at e h.0, timed_fits v.rules v.recovery v.remote_last_seq h.1 h.0.nxt_small);
   marks = λ v e h. ((begins_ordered now).marks v e h.0, h.1);
   goes_back = λ v at delay e h. ((begins_ordered now).goes_back v at delay e h.0, timed_fits v.rules v.recovery v.remote_last_seq h.1 h.0.nxt_small);
-  probes_tail = λ v at e h. ((begins_ordered now).probes_tail v at e h.0, refl);
+  probes_tail = λ v at e h. ((begins_ordered now).probes_tail v at e h.0, probed_fits (is_late v) v h.0.nxt_small);
 }
 
 sends_fit : (now : Instant) → KeptBySending (λ u. fits u.recovery ≡ true) now

@@ -17,7 +17,7 @@ use Rattle.sock_tcp.specs.Opening.{renewed}
 use Rattle.sock_tcp.specs.Poll.{is_due_now, poll_moment_to, poll_moment}
 use Rattle.tcp_laws.specs.Polling.{PollHidesNothing}
 use Rattle.sock_tcp.specs.Polls.{is_reached, earlier, timer_poll, timeout_poll, IsLater}
-use Rattle.sock_tcp.specs.Rfc.TailLoss.{is_retransmission_over, may_probe, may_probe_by, probes_tail}
+use Rattle.sock_tcp.specs.Rfc.TailLoss.{is_retransmission_over, may_probe_by, may_speak, probes_tail}
 use Rattle.sock_tcp.specs.Timers.{is_over, is_keep_alive_over, is_probe_over}
 use Rattle.sock_tcp.specs.View.{View, moment_of}
 use Rattle.sock_tcp.specs.declared.timer.Timer.{Timer}
@@ -75,7 +75,7 @@ no_over (timer.ZeroWindowProbe t delay) now h = refl
 no_over (timer.Close t) now h = refl
 
 no_tail : (v : View) (now : Instant) → IsLater (timer_poll v.timer) now → probes_tail v now ≡ false
-no_tail v now h = by (may_probe_by v.rules (may_probe v.recovery v))
+no_tail v now h = by (may_probe_by v.rules (may_speak v))
   where
     by : (b : Bool) → (b && is_retransmission_over v.timer now) ≡ false
     by true = no_over v.timer now h

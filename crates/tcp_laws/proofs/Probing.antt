@@ -14,7 +14,7 @@ use Rattle.sock_tcp.specs.Process.{close_restarted, timer_restarted}
 use Rattle.sock_tcp.specs.Queues.{first_probe, queued, read_off}
 use Rattle.sock_tcp.specs.Replies.{ack_kept}
 use Rattle.sock_tcp.specs.Rfc.Recovery.{before_of, echo_known, recovered}
-use Rattle.sock_tcp.specs.Rfc.TailLoss.{tail_probed}
+use Rattle.sock_tcp.specs.Rfc.TailLoss.{probed_by, tail_probed}
 use Rattle.sock_tcp.specs.Sent.{after_any, after_probe, snd_nxt_moved}
 use Rattle.sock_tcp.specs.Settings.{keep_alive_timer}
 use Rattle.sock_tcp.specs.Steps.{window_taken, released, ack_heard, duplicate_counted, ack_counted, una_advanced, timestamp_taken, timer_set, timer_acked, probe_ended, probe_set, begins_probe, heard, joined, ack_delayed}
@@ -137,7 +137,7 @@ module _ (s : Segment) (now : Instant) where
     rows = rows_probing word;
     joins = λ w o bs h. h;
     hears = λ u a h. heard_probing u a h;
-    recovers = λ v w h i. record { window = timer_as (λ t. ProbesIn t w.remote_win_len) (before_of v s) (echo_known (before_of v s) w now) now (known_as (λ t. ProbesIn t w.remote_win_len) (before_of v s) w now (λ at z. tt) i.window) tt (λ at e. tt) tt tt (λ at delay e. idle_probes now w.keep_alive w.remote_win_len) (λ at delay h. h); mss = i.mss };
+    recovers = λ v w h i. record { window = timer_as (λ t. ProbesIn t w.remote_win_len) (before_of v s) (echo_known (before_of v s) w now) now (known_as (λ t. ProbesIn t w.remote_win_len) (before_of v s) w now (λ at z. tt) i.window) tt (λ at e. tt) tt tt (λ at delay e. idle_probes now w.keep_alive w.remote_win_len) (λ at delay h. h) tt; mss = i.mss };
   }
 
 -- ---- a dispatch
@@ -148,7 +148,7 @@ new_probing v = record { window = tt; mss = omega arith }
 
 module _ (now : Instant) where
   begins_probing : KeptByBeginnings IsProbing now
-  unfolding retransmission_begun fast_retransmission_marked tail_probed
+  unfolding retransmission_begun fast_retransmission_marked tail_probed probed_by
   begins_probing = record {
     remembers = λ v h. h;
     tells = λ v h. h;

@@ -25,9 +25,11 @@ use Rattle.sock_tcp.specs.declared.tuple.Tuple.{Tuple}
 use Rattle.sock_tcp.specs.declared.verdict.Verdict.{Verdict}
 use Rattle.sock_tcp.specs.declared.verdict.Verdict.TheVariants as verdicts
 use Rattle.tcp_laws.proofs.Kept.{KeptByAnswers, KeptByRows, bytes_kept, challenged_kept, outside_kept, rows_kept}
-use Rattle.sock_tcp.specs.Rfc.Recovery.{before_of, recovered}
+use Rattle.sock_tcp.specs.Rfc.Recovery.{before_of, recovered, recovered_by}
 use Rattle.sock_tcp.specs.Rfc.Refused.{refused}
 use Rattle.sock_tcp.specs.declared.rules.Rules.{Rules}
+use Rattle.tcp_laws.proofs.Heeding.{heeded_small}
+use Rattle.sock_tcp.proofs.Late.{closed_as}
 use Rattle.sock_tcp.proofs.Recovering.{recovered_as}
 use Rattle.sock_tcp.proofs.Refusing.{heard_alone, refused_as}
 use Rattle.control_wire.specs.declared.tcp.TcpControl.TheVariants as control
@@ -149,8 +151,12 @@ module _ (v : View) (now : Instant) (word : ℕ) (ip : IpRepr) (s : Segment) whe
     by_verdict_releases r verdicts.Drop = none_leave v v (same v)
     by_verdict_releases r verdicts.Reset = none_leave v v (same v)
     by_verdict_releases r verdicts.Challenge = none_leave v (challenged v now s).view (challenged_kept (Same v) now s (answers_same s now v) v (same v))
-    by_verdict_releases r verdicts.Pass = let h = tested_releases r (has_window v.state) in recovered_as (λ o. Releases v o.view) r v now s _ h (recovered_releases _ h)
+    by_verdict_releases r verdicts.Pass =
+        let o = tested_by r (has_window v.state) v (arrival now (tuple_of ip s) word s) in
+        let h = tested_releases r (has_window v.state) in
+        let j = recovered_as (λ o. Releases v o.view) r v now s o h (recovered_releases _ h) in
+        closed_as (λ o. Releases v o.view) r (recovered_by r v now s o) j (record { count = j.count; tx = j.tx; una = j.una })
 
 pub process_releases : (v : View) (now : Instant) (word : ℕ) (ip : IpRepr) (s : Segment) → word < 2 ^ 32 → ForSome s.ack_number (λ a. a.0 < 2 ^ 32) → (r : Rules) → Releases v (processed_by r v now word ip s).view
 unfolding processed_by
-process_releases v now word ip s small ack r = by_verdict_releases v now word ip (windowed r v s) small ack r (verdict_by r v now s)
+process_releases v now word ip s small ack r = by_verdict_releases v now word ip (windowed r v s) small (heeded_small r v s s.ack_number ack) r (verdict_by r v now s)

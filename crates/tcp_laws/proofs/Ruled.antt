@@ -12,7 +12,7 @@ use Rattle.sock_tcp.specs.Process.{close_restarted, processed_by}
 use Rattle.sock_tcp.specs.Queues.{queued, read_off}
 use Rattle.sock_tcp.specs.Replies.{ack_kept}
 use Rattle.sock_tcp.specs.Rfc.Recovery.{recovered}
-use Rattle.sock_tcp.specs.Rfc.TailLoss.{tail_probed}
+use Rattle.sock_tcp.specs.Rfc.TailLoss.{probed_by, tail_probed}
 use Rattle.sock_tcp.specs.Sent.{after_any, after_probe, snd_nxt_moved}
 use Rattle.sock_tcp.specs.Steps.{ack_counted, ack_delayed, duplicate_counted, heard, joined, released, timer_set, timestamp_taken, una_advanced, window_taken}
 use Rattle.sock_tcp.specs.Rfc.Windows.{windowed}
@@ -71,7 +71,7 @@ module _ (r : Rules) where
   process_ruled x v now word ip s h = process_kept IsRuled now word ip s x v (segments_ruled (windowed x v s) now word) h
 
   begins_ruled : (now : Instant) → KeptByBeginnings IsRuled now
-  unfolding retransmission_begun fast_retransmission_marked tail_probed
+  unfolding retransmission_begun fast_retransmission_marked tail_probed probed_by
   begins_ruled now = record {
     remembers = λ v h. h;
     tells = λ v h. h;

@@ -14,7 +14,7 @@ use Rattle.sock_tcp.specs.Process.{close_restarted}
 use Rattle.sock_tcp.specs.Queues.{queued, read_off}
 use Rattle.sock_tcp.specs.Replies.{ack_kept}
 use Rattle.sock_tcp.specs.Rfc.Recovery.{recovered}
-use Rattle.sock_tcp.specs.Rfc.TailLoss.{tail_probed}
+use Rattle.sock_tcp.specs.Rfc.TailLoss.{probed_by, tail_probed}
 use Rattle.sock_tcp.specs.Sent.{after_any, after_probe, snd_nxt_moved}
 use Rattle.sock_tcp.specs.Steps.{window_taken, released, duplicate_counted, ack_counted, una_advanced, timestamp_taken, timer_set, heard, joined, ack_delayed}
 use Rattle.sock_tcp.specs.Rfc.Windows.{windowed}
@@ -114,7 +114,7 @@ unfolding renewed fresh
 new_scaled v = unit_of (room_of (cleared v.rx_buffer))
 
 begins_scaled : (now : Instant) → KeptByBeginnings IsScaled now
-unfolding retransmission_begun fast_retransmission_marked tail_probed
+unfolding retransmission_begun fast_retransmission_marked tail_probed probed_by
 begins_scaled now = record {
   remembers = λ v h. h;
   tells = λ v h. h;

@@ -14,10 +14,11 @@ use Rattle.sock_tcp.specs.Acked.{acked_of}
 use Rattle.sock_tcp.specs.Advance.{Advance, advance_in, advanced, counted_control}
 use Rattle.sock_tcp.specs.Draw.{draws, Draws}
 use Rattle.sock_tcp.specs.Opening.{endpoints, connect_answer, after_connect, Connects}
-use Rattle.sock_tcp.specs.Process.{Outcome, AcceptsIn, Accepts, after_advance, after_table, by_verdict, cut_inside, has_window, outside, processed, processed_by, processed_inside, tested_by, tuple_of}
+use Rattle.sock_tcp.specs.Process.{Outcome, AcceptsIn, Accepts, after_advance, after_table, by_verdict, closed_then, cut_inside, has_window, outside, processed, processed_by, processed_inside, tested_by, tuple_of}
 use Rattle.tcp_laws.specs.SocketRun.{Counts, Step, Process, Connect, IsNumbered, after_segment, starting_if}
 use Rattle.sock_tcp.specs.Verdict.{verdict_of}
-use Rattle.sock_tcp.specs.Rfc.Windows.{windowed}
+use Rattle.sock_tcp.specs.Rfc.Windows.{ack_heeded, windowed}
+use Rattle.tcp_laws.proofs.Heeding.{heeded_draws}
 use Rattle.sock_tcp.specs.View.{View}
 use Rattle.sock_tcp.specs.Window.{accepted_window, is_inside, cut_of}
 use Rattle.sock_tcp.specs.declared.error.ConnectError.{ConnectError}
@@ -93,13 +94,13 @@ module _ (now : Instant) (m n : ℕ) (ip : IpRepr) (s : Segment) where
   verdict_alike r v verdicts.Drop e = refl
   verdict_alike r v verdicts.Reset e = refl
   verdict_alike r v verdicts.Challenge e = refl
-  verdict_alike r v verdicts.Pass e = ap (recovered_by r v now s) (tested_alike r v (has_window v.state) refl e)
+  verdict_alike r v verdicts.Pass e = ap (λ o. closed_then r (recovered_by r v now s o)) (tested_alike r v (has_window v.state) refl e)
 
 processed_alike : (now : Instant) (m n : ℕ) (ip : IpRepr) (s : Segment) (r : Rules) (v : View) → draws (verdict_of v s.control s.ack_number) v.state s.control ≡ false → processed_by r v now m ip s ≡ processed_by r v now n ip s
 unfolding processed_by
 processed_alike now m n ip s r v e =
     let y : Segment = windowed r v s in
-    verdict_as (λ x. by_verdict r x v (arrival now (tuple_of ip s) m y) ≡ by_verdict r x v (arrival now (tuple_of ip s) n y)) r v now s (λ w. refl) (λ w. refl) (verdict_alike now m n ip y r v (verdict_of v s.control s.ack_number) e)
+    verdict_as (λ x. by_verdict r x v (arrival now (tuple_of ip s) m y) ≡ by_verdict r x v (arrival now (tuple_of ip s) n y)) r v now s (λ w. refl) (λ w. refl) (verdict_alike now m n ip y r v (verdict_of v s.control (ack_heeded r v s s.ack_number)) (heeded_draws r v s e))
 
 -- ---- the calls
 

@@ -15,7 +15,7 @@ use Rattle.sock_tcp.specs.Polls.{is_reached, timeout_poll}
 use Rattle.sock_tcp.specs.Queue.{IsLent, Queue}
 use Rattle.sock_tcp.specs.Rfc.Recovery.{timed_out_by}
 use Rattle.sock_tcp.specs.Rfc.SmallSegments.{waits_alone}
-use Rattle.sock_tcp.specs.Rfc.TailLoss.{probes_tail}
+use Rattle.sock_tcp.specs.Rfc.TailLoss.{may_speak, probes_tail}
 use Rattle.sock_tcp.specs.View.{View, moment_of}
 use Rattle.sock_tcp.specs.declared.emission.Kind.{Kind}
 use Rattle.sock_tcp.specs.declared.emission.Kind.TheVariants as kind
@@ -121,7 +121,7 @@ record StillOf (v x : View) : Type 0 where
   tail : (m : Instant) → probes_tail x m ≡ probes_tail v m
 
 readied_still : (v : View) (now : Instant) → StillOf v (readied v now)
-unfolding readied last_ts_set
+unfolding readied last_ts_set may_speak
 readied_still v now = go v.remote_last_ts
   where
     go : (o : Option Instant) → StillOf v (told_ready (last_ts_set_at o v now) now)

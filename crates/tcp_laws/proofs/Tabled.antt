@@ -1,5 +1,5 @@
 -- A segment by the RFCs' rules: what the tables leave, and then what is done of loss, keeps a timer running.
-use Rattle.std.proofs.Common.{◌≡◌, ℕ, Bool, true, false, true≢false, not, ◌&&◌, ◌||◌, refl, sym, ap, ◌∙◌, List, [], length, Option, Some, None, arith}
+use Rattle.std.proofs.Common.{◌≡◌, ℕ, Bool, true, false, true≢false, not, subst, ◌&&◌, ◌||◌, refl, sym, ap, ◌∙◌, List, [], length, Option, Some, None, arith}
 use Rattle.std.specs.Prelude.{if◌then◌else◌, ◌==◌, nat_le}
 use Rattle.std.proofs.lemmas.Bool.{eq-eqb, eqb-true, leb-true}
 use Rattle.ip_wire.specs.declared.repr.IpRepr.{IpRepr}
@@ -12,15 +12,18 @@ use Rattle.sock_tcp.specs.Acked.{acked_of}
 use Rattle.sock_tcp.specs.Advance.{advance_in, advanced, counted_control, fallen_back, fin_counted, nothing_new_by, options_taken, syn_answered, syn_received}
 use Rattle.sock_tcp.specs.Arrival.{Arrival, arrival}
 use Rattle.sock_tcp.specs.Due.{flight}
-use Rattle.sock_tcp.specs.Process.{Outcome, after_advance, by_verdict, close_restarted, cut_inside, has_window, processed_by, processed_inside, tested_by, timer_restarted, tuple_of}
+use Rattle.sock_tcp.specs.Closing.{closed_from, late_from}
+use Rattle.sock_tcp.specs.Process.{Outcome, after_advance, by_verdict, close_restarted, closed_then, cut_inside, has_window, processed_by, processed_inside, tested_by, timer_restarted, tuple_of}
 use Rattle.sock_tcp.specs.Replies.{ack_kept}
 use Rattle.sock_tcp.specs.Rfc.Checks.{verdict_by}
-use Rattle.sock_tcp.specs.Rfc.Recovery.{before_of, echo_known, gone_on_from, has_timer, is_called, is_later_partial, kept_if, left_running, probe_from_last, probe_soonest, recovered, recovered_by, running, tells_controller, waited_for, waits_tail}
+use Rattle.sock_tcp.specs.Rfc.Recovery.{before_of, echo_known, gone_on_from, has_timer, heard_for, is_called, is_later_partial, kept_if, left_running, probe_from_last, probe_soonest, recovered, recovered_by, reordering_after, running, tells_controller, waited_for, waits_late, waits_tail}
+use Rattle.sock_tcp.specs.Rfc.Reordering.{late_set, late_wait}
 use Rattle.sock_tcp.specs.Rfc.Refused.{refused}
 use Rattle.sock_tcp.specs.Rfc.TailLoss.{is_alone, tail_waits}
 use Rattle.sock_tcp.specs.Rfc.Windows.{windowed}
 use Rattle.sock_tcp.specs.Steps.{ack_counted, ack_delayed, ack_heard, begins_probe, duplicate_counted, heard, joined, probe_ended, probe_set, released, timer_acked, timer_set, timestamp_taken, una_advanced, window_taken}
 use Rattle.sock_tcp.specs.Timers.{idle_from, probe_from, retransmit_from}
+use Rattle.sock_tcp.proofs.Late.{closed_as}
 use Rattle.sock_tcp.proofs.Recovering.{known_as}
 use Rattle.sock_tcp.specs.View.{View}
 use Rattle.sock_tcp.specs.Window.{cut_of, is_inside, accepted_window}
@@ -84,6 +87,15 @@ half_of (timer.Retransmit at) flight window n h = tt
 half_of timer.FastRetransmit flight window n h = tt
 half_of (timer.ZeroWindowProbe at delay) flight window n h = tt
 half_of (timer.Close at) flight window n h = tt
+
+-- a close leaves it awake
+pub close_row : (st : State) (t : Timer) (i window n : ℕ) → AwakeIn st t i window n → AwakeIn (closed_from st) t i window n
+close_row state.Listen t i window n h = tt
+close_row state.SynSent t i window n h = tt
+close_row state.SynReceived t i window n h = h
+close_row state.Established t i window n h = h
+close_row state.CloseWait t i window n h = h
+close_row _ t i window n h = h
 
 half_row : (st : State) (t : Timer) (flight window n : ℕ) → AwakeIn st t flight window n → HalfIn st t window n
 half_row state.Established t flight window n h = half_of t flight window n h
@@ -219,8 +231,16 @@ module _ (now : Instant) where
     begins timer.FastRetransmit t h = comes t h
     begins (timer.Close at) t h = comes t h
 
+    waits : (c : Bool) (t : Timer) → At t → At (late_set c t now (late_wait (reordering_after b w) w.rtte))
+    waits true (timer.Retransmit at) h = tt
+    waits true (timer.Idle at) h = h
+    waits true timer.FastRetransmit h = h
+    waits true (timer.ZeroWindowProbe at delay) h = h
+    waits true (timer.Close at) h = h
+    waits false t h = h
+
     waited_rests : At (waited_for b w now)
-    waited_rests = by (tells_controller b w) (is_called b w)
+    waited_rests = waits (waits_late b w) (heard_for b w now) (by (tells_controller b w) (is_called b w))
       where
         by : (r c : Bool) → At (if r then timer.FastRetransmit else (if c then gone_on_from b.timer now w.rtte else tail_waits (waits_tail b w) (left_running b w now) now w.rtte (is_alone w)))
         by true c = tt
@@ -367,9 +387,9 @@ module _ (v : View) (now : Instant) (word : ℕ) (ip : IpRepr) (s : Segment) (aw
   waited_known w asks = waited_rests now (before_of v s) (known w) (known_as (λ t. Asks t w.remote_win_len (length w.tx_buffer.bytes)) (before_of v s) w now (λ at z. tt) asks)
 
   -- in SYN-RECEIVED the queue is empty
-  recovered_row : (w : View) (st : State) → w.state ≡ st → HalfIn st w.timer w.remote_win_len (length w.tx_buffer.bytes) → Row st (recovered (before_of v s) w now).timer w.keep_alive (flight w) (length w.tx_buffer.bytes) → AwakeIn st (recovered (before_of v s) w now).timer (flight w) w.remote_win_len (length w.tx_buffer.bytes)
+  recovered_row : (w : View) (st : State) → w.state ≡ st → HalfIn st w.timer w.remote_win_len (length w.tx_buffer.bytes) → (st ≡ state.SynReceived → length w.tx_buffer.bytes ≡ 0) → AwakeIn st (recovered (before_of v s) w now).timer (flight w) w.remote_win_len (length w.tx_buffer.bytes)
   unfolding recovered
-  recovered_row w state.SynReceived is half row = chosen (known w) (has_timer w.state) (ap has_timer is) (waited_known w (empty w.timer row.1))
+  recovered_row w state.SynReceived is half none = chosen (known w) (has_timer w.state) (ap has_timer is) (waited_known w (empty w.timer (none refl)))
     where
       empty : (t : Timer) → length w.tx_buffer.bytes ≡ 0 → Asks t w.remote_win_len (length w.tx_buffer.bytes)
       empty (timer.Idle at) z = λ i. z
@@ -377,16 +397,29 @@ module _ (v : View) (now : Instant) (word : ℕ) (ip : IpRepr) (s : Segment) (aw
       empty timer.FastRetransmit z = tt
       empty (timer.ZeroWindowProbe at delay) z = tt
       empty (timer.Close at) z = tt
-  recovered_row w state.Established is half row = chosen (known w) (has_timer w.state) (ap has_timer is) (waited_known w half)
-  recovered_row w state.CloseWait is half row = chosen (known w) (has_timer w.state) (ap has_timer is) (waited_known w half)
-  recovered_row w state.FinWait1 is half row = chosen (known w) (has_timer w.state) (ap has_timer is) (waited_known w half)
-  recovered_row w state.Closing is half row = chosen (known w) (has_timer w.state) (ap has_timer is) (waited_known w half)
-  recovered_row w state.LastAck is half row = chosen (known w) (has_timer w.state) (ap has_timer is) (waited_known w half)
-  recovered_row w _ is half row = tt
+  recovered_row w state.Established is half none = chosen (known w) (has_timer w.state) (ap has_timer is) (waited_known w half)
+  recovered_row w state.CloseWait is half none = chosen (known w) (has_timer w.state) (ap has_timer is) (waited_known w half)
+  recovered_row w state.FinWait1 is half none = chosen (known w) (has_timer w.state) (ap has_timer is) (waited_known w half)
+  recovered_row w state.Closing is half none = chosen (known w) (has_timer w.state) (ap has_timer is) (waited_known w half)
+  recovered_row w state.LastAck is half none = chosen (known w) (has_timer w.state) (ap has_timer is) (waited_known w half)
+  recovered_row w _ is half none = tt
 
-  recovered_awake : (o : Outcome) → Left o.view → IsOrdered (recovered_by rules.Rfc v now s o).view → IsAwakeByRfc (recovered_by rules.Rfc v now s o).view
+  recovered_awake : (o : Outcome) → Left o.view → (o.view.state ≡ state.SynReceived → length o.view.tx_buffer.bytes ≡ 0) → IsAwakeByRfc (recovered_by rules.Rfc v now s o).view
   unfolding recovered before_of
-  recovered_awake o h ordered = record { rfc = h.rfc; row = recovered_row o.view o.view.state refl h.half ordered.row }
+  recovered_awake o h none = record { rfc = h.rfc; row = recovered_row o.view o.view.state refl h.half none }
+
+  -- a close waits in SYN-RECEIVED
+  late_stays : (b : Bool) (st : State) → st ≡ state.SynReceived → (if b then late_from st else st) ≡ state.SynReceived
+  late_stays true st e = ap late_from e
+  late_stays false st e = e
+
+  passed_awake : (o : Outcome) → Left o.view → IsOrdered (closed_then rules.Rfc (recovered_by rules.Rfc v now s o)).view → IsAwakeByRfc (closed_then rules.Rfc (recovered_by rules.Rfc v now s o)).view
+  unfolding recovered
+  passed_awake o h ordered =
+      let u : View = (recovered_by rules.Rfc v now s o).view in
+      let none : o.view.state ≡ state.SynReceived → length o.view.tx_buffer.bytes ≡ 0 = λ e. (subst (λ st. Row st u.timer u.keep_alive (flight u) (length u.tx_buffer.bytes)) (late_stays u.close_waits u.state e) ordered.row).1 in
+      let k = recovered_awake o h none in
+      closed_as (λ x. IsAwakeByRfc x.view) rules.Rfc (recovered_by rules.Rfc v now s o) k (record { rfc = k.rfc; row = close_row u.state u.timer (flight u) u.remote_win_len (length u.tx_buffer.bytes) k.row })
 
   answers_awake : KeptByAnswers IsAwakeByRfc
   unfolding ack_kept
@@ -396,7 +429,7 @@ module _ (v : View) (now : Instant) (word : ℕ) (ip : IpRepr) (s : Segment) (aw
   verdict_awake verdicts.Drop i = awake
   verdict_awake verdicts.Reset i = awake
   verdict_awake verdicts.Challenge i = challenged_kept IsAwakeByRfc now s answers_awake v awake
-  verdict_awake verdicts.Pass i = recovered_awake (tested_by rules.Rfc (has_window v.state) v come) (tested_left (has_window v.state)) i
+  verdict_awake verdicts.Pass i = passed_awake (tested_by rules.Rfc (has_window v.state) v come) (tested_left (has_window v.state)) i
 
 pub process_awake : (v : View) (now : Instant) (word : ℕ) (ip : IpRepr) (s : Segment) → IsAwakeByRfc v → IsOrdered (processed_by rules.Rfc v now word ip s).view → IsAwakeByRfc (processed_by rules.Rfc v now word ip s).view
 unfolding processed_by

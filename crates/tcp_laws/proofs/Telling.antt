@@ -20,10 +20,11 @@ use Rattle.sock_tcp.specs.Advance.{advance_in, advanced, counted_control}
 use Rattle.sock_tcp.specs.Arrival.{Arrival, arrival}
 use Rattle.sock_tcp.specs.Begin.{before_emit, peer_of}
 use Rattle.sock_tcp.specs.Content.{Sending, content, emission_kind, filled, of_kind, plain_segment, sent_as}
+use Rattle.sock_tcp.specs.Closing.{closed_from}
 use Rattle.sock_tcp.specs.Process.{Outcome, ack_sent, after_advance, by_verdict, bytes_taken, challenged, close_restarted, cut_inside, gap_answered, has_window, outside, outside_by, processed_by, processed_inside, stopped, tested_by, tuple_of, without_place}
 use Rattle.sock_tcp.specs.Replies.{ack_kept, ack_segment, chosen_range, first_of, sack_range, wire_edges}
 use Rattle.sock_tcp.specs.Rfc.Checks.{verdict_by}
-use Rattle.sock_tcp.specs.Rfc.Recovery.{before_of, recovered}
+use Rattle.sock_tcp.specs.Rfc.Recovery.{before_of, recovered, recovered_by}
 use Rattle.sock_tcp.specs.Rfc.Refused.{refused}
 use Rattle.sock_tcp.specs.Rfc.Windows.{windowed}
 use Rattle.sock_tcp.specs.Steps.{ack_delayed, heard, joined}
@@ -42,6 +43,7 @@ use Rattle.sock_tcp.specs.declared.state.State.TheVariants as state
 use Rattle.sock_tcp.specs.declared.tuple.Tuple.{Tuple}
 use Rattle.sock_tcp.specs.declared.verdict.Verdict.{Verdict}
 use Rattle.sock_tcp.specs.declared.verdict.Verdict.TheVariants as verdicts
+use Rattle.sock_tcp.proofs.Late.{closed_as}
 use Rattle.sock_tcp.proofs.Recovering.{recovered_as}
 use Rattle.sock_tcp.proofs.Refusing.{heard_alone, refused_as}
 use Rattle.tcp_laws.specs.SocketRun.{Dispatched, SendsTo}
@@ -220,11 +222,19 @@ module _ (now : Instant) (word : ℕ) (ip : IpRepr) (s : Segment) where
       go None h = tt
       go (Some x) h = h
 
+  -- nor does a close that waited
+  closed_says : (o : Outcome) → Says o → Says (record { view = record o.view { state = closed_from o.view.state }; reply = o.reply })
+  closed_says o h = go o.reply h
+    where
+      go : (r : Option Segment) → TellsHeld o.view r → TellsHeld (record o.view { state = closed_from o.view.state }) r
+      go None h = tt
+      go (Some x) h = h
+
   verdict_says : (r : Rules) (v : View) (x : Verdict) → Says (by_verdict r x v come)
   verdict_says r v verdicts.Drop = tt
   verdict_says r v verdicts.Reset = tt
   verdict_says r v verdicts.Challenge = challenged_says s now v
-  verdict_says r v verdicts.Pass = let o = tested_by r (has_window v.state) v come in let h = tested_says r v (has_window v.state) in recovered_as Says r v now s o h (recovered_says v o h)
+  verdict_says r v verdicts.Pass = let o = tested_by r (has_window v.state) v come in let h = tested_says r v (has_window v.state) in let j = recovered_as Says r v now s o h (recovered_says v o h) in closed_as Says r (recovered_by r v now s o) j (closed_says (recovered_by r v now s o) j)
 
 pub process_says : (r : Rules) (v : View) (now : Instant) (word : ℕ) (ip : IpRepr) (s : Segment) → TellsHeld (processed_by r v now word ip s).view (processed_by r v now word ip s).reply
 unfolding processed_by

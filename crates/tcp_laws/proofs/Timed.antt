@@ -13,8 +13,8 @@ use Rattle.sock_tcp.specs.Opening.{connected, listened, renewed}
 use Rattle.sock_tcp.specs.Process.{close_restarted}
 use Rattle.sock_tcp.specs.Queues.{first_probe, queued, read_off}
 use Rattle.sock_tcp.specs.Replies.{ack_kept}
-use Rattle.sock_tcp.specs.Rfc.Recovery.{before_of, echo_known, is_news, is_opened, marks, recovered}
-use Rattle.sock_tcp.specs.Rfc.TailLoss.{is_alone, tail_probed, tail_wait}
+use Rattle.sock_tcp.specs.Rfc.Recovery.{before_of, echo_known, is_news, is_opened, marks, recovered, reordering_after}
+use Rattle.sock_tcp.specs.Rfc.TailLoss.{is_alone, probed_by, tail_probed, tail_wait}
 use Rattle.sock_tcp.specs.Sent.{after_any, after_probe, snd_nxt_moved}
 use Rattle.sock_tcp.specs.Settings.{keep_alive_timer}
 use Rattle.sock_tcp.specs.Steps.{is_duplicate, is_window_changed, window_taken, released, ack_heard, duplicate_counted, ack_counted, una_advanced, acknowledged, timestamp_taken, timer_set, timer_acked, heard, joined, ack_delayed}
@@ -32,7 +32,7 @@ use Rattle.sock_tcp.proofs.Recovering.{known_as, begun_as, marked_as, timer_as}
 use Rattle.tcp_laws.proofs.Kept.{Kept, KeptByBeginnings, KeptByCalls, KeptByRows, KeptBySegments, KeptBySending, process_kept, sends_kept}
 use Rattle.tcp_laws.proofs.SocketSteps.{same_number}
 use Rattle.tcp_laws.proofs.OrderedCalls.{same_flag}
-use Rattle.tcp_laws.proofs.Moments.{IsTimed, acked_by, acked_short, again_short, and_true, bounded_short, close_by, delayed_by, doubled_by, fast_short, heard_short, idle_by, is_by, is_delay_by, is_moment_by, is_short, is_timer_by, later_timed, measured_short, opened_short, probe_by, probe_soonest_by, renewed_by, restarted_by, rto_by, sent_by, set_by, sooner_by, tail_by, timed_by}
+use Rattle.tcp_laws.proofs.Moments.{IsTimed, acked_by, acked_short, again_short, and_true, bounded_short, close_by, delayed_by, doubled_by, fast_short, heard_short, idle_by, is_by, is_delay_by, is_moment_by, is_short, is_timer_by, late_by, later_timed, measured_short, opened_short, probe_by, probe_soonest_by, renewed_by, restarted_by, rto_by, sent_by, set_by, sooner_by, tail_by, timed_by}
 
 module _ (most : Duration) (minute : 60000000 ≤ most.micros) where
   -- ---- a segment
@@ -93,7 +93,7 @@ module _ (most : Duration) (minute : 60000000 ≤ most.micros) where
           let u : View = echo_known (before_of v s) w now in
           let short : u.rtte.rto ≤ 60000 = heard_short (is_news (before_of v s) w) (before_of v s).echo w.rtte now i.timeout in
           let known : is_timer_by now most u.timer ≡ true = known_as (λ t. is_timer_by now most t ≡ true) (before_of v s) w now (λ at e. rto_by most minute now u.rtte short) i.timer in
-          record { timer = timer_as (λ t. is_timer_by now most t ≡ true) (before_of v s) u now known refl (λ at e. sym (ap (is_timer_by now most) e) ∙ h.timer) (rto_by most minute now u.rtte short) (tail_by most minute now u.rtte (is_alone u) short) (λ at delay e. idle_by most minute now w.keep_alive i.keep_short) (λ at delay h. probe_soonest_by most minute now w.idle_at at delay i.idle h); waits = i.waits; timeout = opened_short (is_opened (before_of v s) u) (marks (before_of v s) u) u.rtte short; keep_short = i.keep_short; delay_short = i.delay_short; idle = i.idle };
+          record { timer = timer_as (λ t. is_timer_by now most t ≡ true) (before_of v s) u now known refl (λ at e. sym (ap (is_timer_by now most) e) ∙ h.timer) (rto_by most minute now u.rtte short) (tail_by most minute now u.rtte (is_alone u) short) (λ at delay e. idle_by most minute now w.keep_alive i.keep_short) (λ at delay h. probe_soonest_by most minute now w.idle_at at delay i.idle h) (late_by most minute now (reordering_after (before_of v s) u) u.rtte short); waits = i.waits; timeout = opened_short (is_opened (before_of v s) u) (marks (before_of v s) u) u.rtte short; keep_short = i.keep_short; delay_short = i.delay_short; idle = i.idle };
     }
 
   -- ---- a reset
@@ -106,7 +106,7 @@ module _ (most : Duration) (minute : 60000000 ≤ most.micros) where
 
   module _ (now : Instant) where
     begins_timed : KeptByBeginnings (IsTimed now most) now
-    unfolding retransmission_begun fast_retransmission_marked tail_probed
+    unfolding retransmission_begun fast_retransmission_marked tail_probed probed_by
     begins_timed = record {
       remembers = λ v h. h;
       tells = λ v h. h;

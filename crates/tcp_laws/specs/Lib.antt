@@ -10,6 +10,7 @@ pub mod Clocks
 pub mod Speaking
 pub mod Loss
 pub mod Undoing
+pub mod Late
 pub mod Telling
 pub mod Windows
 pub mod Honored

@@ -21,7 +21,8 @@ pub record IsAsBefore (u : Undo) (w : View) : Type 0 where
   pub unmarked : w.pending_fast_retransmit ≡ false
   pub nothing : w.undo ≡ nothing_to_undo
 
--- The segment s came to v, and w is what it left so far. Where it shows that the recovery was for nothing, that is undone
+-- The segment s came to v, and w is what it left so far. Where it shows that the recovery was for nothing, that is
+-- undone
 abbrev pub UndoesWhatWasForNothing : Type 0
 UndoesWhatWasForNothing =
     (v w : View) (s : Segment) (now : Instant)

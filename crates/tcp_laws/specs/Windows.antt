@@ -11,12 +11,15 @@ use Rattle.sock_tcp.specs.Due.{edge_sent, field_left, is_closed, tells_window, w
 use Rattle.sock_tcp.specs.Process.{processed}
 use Rattle.sock_tcp.specs.Rfc.Numbers.{numbered}
 use Rattle.sock_tcp.specs.Rfc.OwnWindow.{space_field, told_left}
-use Rattle.sock_tcp.specs.Rfc.Windows.{is_newer, windowed}
+use Rattle.sock_tcp.specs.Rfc.Checks.{checked, verdict_by}
+use Rattle.sock_tcp.specs.Rfc.Windows.{ack_heeded, is_ignored, is_newer, windowed}
 use Rattle.sock_tcp.specs.Steps.{heard}
 use Rattle.sock_tcp.specs.View.{View}
 use Rattle.sock_tcp.specs.Window.{has_window}
 use Rattle.sock_tcp.specs.declared.acked.Acked.{Acked}
+use Rattle.sock_tcp.specs.declared.advance.Next.TheVariants as next
 use Rattle.sock_tcp.specs.declared.rules.Rules.TheVariants as rules
+use Rattle.sock_tcp.specs.declared.verdict.Verdict.TheVariants as verdicts
 use Rattle.tcp_laws.specs.Polling.{IsReached}
 
 -- The right edge of the window that a segment tells now, in bytes behind RCV.NXT, lies less than one unit of the window
@@ -58,7 +61,7 @@ OlderWindowIsNotTaken = (v : View) (now : Instant) (word : ℕ) (ip : IpRepr) (s
     → v.rules ≡ rules.Rfc
     → is_newer v.snd_wl1 v.snd_wl2 s ≡ false
     → ((a : Acked) → (heard v now a (windowed v.rules v s)).remote_win_len
-    ≤ v.remote_win_len - (acked_of v s.control s.ack_number).len)
+    ≤ v.remote_win_len - (acked_of v s.control (ack_heeded rules.Rfc v s s.ack_number)).len)
     × ((processed v now word ip s).view.remote_win_len ≤ v.remote_win_len)
 
 -- What takes no number has one that does not lie before SND.NXT, though that went back; where the own SYN was sent, and
@@ -71,3 +74,13 @@ NumberIsNotBehind = (v : View) (s : Segment)
     → has_window v.state ≡ true
     → segment_len s ≡ 0
     → is_before (numbered v s).seq_number v.remote_last_seq ≡ false
+
+-- Where an acknowledgement is ignored, and the checks before it let the segment go on, it passes: it is not dropped for
+-- the age of what it acknowledges
+abbrev pub OldAcknowledgementPasses : Type 0
+OldAcknowledgementPasses = (v : View) (now : Instant) (s : Segment)
+    → IsReached v
+    → v.rules ≡ rules.Rfc
+    → is_ignored v s s.ack_number ≡ true
+    → checked v now s ≡ next.Continue
+    → verdict_by v.rules v now s ≡ verdicts.Pass

@@ -1,5 +1,7 @@
 //! Laws on what a sender knows of a loss, and on what a receiver tells of it.
 ghost use Rattle.tcp_laws.specs.Loss.{ScoreboardFollowsSegments, TellsOnlyWhatCame, TellsTheNewest};
+ghost use Rattle.tcp_laws.specs.Late.{LateHoleGoesOut, NoLossIsForgotten, NothingSeenNothingIsLate};
+ghost use Rattle.tcp_laws.specs.Late.{NothingSeenNothingWaits, WaitsForARoundTripAtMost};
 ghost use Rattle.tcp_laws.specs.Telling.{AnswersTellWhatIsHeld, DispatchesTellNothing};
 ghost use Rattle.tcp_laws.specs.Undoing.{FirstEchoDecides, NothingIsUndoneTwice, UndoesWhatWasForNothing};
 
@@ -31,11 +33,23 @@ pub fn answers_tell_what_is_held()
 {}
 
 /// Where a segment shows that a recovery was for nothing, Reno's congestion window and threshold are at least what was
-/// kept of the time before it, and nothing is marked to go out again (RFC 4015, section 3.2). The first echo of something
-/// new decides, whatever it says, and what is decided is never undone: a later echo of the first sending, or a D-SACK,
-/// changes nothing then.
+/// kept of the time before it, and nothing is marked to go out again (RFC 4015, section 3.2). The first echo of
+/// something new decides, whatever it says, and what is decided is never undone: a later echo of the first sending, or
+/// a D-SACK, changes nothing then.
 pub fn recoveries_for_nothing_are_undone()
     ensures undoes { UndoesWhatWasForNothing }
     ensures decides { FirstEchoDecides }
     ensures once { NothingIsUndoneTwice }
+{}
+
+/// By the RFCs' rules: where a segment tells of a loss while no recovery goes on, and something is in flight, a fast
+/// retransmission is due at once, or the timer is over after as many quarters of a round trip as reordering was seen,
+/// at most four (RFC 8985, section 6.2). A dispatch then comes to its emit with a fast recovery from SND.UNA on, of
+/// which something is due. Where no reordering was seen nothing is waited for.
+pub fn losses_are_waited_for()
+    ensures told { NoLossIsForgotten }
+    ensures sent { LateHoleGoesOut }
+    ensures unseen { NothingSeenNothingWaits }
+    ensures unseen_then { NothingSeenNothingIsLate }
+    ensures most { WaitsForARoundTripAtMost }
 {}

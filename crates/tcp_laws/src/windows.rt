@@ -1,7 +1,7 @@
 //! Laws on the windows that a socket tells and hears, and on the numbers that it sends, by the RFCs' rules.
 ghost use Rattle.tcp_laws.specs.Honored.{ToldWindowsAreHonored};
 ghost use Rattle.tcp_laws.specs.Windows.{NoWindowByBytes, NumberIsNotBehind, OlderWindowIsNotTaken};
-ghost use Rattle.tcp_laws.specs.Windows.{OpenedWindowIsTold, RightEdgeStays};
+ghost use Rattle.tcp_laws.specs.Windows.{OldAcknowledgementPasses, OpenedWindowIsTold, RightEdgeStays};
 
 /// The right edge of the receive window that a segment tells does not go back behind the one that was told last, but by
 /// less than one unit of the window field (RFC 9293, section 3.8.6; RFC 7323, section 2.4): after any list of calls on
@@ -41,4 +41,11 @@ pub fn older_window_is_not_taken()
 /// any such list.
 pub fn number_is_not_behind()
     ensures { NumberIsNotBehind }
+{}
+
+/// Bytes or a FIN are not dropped for the age of the acknowledgement that they come with (RFC 9293, section 3.10.7.4):
+/// from before SND.UNA, by no more than the largest window (RFC 5961, section 5.2), it is ignored, and the segment
+/// passes, after any such list.
+pub fn old_acknowledgement_passes()
+    ensures { OldAcknowledgementPasses }
 {}

@@ -315,11 +315,11 @@ fn tell_dropped(before: Counters, after: Counters) {
     }
     let counts = |of: Counters| {
         let first = [of.malformed, of.source, of.destination, of.protocol, of.segment, of.datagram];
-        (first, [of.message, of.busy, of.nobody, of.too_long])
+        (first, [of.message, of.busy, of.nobody, of.full, of.too_long, of.unsent])
     };
     let ((a, b), (c, d)) = (counts(before), counts(after));
     let reasons = ["malformed", "source", "destination", "protocol", "segment", "datagram"];
-    let others = ["message", "busy", "nobody", "too long"];
+    let others = ["message", "busy", "nobody", "full queue", "too long", "no source"];
     let pairs = a.iter().zip(&c).zip(&reasons).chain(b.iter().zip(&d).zip(&others));
     for (_, reason) in pairs.filter(|((before, after), _)| before != after) {
         tell!("dropped: {}", *reason);

@@ -43,6 +43,20 @@ impl<'a> Socket<'a> {
             (received self.old ++ (metadata_of ip_repr.now repr.now, payload.now) ∷ []) (received self.old) }
         ensures effect { Effect (Process ip_repr.now repr.now payload.now) self.old self.new }
     {
+        let _ = self.queue_datagram(ip_repr, repr, payload);
+    }
+
+    /// The same, and whether there was room for it.
+    pub fn queue_datagram(&mut self, ip_repr: &IpRepr, repr: &UdpRepr, payload: &[u8]) -> bool
+        ensures room { result ≡ takes (length payload.now) self.old.rx_buffer }
+        ensures view { self.new ≡ record self.old {
+          rx_buffer = stored
+              (metadata_of ip_repr.now repr.now) payload.now self.old.rx_buffer;
+        } }
+        ensures queue { received self.new ≡ cond (takes (length payload.now) self.old.rx_buffer)
+            (received self.old ++ (metadata_of ip_repr.now repr.now, payload.now) ∷ []) (received self.old) }
+        ensures effect { Effect (Process ip_repr.now repr.now payload.now) self.old self.new }
+    {
         let meta = UdpMetadata {
             endpoint: IpEndpoint {
                 addr: ip_repr.src_addr(),
@@ -50,6 +64,6 @@ impl<'a> Socket<'a> {
             },
             local_address: Some(ip_repr.dst_addr()),
         };
-        store(&mut self.rx_buffer, meta, payload);
+        store(&mut self.rx_buffer, meta, payload)
     }
 }

@@ -12,6 +12,7 @@ use Rattle.control_wire.specs.declared.tcp.TcpControl.TheVariants as control
 use Rattle.control_wire.specs.declared.tcp.TcpTimestampRepr.{TcpTimestampRepr}
 use Rattle.sock_core.specs.Seq.{is_before}
 use Rattle.sock_tcp.specs.Rfc.Recovery.{highest_of}
+use Rattle.sock_tcp.specs.Rfc.Windows.{ack_heeded}
 use Rattle.sock_tcp.specs.Timers.{after, is_over}
 use Rattle.sock_tcp.specs.Verdict.{fin_place, verdict_of}
 use Rattle.sock_tcp.specs.View.{View}
@@ -101,7 +102,7 @@ checked v now s = if has_window v.state then checked_in v.state s.control v now 
 abbrev pub verdict_then : Next → View → Segment → Verdict
 verdict_then next.Stop v s = verdicts.Drop
 verdict_then next.Challenge v s = verdicts.Challenge
-verdict_then next.Continue v s = verdict_of v s.control s.ack_number
+verdict_then next.Continue v s = verdict_of v s.control (ack_heeded rules.Rfc v s s.ack_number)
 
 abbrev pub verdict_by : Rules → View → Instant → Segment → Verdict
 verdict_by rules.Smoltcp v now s = verdict_of v s.control s.ack_number

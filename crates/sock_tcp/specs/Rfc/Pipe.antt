@@ -1,6 +1,6 @@
 -- How much is in the network while a fast retransmission goes on and the peer tells by SACK (RFC 6675, sections 2 and
 -- 4), and what may go out then.
-use Rattle.std.specs.Prelude.{ℕ, ◌+◌, ◌-◌, ◌*◌, ◌/◌, ◌^◌, nat_le, max, min, Bool, false, if◌then◌else◌}
+use Rattle.std.specs.Prelude.{ℕ, ◌+◌, ◌-◌, ◌*◌, ◌/◌, ◌^◌, ◌==◌, nat_le, max, min, Bool, false, if◌then◌else◌}
 use Rattle.control_wire.specs.Seq.{seq_eq, seq_sub}
 use Rattle.control_wire.specs.declared.seq_number.TcpSeqNumber.{TcpSeqNumber}
 use Rattle.sock_core.specs.Seq.{is_before}
@@ -25,6 +25,10 @@ before_place p b = min b.end p - min b.start p
 unfoldable pub told_before : Scoreboard → ℕ → ℕ
 told_before k p =
     min p (before_place p k.newest + before_place p k.second + before_place p k.third + before_place p k.oldest)
+
+-- what is no longer in the network, where reordering was seen: so many quarters of a round trip are waited for
+abbrev pub told_late : ℕ → Scoreboard → ℕ
+told_late n k = if n == 0 then 0 else told_before k (2 ^ 32)
 
 -- ---- what is in the network
 

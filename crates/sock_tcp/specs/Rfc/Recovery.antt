@@ -23,6 +23,7 @@ use Rattle.sock_tcp.specs.Inside.{Outcome}
 use Rattle.sock_tcp.specs.Rfc.Scoreboard.{all_told, any_news, highest_told, hole_behind, is_blank, moved, nothing_told}
 use Rattle.sock_tcp.specs.Rfc.Pipe.{has_room, told_before}
 use Rattle.sock_tcp.specs.Rfc.RoundTrips.{echo_of, echo_taken}
+use Rattle.sock_tcp.specs.Rfc.Reordering.{is_told, late_set, late_wait, one_more}
 use Rattle.sock_tcp.specs.Rfc.SmallSegments.{larger}
 use Rattle.sock_tcp.specs.Rfc.Undo.{counted_again, is_older, may_undo, nothing_to_undo}
 use Rattle.sock_tcp.specs.Rfc.TailLoss.{is_alone, may_probe, sooner, tail_waits}
@@ -41,6 +42,7 @@ use Rattle.sock_tcp.specs.declared.state.State.TheVariants as state
 use Rattle.sock_tcp.specs.declared.timer.Timer.{Timer}
 use Rattle.sock_tcp.specs.declared.timer.Timer.TheVariants as timer
 use Rattle.sock_tcp.specs.declared.undo.Undo.{Undo}
+pub use Rattle.sock_tcp.specs.Rfc.Reordering.{is_over, may_resend}
 
 -- ---- what is kept of the socket as it was before the segment
 
@@ -222,6 +224,40 @@ duplicates_after b w =
     if is_void b w then b.duplicates
     else (if is_uncounted b w then min (b.duplicates + 1) 255 else w.local_rx_dup_acks)
 
+-- ---- a recovery that was for nothing
+
+-- the first echo of something new tells whether it was
+abbrev pub is_decided_by : Recovery → Bool
+is_decided_by (recovery.Fast point high_rxt resent_at acked) = true
+is_decided_by (recovery.Timeout point) = true
+is_decided_by _ = false
+
+-- it was: what is acknowledged came of the first sending (RFC 3522, section 3.2)
+abbrev pub undone_by_echo : Before → View → Bool
+undone_by_echo b w = is_news b w && (is_decided_by b.recovery && is_older b.echo w.undo.stamp)
+
+-- where there are no timestamps: all that went out again came twice (RFC 3708, section 3)
+abbrev pub undone_by_blocks : Before → View → Bool
+undone_by_blocks b w = not (is_some b.echo) && (not (w.undo.resent == 0) && nat_le w.undo.resent b.twice)
+
+abbrev pub is_undone : Before → View → Bool
+is_undone b w = may_undo w.undo && (undone_by_echo b w || undone_by_blocks b w)
+
+-- the first echo of something new was heard
+abbrev pub is_decided : Before → View → Bool
+is_decided b w = is_news b w && (is_decided_by b.recovery && is_some b.echo)
+
+-- ---- reordering (RFC 8985, section 6.2)
+
+-- how many quarters of a round trip a loss is waited for: one more for each fast recovery that was for nothing
+abbrev pub reordering_after : Before → View → ℕ
+reordering_after b w =
+    if is_undone b w && not (w.undo.window == 0) then one_more w.reordering else w.reordering
+
+-- a loss was told, and is waited for
+abbrev pub is_waited : Before → View → Bool
+is_waited b w = is_told (reordering_after b w) (duplicates_after b w) (sacked_after b w) w.remote_mss
+
 -- ---- recovery (RFC 6582, section 3.2; RFC 6675, section 5)
 
 -- of new bytes, but not of all that was sent before a fast retransmission
@@ -232,18 +268,9 @@ is_partial_in _ news una = false
 abbrev pub is_partial : Before → View → Bool
 is_partial b w = is_partial_in b.recovery (is_news b w) w.local_seq_no
 
-abbrev pub is_over : Recovery → Bool
-is_over recovery.Open = true
-is_over (recovery.Probe start end again) = true
-is_over _ = false
-
--- there are bytes to send again
-abbrev pub may_resend : View → Bool
-may_resend w = carries_data w.state && not (length w.tx_buffer.bytes == 0)
-
--- duplicates begin a recovery, where none goes on
+-- duplicates begin a recovery, where none goes on, and the loss is not waited for
 abbrev pub begins : Before → View → Bool
-begins b w = may_resend w && (tells_loss b w && is_over b.recovery)
+begins b w = may_resend w && (tells_loss b w && (is_over b.recovery && not (is_waited b w)))
 
 -- there is a hole that was not sent again in this recovery
 abbrev pub has_hole : Recovery → Scoreboard → TcpSeqNumber → Bool
@@ -338,28 +365,7 @@ gone_on (recovery.Fast point high_rxt resent_at acked) una =
     reached_by una (recovery.Fast point high_rxt resent_at acked) point
 gone_on (recovery.Timeout point) una = reached_by una (recovery.Timeout point) point
 
--- ---- a recovery that was for nothing
-
--- the first echo of something new tells whether it was
-abbrev pub is_decided_by : Recovery → Bool
-is_decided_by (recovery.Fast point high_rxt resent_at acked) = true
-is_decided_by (recovery.Timeout point) = true
-is_decided_by _ = false
-
--- it was: what is acknowledged came of the first sending (RFC 3522, section 3.2)
-abbrev pub undone_by_echo : Before → View → Bool
-undone_by_echo b w = is_news b w && (is_decided_by b.recovery && is_older b.echo w.undo.stamp)
-
--- where there are no timestamps: all that went out again came twice (RFC 3708, section 3)
-abbrev pub undone_by_blocks : Before → View → Bool
-undone_by_blocks b w = not (is_some b.echo) && (not (w.undo.resent == 0) && nat_le w.undo.resent b.twice)
-
-abbrev pub is_undone : Before → View → Bool
-is_undone b w = may_undo w.undo && (undone_by_echo b w || undone_by_blocks b w)
-
--- the first echo of something new was heard
-abbrev pub is_decided : Before → View → Bool
-is_decided b w = is_news b w && (is_decided_by b.recovery && is_some b.echo)
+-- ---- what is kept of the time before
 
 abbrev pub undo_after : Before → View → Undo
 undo_after b w = if is_undone b w || is_decided b w then nothing_to_undo else counted_again w.undo b.twice
@@ -512,11 +518,19 @@ left_running b w now =
     (kept_if (is_later_partial b w) b.timer
     (running w.timer (flight w) (length w.tx_buffer.bytes) w.keep_alive w.rtte now))
 
-abbrev pub waited_for : Before → View → Instant → Timer
-waited_for b w now =
+abbrev pub heard_for : Before → View → Instant → Timer
+heard_for b w now =
     if tells_controller b w then timer.FastRetransmit
     else (if is_called b w then gone_on_from b.timer now w.rtte
     else tail_waits (waits_tail b w) (left_running b w now) now w.rtte (is_alone w))
+
+-- a loss is waited for from now on, with the next hole behind SND.UNA
+abbrev pub waits_late : Before → View → Bool
+waits_late b w = is_waited b w && (may_resend w && is_over (recovery_after b w))
+
+abbrev pub waited_for : Before → View → Instant → Timer
+waited_for b w now =
+    late_set (waits_late b w) (heard_for b w now) now (late_wait (reordering_after b w) w.rtte)
 
 abbrev pub timer_after : Before → View → Instant → Timer
 timer_after b w now = if has_timer w.state then waited_for b w now else w.timer
@@ -544,6 +558,7 @@ recovered_from b w now =
       sacked = sacked_after b w;
       largest_window = larger (has_window b.state) w.largest_window w.remote_win_len;
       undo = undo_after b w;
+      reordering = reordering_after b w;
     }
 
 unfoldable pub recovered : Before → View → Instant → View

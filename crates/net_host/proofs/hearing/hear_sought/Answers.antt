@@ -1,16 +1,21 @@
-use Rattle.std.proofs.Common.{◌∙◌, ap, subst, option_map}
+use Rattle.std.proofs.Common.{◌∙◌, ap, subst, sym, option_map}
 use Rattle.control_wire.specs.Segment.{segment_of}
 use Rattle.sock_tcp.specs.Process.{reply_of}
-use Rattle.net_host.specs.Cookies.{IsAgain, TakenOn}
+use Rattle.net_host.specs.Cookies.{IsAgain, OpensOn, TakenOn, class_if}
 use Rattle.net_host.specs.Segments.{IsTaker}
 use Rattle.net_host.specs.Wire.{with_reply}
+use Rattle.net_host.proofs.Opens.{opens_on}
 use Rattle.net_host.proofs.hearing.hear_sought.Goals as goal
 
 pub returns-clause-taker : goal.returns-clause-taker
 returns-clause-taker g c = subst (λ s. IsTaker s.items c.args.ip.now (segment_of c.args.repr.now) c.heard_by-heard.result.taker) c.settle_for.ensures.slots c.heard_by-heard.ensures.taker
 
 pub returns-clause-again : goal.returns-clause-again
-returns-clause-again g c = subst (λ s. IsAgain c.heard_by-heard.result.course s.items c.args.ip.now (segment_of c.args.repr.now) c.heard_by-heard.result.again) c.settle_for.ensures.slots c.heard_by-heard.ensures.again
+returns-clause-again g c = subst (λ s. IsAgain (class_if c.args.cookies.now c.heard_by-heard.result.taker (g.C.Context.facts c.args.cx.now).now (segment_of c.args.repr.now)) s.items c.args.ip.now (segment_of c.args.repr.now) c.heard_by-heard.result.again) c.settle_for.ensures.slots c.heard_by-heard.ensures.again
+
+pub take_heard-requires-clause-opens : goal.take_heard-requires-clause-opens
+take_heard-requires-clause-opens g c = subst (λ k. OpensOn k c.settle_for.new.self.slots.items c.args.ip.now (segment_of c.args.repr.now) c.heard_by-heard.result.again) (sym c.heard_by-heard.ensures.course)
+    (opens_on c.settle_for.new.self.slots.items c.args.ip.now (segment_of c.args.repr.now) c.heard_by-heard.result.again c.args.cookies.now c.heard_by-heard.result.taker (g.C.Context.facts c.args.cx.now).now c.heard_by-heard.ensures.again)
 
 pub returns-clause-heard : goal.returns-clause-heard
 returns-clause-heard g c = record {

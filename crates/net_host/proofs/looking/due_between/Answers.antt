@@ -8,6 +8,7 @@ use Rattle.net_host.specs.Walks.{ChangesAt}
 use Rattle.net_host.proofs.Polls.{due_if}
 use Rattle.net_host.proofs.Sleepers.{each_len}
 use Rattle.net_host.proofs.Telling.{tells_none, tells_then}
+use Rattle.net_host.proofs.Unmarked.{after_now, unmarks_all, unmarks_next, unmarks_none}
 use Rattle.net_host.proofs.Walking.{begins, ends_quiet, ends_there, goes_on, over_now, passes_to}
 use Rattle.net_host.proofs.looking.due_between.Goals as goal
 
@@ -48,7 +49,16 @@ loop-i-preserved g c =
           (passes_to f st c.args.start c.args.end c.args.sockets.now.slots.items c.loop-i.from c.loop-i.sockets.slots.items c.loop-i.invariant.passes c.in-Some.i more)
           (due_if f (slice_get c.look_at.new.sockets.slots.items c.in-Some.i) c.look_at.result false c.if-look_at.false c.look_at.ensures.due);
       ends = tells_then _ _ _ _ _ _ c.loop-i.invariant.ends c.look_at.ensures.ends;
+      unmarked = unmarks_next c.args.start c.loop-i.from c.args.sockets.now.bounds c.loop-i.sockets.bounds c.loop-i.invariant.unmarked c.in-Some.i c.look_at.new.sockets.bounds c.loop-i.invariant.passes.order c.in-Some.ensures.behind
+          (λ k h l. after_now f.now (bound_at c.loop-i.sockets.bounds k) c.now-now.ensures.lawful.0 (subst (λ z. z <ℤ bound_at c.loop-i.sockets.bounds k) (now_is ∙ c.now-now.ensures.value) (c.in-Some.ensures.before k h l)))
+          c.look_at.ensures.bounds (c.look_at.ensures.later c.if-look_at.false);
     }
+
+pub returns-clause-unmarked : goal.returns-clause-unmarked
+returns-clause-unmarked g c =
+    let now_is : to_z w64 (of_z w64 c.now-now.result.micros) ≡ c.now-now.result.micros = search rules in
+    λ e. unmarks_all c.args.start c.loop-i.from c.args.sockets.now.bounds c.loop-i.sockets.bounds c.loop-i.invariant.unmarked c.args.end c.loop-i.invariant.passes.order c.loop-i.invariant.passes.limit
+    (λ k h l. after_now (g.C.Context.facts c.args.cx.now).now (bound_at c.loop-i.sockets.bounds k) c.now-now.ensures.lawful.0 (subst (λ z. z <ℤ bound_at c.loop-i.sockets.bounds k) (now_is ∙ c.now-now.ensures.value) (c.in_default.ensures k h l)))
 
 pub returns-clause-looked : goal.returns-clause-looked
 returns-clause-looked g c =
@@ -63,4 +73,4 @@ pub returns-then-look_at-clause-ends : goal.returns-then-look_at-clause-ends
 returns-then-look_at-clause-ends g c = tells_then _ _ _ _ _ _ c.loop-i.invariant.ends c.look_at.ensures.ends
 
 pub loop-i-init : goal.loop-i-init
-loop-i-init g c = record { terms = refl; passes = begins _ _ _ _ _; ends = tells_none _ _ _ _ refl refl }
+loop-i-init g c = record { terms = refl; passes = begins _ _ _ _ _; ends = tells_none _ _ _ _ refl refl; unmarked = unmarks_none _ _ }

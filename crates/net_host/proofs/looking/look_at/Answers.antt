@@ -5,6 +5,7 @@ use Rattle.net_host.specs.Looking.{is_seen}
 use Rattle.net_host.specs.Turns.{Watches}
 use Rattle.net_host.specs.Walks.{ChangesAt}
 use Rattle.net_host.proofs.Telling.{tells_none, tells_then}
+use Rattle.net_host.proofs.Unmarked.{keeps_then}
 use Rattle.net_host.proofs.looking.look_at.Goals as goal
 
 pub note_at-requires-clause-seen : goal.note_at-requires-clause-seen
@@ -18,3 +19,6 @@ returns-clause-looked g c =
 
 pub returns-clause-ends : goal.returns-clause-ends
 returns-clause-ends g c = tells_then _ _ _ _ _ _ c.watch_unless_idle.ensures.ends (tells_none _ _ _ _ (ap (λ v. v.items) c.note_at.ensures.slots) c.note_at.ensures.ended)
+
+pub returns-clause-bounds : goal.returns-clause-bounds
+returns-clause-bounds g c = keeps_then c.args.i _ _ _ c.watch_unless_idle.ensures.bounds c.note_at.ensures.bounds

@@ -3,8 +3,10 @@ use Rattle.std.specs.Prelude.{◌<ℤ◌}
 use Rattle.host_bounds.specs.Bounding.{bound_at}
 use Rattle.sock_tcp.specs.View.{moment_of}
 use Rattle.net_host.specs.Looking.{LooksIn, MayLook}
+use Rattle.net_host.specs.Touching.{UnmarksIn}
 use Rattle.net_host.proofs.Sleepers.{each_len}
 use Rattle.net_host.proofs.Telling.{tells_none, tells_then}
+use Rattle.net_host.proofs.Unmarked.{after_now, all_unmarked}
 use Rattle.net_host.proofs.Walking.{all_rest, over_now, second_goes}
 use Rattle.net_host.proofs.looking.next_due.Goals as goal
 
@@ -35,3 +37,16 @@ returns-in-None-clause-ends g c = tells_then _ _ _ _ _ _ c.due_between.ensures.e
 
 pub returns-then-are_after-clause-ends : goal.returns-then-are_after-clause-ends
 returns-then-are_after-clause-ends g c = tells_none _ _ _ _ refl refl
+
+pub returns-in-None-clause-unmarked : goal.returns-in-None-clause-unmarked
+returns-in-None-clause-unmarked g c =
+    let many : c.len-count.result ≡ length c.args.sockets.now.slots.items = search rules in
+    λ e. all_unmarked c.min-start.result (length c.args.sockets.now.slots.items) c.args.sockets.now.bounds c.due_between.new.sockets.bounds c.due_between-in-None.new.sockets.bounds
+    (subst (λ n. UnmarksIn c.min-start.result n c.args.sockets.now.bounds c.due_between.new.sockets.bounds) many (c.in-None.ensures.unmarked refl))
+    (c.due_between-in-None.ensures.unmarked e) c.args.sockets.now.as_many
+
+pub returns-then-are_after-clause-unmarked : goal.returns-then-are_after-clause-unmarked
+returns-then-are_after-clause-unmarked g c =
+    let now_is : to_z w64 (of_z w64 c.now.result.micros) ≡ c.now.result.micros = search rules in
+    λ e k l. after_now (g.C.Context.facts c.args.cx.now).now (bound_at c.args.sockets.now.bounds k) c.now.ensures.lawful.0
+    (subst (λ z. z <ℤ bound_at c.args.sockets.now.bounds k) (now_is ∙ c.now.ensures.value) (c.are_after.ensures c.if-are_after.true k l))

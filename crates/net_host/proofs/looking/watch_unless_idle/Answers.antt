@@ -4,6 +4,7 @@ use Rattle.net_host.specs.Turns.{Watches}
 use Rattle.net_host.proofs.Polls.{seen_there}
 use Rattle.net_host.proofs.Each.{changes_nothing}
 use Rattle.net_host.proofs.Telling.{tells_none}
+use Rattle.net_host.proofs.Unmarked.{keeps_same, keeps_set}
 use Rattle.net_host.proofs.looking.watch_unless_idle.Goals as goal
 
 pub returns-then-not-is_idle_at-clause-seen : goal.returns-then-not-is_idle_at-clause-seen
@@ -18,3 +19,9 @@ returns-else-not-is_idle_at-clause-looked g c =
 
 pub returns-else-not-is_idle_at-clause-ends : goal.returns-else-not-is_idle_at-clause-ends
 returns-else-not-is_idle_at-clause-ends g c = tells_none _ _ _ _ refl refl
+
+pub returns-then-not-is_idle_at-clause-bounds : goal.returns-then-not-is_idle_at-clause-bounds
+returns-then-not-is_idle_at-clause-bounds g c = keeps_set c.args.i _ _ _ c.watch_at.ensures.bounds
+
+pub returns-else-not-is_idle_at-clause-bounds : goal.returns-else-not-is_idle_at-clause-bounds
+returns-else-not-is_idle_at-clause-bounds g c = keeps_same c.args.i _ _ refl

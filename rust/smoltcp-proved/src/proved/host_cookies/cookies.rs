@@ -81,7 +81,8 @@ fn recognised(words: &mut ChaCha20Rng, tag: u64, step: u64, number: u32) -> Opti
     }
 }
 
-fn class_in(number: u32) -> u8 {
+/// The class that a number tells, whether it is of an answer or not.
+pub fn class_in(number: u32) -> u8 {
     (number / 536_870_912) as u8
 }
 

@@ -23,9 +23,16 @@ fn number_of(addr: &IpAddress) -> u128 {
     }
 }
 
-// Both addresses of a call.
+// Both addresses of a call: two of IPv4 fit one place.
 fn addresses_of(words: &mut ChaCha20Rng, call: &Call) -> u64 {
     let (remote, local) = (number_of(&call.remote), number_of(&call.local));
+    if high_of(remote) == 0 && high_of(local) == 0 {
+        return mixed(words, low_of(remote), low_of(local));
+    }
+    mixed_wide(words, remote, local)
+}
+
+fn mixed_wide(words: &mut ChaCha20Rng, remote: u128, local: u128) -> u64 {
     let one = mixed(words, high_of(remote), low_of(remote));
     let two = mixed(words, one, high_of(local));
     mixed(words, two, low_of(local))

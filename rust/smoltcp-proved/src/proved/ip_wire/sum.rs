@@ -141,8 +141,14 @@ fn both_halves(total: u32) -> u16 {
 /// The sum of 20 bytes, as a header without options has, with no loop and no call.
 #[inline(always)]
 pub fn sum_of_twenty(octets: &[u8]) -> u16 {
+    sum_of_twenty_after(0, octets)
+}
+
+/// The sum of 20 bytes, as [`sum_of_twenty`], and of what was summed before.
+#[inline(always)]
+pub fn sum_of_twenty_after(start: u16, octets: &[u8]) -> u16 {
     let first = le32_at(octets, 0) + le32_at(octets, 4) + le32_at(octets, 8);
-    swapped_word(0, first + le32_at(octets, 12) + le32_at(octets, 16))
+    swapped_word(start as u64, first + le32_at(octets, 12) + le32_at(octets, 16))
 }
 
 /// The checksum of `bytes`, and of what was summed before: the complement of the sum.
@@ -152,6 +158,8 @@ pub fn checksum_after(start: u16, bytes: &[u8]) -> u16 {
 
 /// The sum of the pseudo header of a packet whose payload has `length` bytes, of this protocol (RFC 8200, section 8.1;
 /// for IPv4 RFC 9293, section 3.1).
+// Inlined, so that no address is put into a value of either version for it.
+#[inline(always)]
 pub fn pseudo_sum(src: &IpAddress, dst: &IpAddress, protocol: u8, length: usize) -> u16 {
     let rest = length as u64 % 0x1_0000_0000 + protocol as u64;
     word_of(address_sum(src) + address_sum(dst) + rest)

@@ -245,6 +245,8 @@ impl<'a, H: Copy> PacketBuffer<'a, H> {
     /// `part` lends them. `None` where there is no packet.
     ///
     /// The two steps of `dequeue`, for a caller that lends the bytes on and says what it then is.
+    // Inlined, so that a caller that wants no header copies none.
+    #[inline(always)]
     pub fn take_first(&mut self) -> Option<(H, (usize, usize))> {
         self.skip_padding();
         if self.is_empty() {

@@ -2,7 +2,7 @@
 //! SYN cookies: a SYN is answered and no socket holds it, and who answers that is believed (RFC 4987, section 3.6).
 
 use crate::proved::control_wire::TcpSeqNumber;
-use crate::proved::host_cookies::cookies::answers_are_recognised;
+use crate::proved::host_cookies::cookies::{answers_are_recognised, class_in};
 use crate::proved::host_cookies::{Call, SynCookies, class_of, mss_of};
 use crate::proved::net_host::rest::opens;
 use crate::proved::net_host::segments::Taker;
@@ -124,9 +124,41 @@ fn doubted_by(cookies: &SynCookies, now: Instant, ip: &IpRepr, repr: &TcpRepr<'_
     }
 }
 
-// As long as an answer is awaited.
-fn tested(cookies: &SynCookies, now: Instant, ip: &IpRepr, repr: &TcpRepr<'_>) -> Course {
-    if cookies.awaits(now.micros) { doubted_by(cookies, now, ip, repr) } else { Course::Plain }
+/// The class that a segment tells that no socket takes, where it may acknowledge an answer and one is awaited.
+pub(crate) fn class_if<C: Context>(
+    cookies: &Option<SynCookies>,
+    taker: Taker,
+    cx: &C,
+    repr: &TcpRepr<'_>,
+) -> Option<u8> {
+    match (cookies, taker) {
+        (Some(cookies), Taker::Nobody) => class_awaited(cookies, cx.now(), repr),
+        _ => None,
+    }
+}
+
+fn class_awaited(cookies: &SynCookies, now: Instant, repr: &TcpRepr<'_>) -> Option<u8> {
+    if !cookies.awaits(now.micros) {
+        return None;
+    }
+    match acked_by(repr) {
+        Some(ack) => Some(class_in(ack.minus(1).0)),
+        None => None,
+    }
+}
+
+fn is_anybody(taker: Taker) -> bool {
+    !matches!(taker, Taker::Nobody)
+}
+
+// As long as an answer is awaited, and where the SYN before it is not for nobody: a stray segment to a port that nobody
+// serves costs no test of its number.
+fn tested(cookies: &SynCookies, again: Taker, now: Instant, ip: &IpRepr, repr: &TcpRepr<'_>) -> Course {
+    if cookies.awaits(now.micros) && is_anybody(again) {
+        doubted_by(cookies, now, ip, repr)
+    } else {
+        Course::Plain
+    }
 }
 
 /// An answer that goes out is noted.
@@ -168,25 +200,33 @@ fn kept_or(cookies: &SynCookies, place: usize, now: Instant, ip: &IpRepr, repr: 
     }
 }
 
-fn course_under(cookies: &SynCookies, taker: Taker, now: Instant, ip: &IpRepr, repr: &TcpRepr<'_>) -> Course {
+fn course_under(
+    cookies: &SynCookies,
+    taker: Taker,
+    again: Taker,
+    now: Instant,
+    ip: &IpRepr,
+    repr: &TcpRepr<'_>,
+) -> Course {
     match taker {
         Taker::Listener(place) => kept_or(cookies, place, now, ip, repr),
-        Taker::Nobody => tested(cookies, now, ip, repr),
+        Taker::Nobody => tested(cookies, again, now, ip, repr),
         _ => Course::Plain,
     }
 }
 
-/// What becomes of a segment that this taker has.
+/// What becomes of a segment that this taker has, and the SYN before it this one.
 pub(crate) fn course_of<C: Context>(
     cookies: &Option<SynCookies>,
     taker: Taker,
+    again: Taker,
     cx: &C,
     ip: &IpRepr,
     repr: &TcpRepr<'_>,
 ) -> Course {
     match cookies {
         None => Course::Plain,
-        Some(cookies) => course_under(cookies, taker, cx.now(), ip, repr),
+        Some(cookies) => course_under(cookies, taker, again, cx.now(), ip, repr),
     }
 }
 
@@ -250,7 +290,8 @@ pub(crate) fn answer_of<C: Context>(
 }
 
 /// Where no socket takes it, the acknowledgement of an answer is believed within 64 seconds: as of the class that the
-/// SYN told, and of the number of the answer. None is believed once no answer is awaited, 128 seconds after the last.
+/// SYN told, and of the number of the answer. None is believed once no answer is awaited, 128 seconds after the last,
+/// nor where the SYN before it is for nobody.
 pub fn answers_are_believed() {
     answers_are_recognised();
 }

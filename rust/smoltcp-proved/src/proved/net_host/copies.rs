@@ -64,18 +64,18 @@ fn touch_found(bounds: &mut Bounds, found: Option<usize>) {
     }
 }
 
-/// A datagram arrives: the place of the first socket that takes it, if any.
+/// A datagram arrives: the place of the first socket that takes it, if any, and whether there was room for it there.
 pub(crate) fn hear_datagram_of<C: Context, G: TsvalSource>(
     sockets: &mut SocketSet<'_, G>,
     cx: &C,
     ip: &IpRepr,
     repr: &UdpRepr,
     payload: &[u8],
-) -> Option<usize> {
+) -> (Option<usize>, bool) {
     sockets.settle();
     let found = datagram_taker(sockets, cx, ip, repr);
     sockets.settled = false;
     touch_found(&mut sockets.bounds, found);
-    hear_found(&mut sockets.slots, found, cx, ip, repr, payload);
-    found
+    let room = hear_found(&mut sockets.slots, found, cx, ip, repr, payload);
+    (found, room)
 }

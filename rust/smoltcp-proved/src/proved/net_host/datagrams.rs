@@ -17,10 +17,11 @@ impl<'a, G: TsvalSource> Slot<'a, G> {
         }
     }
 
-    fn hear_datagram<C: Context>(&mut self, cx: &C, ip: &IpRepr, repr: &UdpRepr, payload: &[u8]) {
+    // Whether there was room for it.
+    fn hear_datagram<C: Context>(&mut self, cx: &C, ip: &IpRepr, repr: &UdpRepr, payload: &[u8]) -> bool {
         match &mut self.socket {
-            Some(Socket::Udp(udp)) => udp.process(cx, ip, repr, payload),
-            _ => {}
+            Some(Socket::Udp(udp)) => udp.queue_datagram(ip, repr, payload),
+            _ => true,
         }
     }
 }
@@ -47,11 +48,11 @@ fn hear_datagram_at<C: Context, G: TsvalSource>(
     ip: &IpRepr,
     repr: &UdpRepr,
     payload: &[u8],
-) {
-    slots[i].hear_datagram(cx, ip, repr, payload);
+) -> bool {
+    slots[i].hear_datagram(cx, ip, repr, payload)
 }
 
-/// The datagram goes to the first socket that takes it, if any.
+/// The datagram goes to the first socket that takes it, if any. Whether there was room for it there.
 pub(crate) fn hear_found<C: Context, G: TsvalSource>(
     slots: &mut Vec<Slot<'_, G>>,
     found: Option<usize>,
@@ -59,9 +60,10 @@ pub(crate) fn hear_found<C: Context, G: TsvalSource>(
     ip: &IpRepr,
     repr: &UdpRepr,
     payload: &[u8],
-) {
-    if let Some(i) = found {
-        hear_datagram_at(slots, i, cx, ip, repr, payload);
+) -> bool {
+    match found {
+        Some(i) => hear_datagram_at(slots, i, cx, ip, repr, payload),
+        None => true,
     }
 }
 

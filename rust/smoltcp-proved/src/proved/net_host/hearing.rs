@@ -3,7 +3,9 @@
 
 use crate::proved::host_cookies::SynCookies;
 use crate::proved::net_host::answered::hear_out_there;
-use crate::proved::net_host::cookies::{Course, Told, answer_of, course_of, opening_of, room_at, syn_before};
+use crate::proved::net_host::cookies::{
+    Course, Told, answer_of, class_if, course_of, opening_of, room_at, syn_before,
+};
 use crate::proved::net_host::filing::connection_key;
 use crate::proved::net_host::limit::Limit;
 use crate::proved::net_host::replies::put_reply;
@@ -20,20 +22,20 @@ use crate::sockets::wire::{IpRepr, TcpRepr};
 pub struct Heard {
     pub course: Course,
     pub taker: Taker,
-    /// Who takes the SYN before an acknowledgement that is believed.
+    /// Who takes the SYN before an acknowledgement that may be believed.
     pub again: Taker,
 }
 
 fn who_again<C: Context, G: TsvalSource>(
     sockets: &SocketSet<'_, G>,
     cx: &C,
-    course: Course,
+    class: Option<u8>,
     ip: &IpRepr,
     repr: &TcpRepr<'_>,
 ) -> Taker {
-    match course {
-        Course::Believed(class, _) => who_opens(sockets, cx, class, ip, repr),
-        _ => Taker::Nobody,
+    match class {
+        Some(class) => who_opens(sockets, cx, class, ip, repr),
+        None => Taker::Nobody,
     }
 }
 
@@ -191,8 +193,9 @@ fn heard_by<C: Context, G: TsvalSource>(
     repr: &TcpRepr<'_>,
 ) -> Heard {
     let taker = who_takes(sockets, cx, ip, repr);
-    let course = course_of(cookies, taker, cx, ip, repr);
-    let again = who_again(sockets, cx, course, ip, repr);
+    let class = class_if(cookies, taker, cx, repr);
+    let again = who_again(sockets, cx, class, ip, repr);
+    let course = course_of(cookies, taker, again, cx, ip, repr);
     Heard { course, taker, again }
 }
 

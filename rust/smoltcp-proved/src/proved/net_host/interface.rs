@@ -98,7 +98,8 @@ impl<W: Words> Interface<W> {
     /// socket is due. The turn goes round: it begins behind the socket that spoke last.
     ///
     /// Before its turn the guard of a TCP socket looks at it, as `Guard::watch`. Where the answer is 0, the guard of
-    /// each has looked at it as it is, so that what only the peer can end comes to its end in time. A socket that was
+    /// each has looked at it as it is, so that what only the peer can end comes to its end in time, and no socket is
+    /// `touched`. A socket that was
     /// not lent, took no segment and asks for a later moment is not asked, so a call costs no more for it; after
     /// another MTU or other guards each is asked once. A socket that is due and has nothing to say after all has had
     /// its turn.

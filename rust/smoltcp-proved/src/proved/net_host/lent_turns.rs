@@ -83,7 +83,7 @@ fn watch_lent<G: TsvalSource>(
 
 // What is not ended keeps its keys.
 fn watch_kept<G: TsvalSource>(sockets: &mut SocketSet<'_, G>, i: usize, now: Instant, sight: &Sight) {
-    sockets.bounds.set(i, i64::MIN);
+    sockets.bounds.put_at_once(i);
     sockets.settled = false;
     keep_there(&mut sockets.slots, i, &sockets.terms.guards, now, sight);
 }

@@ -10,19 +10,23 @@ use crate::sockets::sock_tcp::TsvalSource;
 use crate::sockets::time::Instant;
 use crate::sockets::{Context, PollAt};
 
+// The bound of a socket that asks for now: a mark is the least, and says that the socket may have changed.
+pub(crate) const SOONEST: i64 = i64::MIN + 1;
+
 /// A moment before which a socket need not be asked that asks for this one.
 pub(crate) fn bound_of(poll: PollAt) -> i64 {
     match poll {
-        PollAt::Now => i64::MIN,
-        PollAt::Time(at) => {
-            if at.micros < i64::MAX {
-                at.micros
-            } else {
-                i64::MAX - 1
-            }
-        }
+        PollAt::Now => SOONEST,
+        PollAt::Time(at) => bound_by(at),
         PollAt::Ingress => i64::MAX,
     }
+}
+
+fn bound_by(at: Instant) -> i64 {
+    if i64::MAX <= at.micros {
+        return i64::MAX - 1;
+    }
+    if SOONEST < at.micros { at.micros } else { SOONEST }
 }
 
 impl<'a, G: TsvalSource> Slot<'a, G> {
@@ -38,12 +42,21 @@ fn asks_at<C: Context, G: TsvalSource>(slots: &[Slot<'_, G>], i: usize, cx: &C) 
     slots[i].asks(cx)
 }
 
-// The guard at this place has looked: it need not be asked before the moment that its socket asks for. Whether that is
-// due.
+// It need not be asked before the moment that it asks for.
+fn put_off<G: TsvalSource>(sockets: &mut SocketSet<'_, G>, i: usize, asked: PollAt) {
+    sockets.bounds.set(i, bound_of(asked));
+}
+
+// The guard at this place has looked: it need not be asked before the moment that its socket asks for, unless that is
+// due, as it has its turn then. Whether it is.
+#[inline(always)]
 fn note_at<C: Context, G: TsvalSource>(sockets: &mut SocketSet<'_, G>, i: usize, cx: &C) -> bool {
     let (asked, due) = asks_at(&sockets.slots, i, cx);
-    sockets.bounds.set(i, bound_of(asked));
-    due
+    if due {
+        return true;
+    }
+    put_off(sockets, i, asked);
+    false
 }
 
 fn is_idle_at<G: TsvalSource>(slots: &[Slot<'_, G>], i: usize, limits: &Limits, now: Instant) -> bool {

@@ -1,6 +1,7 @@
 // Made from crates/net_host/src/polling.rt by rust/translate: change it there.
 //! When the first of the sockets wants to speak.
 
+use crate::proved::net_host::looking::SOONEST;
 use crate::proved::net_host::set::SocketSet;
 use crate::proved::net_host::slot::Slot;
 use crate::sockets::sock_tcp::TsvalSource;
@@ -19,7 +20,7 @@ pub(crate) fn earliest<C: Context, G: TsvalSource>(sockets: &SocketSet<'_, G>, c
 // with the least bound asks for.
 fn by_bounds<C: Context, G: TsvalSource>(sockets: &SocketSet<'_, G>, cx: &C) -> Option<PollAt> {
     let least = sockets.bounds.least();
-    if least == i64::MIN || sockets.terms.mtu != cx.ip_mtu() {
+    if least <= SOONEST || sockets.terms.mtu != cx.ip_mtu() {
         return None;
     }
     if cx.now().micros < least && least < i64::MAX - 1 {

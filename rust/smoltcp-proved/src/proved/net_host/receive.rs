@@ -147,8 +147,8 @@ impl<W: Words> Interface<W> {
         payload: &[u8],
         out: &mut [u8],
     ) -> usize {
-        let found = hear_datagram_of(sockets, &self.inner, ip, repr, payload);
-        count_found(&mut self.counters, found);
+        let (found, room) = hear_datagram_of(sockets, &self.inner, ip, repr, payload);
+        count_found(&mut self.counters, found, room);
         self.tell_if(sockets, found, ip, bytes, out)
     }
 
@@ -304,9 +304,14 @@ fn count_heard(counters: &mut Counters, heard: &Heard) {
     }
 }
 
-fn count_found(counters: &mut Counters, found: Option<usize>) {
-    if found.is_none() {
-        counters.count(Reason::Nobody);
+fn count_found(counters: &mut Counters, found: Option<usize>, room: bool) {
+    match found {
+        None => counters.count(Reason::Nobody),
+        Some(_) => {
+            if !room {
+                counters.count(Reason::Full);
+            }
+        }
     }
 }
 

@@ -36,7 +36,7 @@ impl<'a, G: TsvalSource> Slot<'a, G> {
         }
     }
 
-    /// Does what `watch` does where the state seen at this time has not lasted too long.
+    /// Does what `watch` does where the state seen at this time is not older than its limit.
     pub(crate) fn keep(&mut self, limits: &Limits, now: Instant, sight: &Sight) {
         match &mut self.socket {
             Some(Socket::Tcp(tcp)) => self.guard.keep(limits, tcp, now, sight),

@@ -69,7 +69,7 @@ impl Guard {
         self.waits_for_nothing() && is_free(socket) && has_timeout(limits.timeout(), socket.timeout())
     }
 
-    /// Does what `watch` does where the state seen of the socket at this time has not lasted too long.
+    /// Does what `watch` does where the state seen of the socket at this time is not older than its limit.
     pub(crate) fn keep<G>(
         &mut self,
         limits: &Limits,

@@ -11,7 +11,9 @@ use crate::proved::pair_core::outcome::{Outcome, PairError};
 use crate::proved::pair_core::segment::Segment;
 use crate::proved::pair_core::setting::Setting;
 use crate::proved::pair_core::wire::Counts;
-use crate::proved::sock_tcp::{Generator, RecvError, Reply, SendError, Socket, SocketBuffer, TsvalSource};
+use crate::proved::sock_tcp::{
+    Generator, RecvError, Reply, SendError, Socket, SocketBuffer, State, TsvalSource,
+};
 
 /// How a side was opened.
 #[derive(Debug, Clone, Copy, PartialEq, Eq)]
@@ -176,7 +178,7 @@ impl<'a, G: TsvalSource> Host<'a, G> {
         }
     }
 
-    // A close in ESTABLISHED or CLOSE-WAIT is what ends the side's stream.
+    // A close in ESTABLISHED or CLOSE-WAIT is what ends the side's stream; one of SYN-RECEIVED may wait for a delivery.
     fn close(&mut self) -> Outcome {
         if self.socket.may_send() {
             self.closed = true;
@@ -232,6 +234,7 @@ impl<'a, G: TsvalSource> Host<'a, G> {
 impl<'a, G: TsvalSource> Host<'a, G> {
     // A delivery to this side.
     pub(crate) fn deliver(&mut self, moment: &Moment, segment: &Segment) -> Option<Reply> {
+        let before = self.socket.state();
         let unacknowledged = self.socket.send_queue();
         let queued = self.socket.recv_queue();
         let reply = process(&mut self.socket, moment, segment);
@@ -239,8 +242,20 @@ impl<'a, G: TsvalSource> Host<'a, G> {
         let joined = self.socket.recv_queue();
         self.released += unacknowledged.saturating_sub(left) as u64;
         self.taken += joined.saturating_sub(queued) as u64;
+        let after = self.socket.state();
+        self.closed = closed_by_segment(before, after, self.closed);
         reply
     }
+}
+
+// Whether the own FIN is queued, and not acknowledged.
+fn is_fin_queued(state: State) -> bool {
+    matches!(state, State::FinWait1 | State::Closing | State::LastAck)
+}
+
+// Whether a side counts as closed, once a segment moved its socket's state.
+fn closed_by_segment(before: State, after: State, closed: bool) -> bool {
+    if is_fin_queued(after) && !is_fin_queued(before) { true } else { closed }
 }
 
 // One setter of a socket.

@@ -53,6 +53,7 @@ fn emit_headers(
 }
 
 /// Writes an IP header and a datagram behind it, whose bytes the header counts.
+#[inline(always)]
 pub fn emit_udp(ip: &IpRepr, repr: &UdpRepr, payload: &[u8], buffer: &mut [u8], caps: &ChecksumCapabilities) {
     ip.emit(buffer, caps);
     let start = ip.header_len();
@@ -155,6 +156,55 @@ pub fn parse_udp<'a>(
     };
     let (repr, payload) = udp::parse(bytes, &ip.src_addr(), &ip.dst_addr(), caps)?;
     Ok((ip, repr, payload))
+}
+
+/// Reads a packet, as [`parse_udp`], into `ip` and `repr`. The payload of the datagram that it carries; none where it
+/// carries none, and `ip` and `repr` say nothing then.
+///
+/// An answer that is handed up by value is copied at each return.
+pub fn read_udp<'a>(
+    packet: &'a [u8],
+    caps: &ChecksumCapabilities,
+    ip: &mut IpRepr,
+    repr: &mut UdpRepr,
+) -> Option<&'a [u8]> {
+    match IpVersion::of_packet(packet) {
+        Ok(IpVersion::Ipv4) => read_udp_v4(packet, caps, ip, repr),
+        Ok(IpVersion::Ipv6) => read_udp_v6(packet, caps, ip, repr),
+        Err(Error) => None,
+    }
+}
+
+fn read_udp_v4<'a>(
+    packet: &'a [u8],
+    caps: &ChecksumCapabilities,
+    ip: &mut IpRepr,
+    repr: &mut UdpRepr,
+) -> Option<&'a [u8]> {
+    let (header, bytes) = whole_v4(packet, caps)?;
+    if u8::from(header.next_header) != 17 {
+        return None;
+    }
+    *ip = IpRepr::Ipv4(header);
+    let src = IpAddress::Ipv4(header.src_addr);
+    let dst = IpAddress::Ipv4(header.dst_addr);
+    udp::parse_into(repr, bytes, &src, &dst, caps)
+}
+
+fn read_udp_v6<'a>(
+    packet: &'a [u8],
+    caps: &ChecksumCapabilities,
+    ip: &mut IpRepr,
+    repr: &mut UdpRepr,
+) -> Option<&'a [u8]> {
+    let (header, bytes) = whole_v6(packet)?;
+    if u8::from(header.next_header) != 17 {
+        return None;
+    }
+    *ip = IpRepr::Ipv6(header);
+    let src = IpAddress::Ipv6(header.src_addr);
+    let dst = IpAddress::Ipv6(header.dst_addr);
+    udp::parse_into(repr, bytes, &src, &dst, caps)
 }
 
 // The header and what stands behind it, where that is of this protocol.

@@ -4,9 +4,9 @@
 use crate::proved::control_wire::source::{at_most_one, sum_holds};
 use crate::proved::control_wire::{TcpControl, TcpRepr, TcpSeqNumber};
 use crate::proved::ip_wire::octets::{be16_at, behind, put, word};
-use crate::proved::ip_wire::sum::{pseudo_sum, sum_after_wide};
+use crate::proved::ip_wire::sum::{pseudo_sum, sum_after_wide, sum_of_twenty_after};
 use crate::proved::ip_wire::{ChecksumCapabilities, Error, IpAddress, IpRepr};
-use crate::proved::segment_wire::options::{TcpOptions, be32_at, no_options, read_options};
+use crate::proved::segment_wire::options::{NO_OPTIONS, TcpOptions, be32_at, no_options, read_options};
 use crate::proved::segment_wire::pseudo::pseudo_parts;
 use crate::proved::segment_wire::write::{fill_checksum, header_sum, write_front};
 
@@ -162,9 +162,28 @@ pub fn parse_into<'a>(
     dst_addr: &IpAddress,
     caps: &ChecksumCapabilities,
 ) -> bool {
-    if !is_head(bytes) || (caps.tcp.rx() && !sum_holds(bytes, src_addr, dst_addr, 6)) {
+    if !is_head(bytes) || (caps.tcp.rx() && !verifies(bytes, src_addr, dst_addr)) {
         return false;
     }
+    if options_of(bytes).is_empty() {
+        fill(repr, bytes, &NO_OPTIONS);
+        return true;
+    }
+    fill_whole(repr, bytes)
+}
+
+// Whether the checksum holds. Of a header alone, as of an acknowledgement, with no loop.
+#[inline(always)]
+fn verifies(bytes: &[u8], src_addr: &IpAddress, dst_addr: &IpAddress) -> bool {
+    if bytes.len() == 20 {
+        return sum_of_twenty_after(pseudo_sum(src_addr, dst_addr, 6, 20), bytes) == 0xffff;
+    }
+    sum_holds(bytes, src_addr, dst_addr, 6)
+}
+
+// Sets each field, where the options are whole. Not inlined, so that a segment without any is read by short code.
+#[inline(never)]
+fn fill_whole<'a>(repr: &mut TcpRepr<'a>, bytes: &'a [u8]) -> bool {
     match read_options(options_of(bytes)) {
         Some(options) => {
             fill(repr, bytes, &options);

@@ -10,6 +10,7 @@ use crate::proved::ip_wire::{ChecksumCapabilities, Error, IpAddress};
 ///
 /// The length is written modulo 2^16. The checksum is 0 where it is not computed before sending; one that comes to 0 is
 /// written as 0xffff.
+#[inline(always)]
 pub fn emit(
     repr: &UdpRepr,
     payload: &[u8],
@@ -25,6 +26,7 @@ pub fn emit(
     }
 }
 
+#[inline(always)]
 fn emit_with_checksum(
     repr: &UdpRepr,
     payload: &[u8],
@@ -78,4 +80,19 @@ pub fn parse<'a>(
     let dst_port = word(bytes[2], bytes[3]);
     let payload = &bytes[8..be16_at(bytes, 4)];
     Ok((UdpRepr { src_port, dst_port }, payload))
+}
+
+/// Reads the datagram that the bytes spell, as [`parse`]: its header into `repr`, and its payload, if it is one; else
+/// `repr` is as it was.
+#[inline(always)]
+pub(crate) fn parse_into<'a>(
+    repr: &mut UdpRepr,
+    bytes: &'a [u8],
+    src_addr: &IpAddress,
+    dst_addr: &IpAddress,
+    caps: &ChecksumCapabilities,
+) -> Option<&'a [u8]> {
+    repr.src_port = udp_source(bytes, src_addr, dst_addr, caps)?;
+    repr.dst_port = word(bytes[2], bytes[3]);
+    Some(&bytes[8..be16_at(bytes, 4)])
 }

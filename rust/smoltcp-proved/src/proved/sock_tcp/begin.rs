@@ -21,8 +21,9 @@ impl<'a> ControlBlock<'a> {
     // The user timeout counts from the last segment that was heard (`take_window`), and, where none was since the
     // connection was asked for or since bytes joined an empty queue, from the first dispatch after that.
     fn set_last_ts(&mut self, now: Instant) {
-        if self.remote_last_ts.is_none() {
-            self.remote_last_ts = Some(now);
+        if !self.has_remote_last_ts {
+            self.has_remote_last_ts = true;
+            self.remote_last_ts = now;
         }
     }
 
@@ -55,7 +56,7 @@ impl<'a> ControlBlock<'a> {
 
     // What was in flight when a loss is told: by the RFCs' rules what both windows let out, also where the host heard
     // many segments and has not let it out yet, without what went out beyond the congestion window.
-    fn flight_lost(&self) -> usize {
+    pub(crate) fn flight_lost(&self) -> usize {
         let flight = self.flight();
         match crate::kit::in_force(self.rules) {
             Rules::Smoltcp => flight,
@@ -66,7 +67,7 @@ impl<'a> ControlBlock<'a> {
     // The timer once a fast retransmission is due.
     fn timer_marked(&self, now: Instant) -> Timer {
         match crate::kit::in_force(self.rules) {
-            Rules::Smoltcp => Timer::idle(now, self.keep_alive),
+            Rules::Smoltcp => Timer::idle(now, self.keep_alive()),
             Rules::Rfc => Timer::retransmit(now, &self.rtte),
         }
     }
@@ -93,14 +94,14 @@ impl<'a> ControlBlock<'a> {
     // What the moments that have passed change.
     #[inline(always)]
     fn heed_timers(&mut self, now: Instant) {
-        if is_reached(timeout_poll(self.timeout, self.remote_last_ts), now) {
+        if is_reached(timeout_poll(self.timeout(), self.remote_last_ts()), now) {
             self.state = State::Closed;
             return;
         }
         match self.timer {
             Timer::Retransmit { expires_at } => {
                 if is_over(expires_at, now) {
-                    if self.may_probe_now() {
+                    if self.may_speak_now() {
                         self.probe_tail(now);
                     } else {
                         self.begin_retransmission(now);

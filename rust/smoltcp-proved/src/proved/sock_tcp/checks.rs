@@ -35,7 +35,7 @@ fn is_older(tsval: u32, recent: u32) -> bool {
 impl<'a> ControlBlock<'a> {
     // Whether no segment came for so long that the last timestamp says nothing.
     fn is_forgotten(&self, now: Instant) -> bool {
-        match self.remote_last_ts {
+        match self.remote_last_ts() {
             None => true,
             Some(at) => is_over(after(at, RECENT_LIFE), now),
         }
@@ -102,7 +102,7 @@ impl<'a> ControlBlock<'a> {
         match self.check(now, repr) {
             Next::Stop => Verdict::Drop,
             Next::Challenge => Verdict::Challenge,
-            Next::Continue => self.verdict(repr.control, repr.ack_number),
+            Next::Continue => self.verdict(repr.control, self.ack_heeded(repr)),
         }
     }
 

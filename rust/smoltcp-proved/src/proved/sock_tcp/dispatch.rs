@@ -12,16 +12,16 @@ use crate::proved::sock_tcp::control_block::ControlBlock;
 use crate::proved::sock_tcp::emission::{Emitted, Kind};
 use crate::proved::sock_tcp::ended::by_dispatch;
 use crate::proved::sock_tcp::generator::TsvalSource;
+use crate::proved::sock_tcp::kept::DelayKind;
 use crate::proved::sock_tcp::recovery::Recovery;
 use crate::proved::sock_tcp::socket::Socket;
 use crate::proved::sock_tcp::state::State;
-use crate::proved::sock_tcp::timer::AckDelayTimer;
 
 impl<'a> ControlBlock<'a> {
     // What any segment changes.
     fn after_any(&mut self, now: Instant) {
-        self.timer = self.timer.keep_alive_renewed(now, self.keep_alive);
-        self.ack_delay_timer = AckDelayTimer::Idle;
+        self.timer = self.timer.keep_alive_renewed(now, self.keep_alive());
+        self.ack_delay_kind = DelayKind::Idle;
         self.pending_fast_retransmit = self.pending_fast_retransmit && !self.state.carries_data();
     }
 
@@ -146,6 +146,6 @@ impl<'a, G: TsvalSource> Socket<'a, G> {
     #[inline(always)]
     fn note_end(&mut self, before: State) {
         let block = &self.control_block;
-        self.ended = by_dispatch(before, block.state, block.remote_last_ts.is_some(), self.ended);
+        self.ended = by_dispatch(before, block.state, block.remote_last_ts().is_some(), self.ended);
     }
 }

@@ -44,13 +44,13 @@ impl<'a> ControlBlock<'a> {
         self.remote_last_seq.since(self.local_seq_no)
     }
 
-    // What the first two duplicates let out beyond the congestion window, a segment each (RFC 3042), or a tail-loss
-    // probe of new bytes.
+    // What the first two duplicates let out beyond the congestion window, a segment each (RFC 3042), or what was told
+    // while a loss is waited for, or a tail-loss probe of new bytes.
     fn limited(&self) -> usize {
         match (crate::kit::in_force(self.rules), self.recovery) {
             (Rules::Rfc, Recovery::Probe { again: false, .. }) => self.remote_mss,
             (Rules::Rfc, Recovery::Open) | (Rules::Rfc, Recovery::Probe { .. }) => {
-                (self.local_rx_dup_acks.min(2) as usize) * self.remote_mss
+                ((self.local_rx_dup_acks.min(2) as usize) * self.remote_mss).max(self.told_late())
             }
             _ => 0,
         }
@@ -99,9 +99,18 @@ impl<'a> ControlBlock<'a> {
         if self.tx_buffer.is_empty() {
             return self.control_due();
         }
+        self.data_due_by(self.effective_mss(cx, tuple))
+    }
+
+    // The same with segments of up to so many bytes.
+    #[inline(always)]
+    pub(crate) fn data_due_by(&self, mss: usize) -> bool {
+        if self.tx_buffer.is_empty() {
+            return self.control_due();
+        }
         let marked = self.pending_fast_retransmit;
         let out = self.sendable();
-        let some = out != 0 && !self.is_held_back(out, self.effective_mss(cx, tuple));
+        let some = out != 0 && !self.is_held_back(out, mss);
         marked || some || self.control_due()
     }
 
@@ -122,7 +131,7 @@ impl<'a> ControlBlock<'a> {
 
     // From when on an acknowledgement goes out.
     pub(crate) fn ack_poll(&self) -> PollAt {
-        if self.ack_due() { self.ack_delay_timer.poll_at() } else { PollAt::Ingress }
+        if self.ack_due() { self.ack_delay_timer().poll_at() } else { PollAt::Ingress }
     }
 
     // The window field that would tell what is left of the window sent last, up to this edge.

@@ -9,7 +9,7 @@ use crate::proved::sock_tcp::timer::{after, is_over};
 impl<'a> ControlBlock<'a> {
     // Nothing was sent for a retransmission timeout.
     fn was_idle(&self, now: Instant) -> bool {
-        match self.idle_at {
+        match self.idle_at() {
             None => false,
             Some(at) => is_over(at, now),
         }
@@ -21,6 +21,7 @@ impl<'a> ControlBlock<'a> {
         if self.was_idle(now) {
             self.congestion_controller.restart();
         }
-        self.idle_at = Some(after(now, self.rtte.retransmission_timeout()));
+        self.has_idle_at = true;
+        self.idle_at = after(now, self.rtte.retransmission_timeout());
     }
 }

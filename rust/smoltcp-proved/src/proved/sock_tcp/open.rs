@@ -11,11 +11,12 @@ use crate::proved::sock_core::rtte::RttEstimator;
 use crate::proved::sock_core::{Context, window_shift};
 use crate::proved::sock_tcp::control_block::ControlBlock;
 use crate::proved::sock_tcp::error::{ConnectError, ListenError};
+use crate::proved::sock_tcp::kept::DelayKind;
 use crate::proved::sock_tcp::recovery::Recovery;
 use crate::proved::sock_tcp::rules::Rules;
 use crate::proved::sock_tcp::scoreboard::NOTHING_TOLD;
 use crate::proved::sock_tcp::state::State;
-use crate::proved::sock_tcp::timer::{AckDelayTimer, Timer};
+use crate::proved::sock_tcp::timer::Timer;
 use crate::proved::sock_tcp::tuple::Tuple;
 use crate::proved::sock_tcp::undo::NOTHING_TO_UNDO;
 
@@ -37,8 +38,10 @@ impl<'a> ControlBlock<'a> {
             rx_buffer: ReceiveBuffer::new(rx_buffer),
             rx_fin_received: false,
             tx_buffer,
-            timeout: None,
-            keep_alive: None,
+            has_timeout: false,
+            timeout: Duration::ZERO,
+            has_keep_alive: false,
+            keep_alive: Duration::ZERO,
             hop_limit: None,
             listen_endpoint: IpListenEndpoint::default(),
             tuple: None,
@@ -52,13 +55,18 @@ impl<'a> ControlBlock<'a> {
             remote_win_scale: None,
             remote_has_sack: false,
             remote_mss: DEFAULT_MSS,
-            remote_last_ts: None,
-            local_rx_last_seq: None,
-            local_rx_last_ack: None,
+            has_remote_last_ts: false,
+            remote_last_ts: Instant::ZERO,
+            has_local_rx_last_seq: false,
+            local_rx_last_seq: TcpSeqNumber(0),
+            has_local_rx_last_ack: false,
+            local_rx_last_ack: TcpSeqNumber(0),
             local_rx_dup_acks: 0,
             pending_fast_retransmit: false,
-            ack_delay: Some(ACK_DELAY),
-            ack_delay_timer: AckDelayTimer::Idle,
+            has_ack_delay: true,
+            ack_delay: ACK_DELAY,
+            ack_delay_kind: DelayKind::Idle,
+            ack_delay_until: Instant::ZERO,
             challenge_ack_timer: Instant::ZERO,
             nagle: true,
             congestion_controller: AnyController::new(),
@@ -70,9 +78,12 @@ impl<'a> ControlBlock<'a> {
             sacked: NOTHING_TOLD,
             snd_wl1: TcpSeqNumber(0),
             snd_wl2: TcpSeqNumber(0),
-            idle_at: None,
+            has_idle_at: false,
+            idle_at: Instant::ZERO,
             largest_window: 0,
             undo: NOTHING_TO_UNDO,
+            close_waits: false,
+            reordering: 0,
         }
     }
 
@@ -94,19 +105,21 @@ impl<'a> ControlBlock<'a> {
         self.remote_win_len = 0;
         self.remote_win_scale = None;
         self.remote_mss = DEFAULT_MSS;
-        self.remote_last_ts = None;
+        self.has_remote_last_ts = false;
         self.local_rx_dup_acks = 0;
         self.pending_fast_retransmit = false;
-        self.ack_delay_timer = AckDelayTimer::Idle;
+        self.ack_delay_kind = DelayKind::Idle;
         self.challenge_ack_timer = Instant::ZERO;
         self.congestion_controller = self.congestion_control().controller();
         self.recovery = Recovery::Open;
         self.sacked = NOTHING_TOLD;
         self.snd_wl1 = TcpSeqNumber(0);
         self.snd_wl2 = TcpSeqNumber(0);
-        self.idle_at = None;
+        self.has_idle_at = false;
         self.largest_window = 0;
         self.undo = NOTHING_TO_UNDO;
+        self.close_waits = false;
+        self.reordering = 0;
     }
 
     pub(crate) fn is_open(&self) -> bool {

@@ -18,7 +18,7 @@ impl SackBlock {
 
 impl Scoreboard {
     // How many of the bytes before a place were told.
-    fn told_before(&self, place: u64) -> u64 {
+    pub(crate) fn told_before(&self, place: u64) -> u64 {
         let first = self.newest.before_place(place) + self.second.before_place(place);
         let all = first + self.third.before_place(place) + self.oldest.before_place(place);
         all.min(place)

@@ -7,7 +7,6 @@ use crate::proved::sock_tcp::control_block::ControlBlock;
 use crate::proved::sock_tcp::socket::Socket;
 use crate::proved::sock_tcp::state::State;
 use crate::proved::sock_tcp::timer::{Timer, after, is_over};
-use crate::proved::sock_tcp::tuple::Tuple;
 
 // Whether the poll moment is now or was before.
 pub(crate) fn is_reached(poll: PollAt, now: Instant) -> bool {
@@ -44,10 +43,10 @@ impl<'a> ControlBlock<'a> {
         self.state.works(self.tuple.is_some(), self.tx_buffer.is_empty(), self.synack_paused)
     }
 
-    fn is_due_now<C: Context>(&self, cx: &C, tuple: &Tuple) -> bool {
-        self.remote_last_ts.is_none()
+    fn is_due_by(&self, mss: usize) -> bool {
+        self.remote_last_ts().is_none()
             || self.state.is_closed()
-            || self.data_due(cx, tuple)
+            || self.data_due_by(mss)
             || self.window_doubled()
     }
 
@@ -56,18 +55,19 @@ impl<'a> ControlBlock<'a> {
             None => return PollAt::Ingress,
             Some(tuple) => tuple,
         };
-        let timeout = timeout_poll(self.timeout, self.remote_last_ts);
+        let timeout = timeout_poll(self.timeout(), self.remote_last_ts());
         if self.is_quiet() {
             return self.timer_or(timeout);
         }
-        self.poll_at_in_full(cx, tuple, timeout)
+        self.poll_at_in_full(self.effective_mss(cx, tuple), timeout)
     }
 
-    // The poll moment of a socket with a peer, by all that it may wait for. Not inlined, so that the path of a quiet
-    // socket has no registers to save.
+    // The poll moment of a socket with a peer, by all that it may wait for, with segments of up to so many bytes. Not
+    // inlined, so that the path of a quiet socket has no registers to save; and of the context it takes the one number,
+    // which then need not lie in memory.
     #[inline(never)]
-    fn poll_at_in_full<C: Context>(&self, cx: &C, tuple: &Tuple, timeout: PollAt) -> PollAt {
-        if self.is_due_now(cx, tuple) {
+    fn poll_at_in_full(&self, mss: usize, timeout: PollAt) -> PollAt {
+        if self.is_due_by(mss) {
             return PollAt::Now;
         }
         match self.held_poll() {
@@ -79,7 +79,7 @@ impl<'a> ControlBlock<'a> {
     // Whether this is a connection that is open both ways, with nothing queued and nothing to tell. Most sockets that
     // are asked are such, and are spared the questions for the others. Where the answer is no, it says nothing.
     fn is_quiet(&self) -> bool {
-        match (self.state, self.remote_last_ts) {
+        match (self.state, self.remote_last_ts()) {
             (State::Established, Some(_)) => self.tx_buffer.is_empty() && self.has_told_all(),
             _ => false,
         }

@@ -172,7 +172,8 @@ impl<'a> ControlBlock<'a> {
             offset: cut.offset,
             bytes,
         };
-        self.local_rx_last_seq = Some(number);
+        self.has_local_rx_last_seq = true;
+        self.local_rx_last_seq = number;
         self.process_inside(cx, now, taken, ip_repr, repr)
     }
 
@@ -205,6 +206,20 @@ impl<'a> ControlBlock<'a> {
         self.process_and_recover(cx, now, ip_repr, &windowed)
     }
 
+    // And a close that waited is done then.
+    #[inline(always)]
+    fn process_and_close<C: Context>(
+        &mut self,
+        cx: &mut C,
+        now: Instant,
+        ip_repr: &IpRepr,
+        repr: &TcpRepr<'_>,
+    ) -> Answer {
+        let answer = self.process_by_rfc(cx, now, ip_repr, repr);
+        self.close_late();
+        answer
+    }
+
     // By the socket's rules.
     #[inline(always)]
     fn process_by_rules<C: Context>(
@@ -219,7 +234,7 @@ impl<'a> ControlBlock<'a> {
                 let window = self.receive_window();
                 self.process_passed(cx, now, window, ip_repr, repr)
             }
-            Rules::Rfc => self.process_by_rfc(cx, now, ip_repr, repr),
+            Rules::Rfc => self.process_and_close(cx, now, ip_repr, repr),
         }
     }
 

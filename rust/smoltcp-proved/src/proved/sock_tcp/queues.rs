@@ -34,7 +34,7 @@ impl<'a> ControlBlock<'a> {
             return;
         }
         if was_empty {
-            self.remote_last_ts = None;
+            self.has_remote_last_ts = false;
         }
         if self.remote_win_len == 0 && self.timer.is_idle() {
             // The call has no context to ask for the time, so the first probe is due at once, as smoltcp's.

@@ -84,7 +84,7 @@ pub(crate) fn is_fast(timer: Timer) -> bool {
 }
 
 impl Recovery {
-    fn is_over(self) -> bool {
+    pub(crate) fn is_over(self) -> bool {
         matches!(self, Recovery::Open | Recovery::Probe { .. })
     }
 
@@ -190,9 +190,9 @@ impl Before {
         }
     }
 
-    // Duplicates begin a recovery, where none goes on.
+    // Duplicates begin a recovery, where none goes on, and the loss is not waited for.
     fn begins(&self, after: &ControlBlock<'_>) -> bool {
-        after.may_resend() && (self.tells_loss(after) && self.recovery.is_over())
+        after.may_resend() && (self.tells_loss(after) && (self.recovery.is_over() && !self.is_waited(after)))
     }
 
     // A hole goes out again, or the segment at SND.UNA.
@@ -228,7 +228,7 @@ impl Before {
         recovery.gone_on(after.local_seq_no)
     }
 
-    fn duplicates_after(&self, after: &ControlBlock<'_>) -> u8 {
+    pub(crate) fn duplicates_after(&self, after: &ControlBlock<'_>) -> u8 {
         if self.is_void(after) {
             self.duplicates
         } else if self.is_uncounted(after) {
@@ -322,7 +322,7 @@ impl<'a> ControlBlock<'a> {
     }
 
     // There are bytes to send again.
-    fn may_resend(&self) -> bool {
+    pub(crate) fn may_resend(&self) -> bool {
         self.state.carries_data() && !self.tx_buffer.is_empty()
     }
 
@@ -358,6 +358,7 @@ impl<'a> ControlBlock<'a> {
         let undone = before.is_undone(self);
         let marked = (self.pending_fast_retransmit || before.marks(self)) && !undone;
         let undo = before.undo_after(self);
+        let reordering = before.reordering_after(self);
         self.timer = timer;
         self.rtte = rtte;
         self.local_rx_dup_acks = duplicates;
@@ -367,5 +368,6 @@ impl<'a> ControlBlock<'a> {
         self.sacked = sacked;
         self.largest_window = largest;
         self.undo = undo;
+        self.reordering = reordering;
     }
 }

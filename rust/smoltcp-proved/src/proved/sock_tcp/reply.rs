@@ -57,7 +57,7 @@ fn wire_edges(next: TcpSeqNumber, range: (usize, usize)) -> (u32, u32) {
 impl<'a> ControlBlock<'a> {
     // The range around the last segment in the window, else the first.
     fn chosen_range(&self) -> Option<(usize, usize)> {
-        let around = match self.local_rx_last_seq {
+        let around = match self.local_rx_last_seq() {
             None => None,
             Some(number) => self.rx_buffer.range_around(number.since(self.next_ack())),
         };

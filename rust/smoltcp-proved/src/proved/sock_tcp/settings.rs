@@ -43,7 +43,7 @@ impl<'a> ControlBlock<'a> {
     }
 
     pub(crate) fn set_keep_alive(&mut self, interval: Option<Duration>) {
-        self.keep_alive = interval;
+        self.keep_keep_alive(interval);
         if let (Some(_), Timer::Idle { keep_alive_at: None }) = (interval, self.timer) {
             self.timer = Timer::Idle { keep_alive_at: Some(Instant::ZERO) };
         }
@@ -64,12 +64,12 @@ impl<'a, G> Socket<'a, G> {
     /// How long the peer may be silent while it owes something before the connection is aborted; for ever where there
     /// is none, as in a new socket (RFC 9293, section 3.9.1).
     pub fn timeout(&self) -> Option<Duration> {
-        self.control_block.timeout
+        self.control_block.timeout()
     }
 
     /// Sets the user timeout, of at most 2^61 microseconds.
     pub fn set_timeout(&mut self, duration: Option<Duration>) {
-        self.control_block.timeout = duration;
+        self.control_block.keep_timeout(duration);
     }
 
     /// The lowest retransmission timeout that a measured round trip makes: a second in a new socket (RFC 6298, section
@@ -88,12 +88,12 @@ impl<'a, G> Socket<'a, G> {
 
     /// How long an acknowledgement may wait for data to go with: 10 milliseconds in a new socket.
     pub fn ack_delay(&self) -> Option<Duration> {
-        self.control_block.ack_delay
+        self.control_block.ack_delay()
     }
 
     /// Sets how long an acknowledgement may wait, at most 2^61 microseconds, or lets none wait.
     pub fn set_ack_delay(&mut self, duration: Option<Duration>) {
-        self.control_block.ack_delay = duration;
+        self.control_block.keep_ack_delay(duration);
     }
 
     /// Whether small segments wait while bytes are in flight (RFC 9293, section 3.7.4); they do in a new socket.
@@ -108,7 +108,7 @@ impl<'a, G> Socket<'a, G> {
 
     /// How long a connection is idle before a keep-alive goes out; none does in a new socket (RFC 9293, section 3.8.4).
     pub fn keep_alive(&self) -> Option<Duration> {
-        self.control_block.keep_alive
+        self.control_block.keep_alive()
     }
 
     /// Sets the interval of keep-alives, of at most 2^61 microseconds, or lets none go out. Where none is to come and

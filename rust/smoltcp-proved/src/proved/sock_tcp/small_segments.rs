@@ -27,8 +27,7 @@ impl<'a> ControlBlock<'a> {
     // Whether one may wait with nothing in flight: the peer told a window of more than twice this one, and none of it
     // may have been sent before.
     fn waits_alone(&self) -> bool {
-        self.remote_win_len < self.largest_window / 2
-            && (self.idle_at.is_some() && !self.recovery.sends_again())
+        self.remote_win_len < self.largest_window / 2 && (self.has_idle_at && !self.recovery.sends_again())
     }
 
     // Whether the peer's window makes the next segment smaller than one of `mss` bytes, or the congestion window does
@@ -65,7 +64,7 @@ impl<'a> ControlBlock<'a> {
 
     // From when on what may go out with nothing in flight does so.
     fn small_poll(&self) -> PollAt {
-        if self.flight() == 0 && self.sendable() != 0 { moment_at(self.idle_at) } else { PollAt::Ingress }
+        if self.flight() == 0 && self.sendable() != 0 { moment_at(self.idle_at()) } else { PollAt::Ingress }
     }
 
     // From when on an acknowledgement goes out, or bytes that wait. By smoltcp's rules, which each poll asks, this

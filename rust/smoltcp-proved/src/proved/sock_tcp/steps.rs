@@ -7,6 +7,7 @@ use crate::proved::sock_core::congestion::Controller;
 use crate::proved::sock_core::seq::{before, later, not_after};
 use crate::proved::sock_tcp::acked::Acked;
 use crate::proved::sock_tcp::control_block::ControlBlock;
+use crate::proved::sock_tcp::kept::DelayKind;
 use crate::proved::sock_tcp::rules::Rules;
 use crate::proved::sock_tcp::timer::{AckDelayTimer, Timer, after};
 
@@ -22,7 +23,8 @@ impl<'a> ControlBlock<'a> {
             _ => (field as usize) << scale,
         };
         let changed = window != self.remote_win_len;
-        self.remote_last_ts = Some(now);
+        self.has_remote_last_ts = true;
+        self.remote_last_ts = now;
         self.remote_win_len = window;
         self.congestion_controller.set_remote_window(window);
         changed
@@ -33,7 +35,7 @@ impl<'a> ControlBlock<'a> {
     }
 
     pub(crate) fn is_duplicate(&self, ack: TcpSeqNumber, length: usize, changed: bool) -> bool {
-        let is_last = match self.local_rx_last_ack {
+        let is_last = match self.local_rx_last_ack() {
             None => false,
             Some(last) => last == ack,
         };
@@ -51,7 +53,8 @@ impl<'a> ControlBlock<'a> {
 
     fn count_ack(&mut self, now: Instant, ack: TcpSeqNumber, count: usize) {
         self.local_rx_dup_acks = 0;
-        self.local_rx_last_ack = Some(ack);
+        self.has_local_rx_last_ack = true;
+        self.local_rx_last_ack = ack;
         self.rtte.on_ack(now, ack);
         let flight = self.flight().saturating_sub(count);
         self.congestion_controller.on_ack(now, count, flight, &self.rtte);
@@ -103,10 +106,10 @@ impl<'a> ControlBlock<'a> {
     // The timer after an acknowledgement.
     fn timer_acked(&self, now: Instant, acked: Acked) -> Timer {
         match self.timer {
-            Timer::Idle { .. } => Timer::idle(now, self.keep_alive),
+            Timer::Idle { .. } => Timer::idle(now, self.keep_alive()),
             Timer::Retransmit { .. } | Timer::FastRetransmit => {
                 if acked.all {
-                    Timer::idle(now, self.keep_alive)
+                    Timer::idle(now, self.keep_alive())
                 } else if acked.len == 0 {
                     self.timer
                 } else {
@@ -126,7 +129,7 @@ impl<'a> ControlBlock<'a> {
         match (self.remote_win_len, timer) {
             (0, _) if self.begins_probe(timer, acked) => Timer::probe(now, &self.rtte),
             (0, _) => timer,
-            (_, Timer::ZeroWindowProbe { .. }) => Timer::idle(now, self.keep_alive),
+            (_, Timer::ZeroWindowProbe { .. }) => Timer::idle(now, self.keep_alive()),
             _ => timer,
         }
     }
@@ -159,20 +162,21 @@ impl<'a> ControlBlock<'a> {
     }
 
     pub(crate) fn delay_ack(&mut self, now: Instant) {
-        let delay = match self.ack_delay {
+        let delay = match self.ack_delay() {
             None => return,
             Some(delay) => delay,
         };
         if !self.is_ack_owed(0) {
             return;
         }
-        match self.ack_delay_timer {
+        match self.ack_delay_timer() {
             AckDelayTimer::Idle => {
-                self.ack_delay_timer = AckDelayTimer::Waiting(after(now, delay));
+                self.ack_delay_kind = DelayKind::Waiting;
+                self.ack_delay_until = after(now, delay);
             }
             AckDelayTimer::Waiting(_) => {
                 if self.is_ack_owed(self.remote_mss) {
-                    self.ack_delay_timer = AckDelayTimer::Immediate;
+                    self.ack_delay_kind = DelayKind::Immediate;
                 }
             }
             AckDelayTimer::Immediate => {}

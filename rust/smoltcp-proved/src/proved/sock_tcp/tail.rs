@@ -9,6 +9,7 @@
 
 use crate::proved::control_wire::TcpSeqNumber;
 use crate::proved::net_base::time::{Duration, Instant};
+use crate::proved::sock_core::congestion::Controller;
 use crate::proved::sock_core::rtte::RttEstimator;
 use crate::proved::sock_core::seq::before;
 use crate::proved::sock_tcp::control_block::ControlBlock;
@@ -106,11 +107,16 @@ impl<'a> ControlBlock<'a> {
         peer && (bytes && (self.remote_win_len != 0 && self.rtte.is_measured()))
     }
 
-    // A probe goes out where the retransmission timer is over.
-    pub(crate) fn may_probe_now(&self) -> bool {
+    // A loss was waited for, or a probe may go out.
+    fn may_speak(&self) -> bool {
+        self.is_late() || self.may_probe(self.recovery)
+    }
+
+    // The same, where the retransmission timer is over.
+    pub(crate) fn may_speak_now(&self) -> bool {
         match crate::kit::in_force(self.rules) {
             Rules::Smoltcp => false,
-            Rules::Rfc => self.may_probe(self.recovery),
+            Rules::Rfc => self.may_speak(),
         }
     }
 
@@ -137,8 +143,24 @@ impl<'a> ControlBlock<'a> {
         }
     }
 
+    // A fast recovery begins with the segment at SND.UNA; then the retransmission timer runs.
+    fn begin_recovery(&mut self, now: Instant) {
+        let flight = self.flight_lost();
+        self.undo = self.undo.marked(crate::kit::in_force(self.rules), &self.congestion_controller);
+        self.congestion_controller.on_loss(now, flight);
+        self.recovery = Recovery::Fast {
+            point: self.remote_last_seq,
+            high_rxt: self.local_seq_no,
+            resent_at: self.remote_last_seq,
+            acked: false,
+        };
+        self.pending_fast_retransmit = true;
+        self.rtte.on_retransmit();
+        self.timer = Timer::retransmit(now, &self.rtte);
+    }
+
     // A segment of new bytes is to go out, or the last one again; then the retransmission timer runs.
-    pub(crate) fn probe_tail(&mut self, now: Instant) {
+    fn begin_probe_of_tail(&mut self, now: Instant) {
         self.recovery = self.probe(false);
         let none = self.sendable() < self.remote_mss.max(1);
         let again = self.pending_fast_retransmit || none;
@@ -146,5 +168,10 @@ impl<'a> ControlBlock<'a> {
         self.pending_fast_retransmit = again;
         self.rtte.on_retransmit();
         self.timer = Timer::retransmit(now, &self.rtte);
+    }
+
+    // The hole goes out for which a loss was waited, or a probe.
+    pub(crate) fn probe_tail(&mut self, now: Instant) {
+        if self.is_late() { self.begin_recovery(now) } else { self.begin_probe_of_tail(now) }
     }
 }

@@ -1,6 +1,6 @@
 // Made from crates/sock_tcp/src/undo.rt by rust/translate: change it there.
-//! What undoes a recovery that was for nothing, by the RFCs' rules: segments came late and were not lost, as the echo of
-//! a timestamp tells (RFC 3522) or, without timestamps, D-SACKs of all that went out again (RFC 3708).
+//! What undoes a recovery that was for nothing, by the RFCs' rules: segments came late and were not lost, as the echo
+//! of a timestamp tells (RFC 3522) or, without timestamps, D-SACKs of all that went out again (RFC 3708).
 
 use crate::proved::control_wire::{TcpRepr, TcpSeqNumber};
 use crate::proved::net_base::time::Instant;

@@ -58,11 +58,11 @@ impl Before {
         let timer = self.kept(after, after.running(now));
         match self.timer {
             Timer::ZeroWindowProbe { .. } => timer,
-            _ => probe_soonest(after.idle_at, timer),
+            _ => probe_soonest(after.idle_at(), timer),
         }
     }
 
-    fn waited_for(&self, after: &ControlBlock<'_>, now: Instant) -> Timer {
+    fn heard_for(&self, after: &ControlBlock<'_>, now: Instant) -> Timer {
         if self.tells_controller(after) {
             return Timer::FastRetransmit;
         }
@@ -73,6 +73,11 @@ impl Before {
         let alone = after.is_alone();
         let running = self.left_running(after, now);
         running.or_tail(waits, now, &after.rtte, alone)
+    }
+
+    fn waited_for(&self, after: &ControlBlock<'_>, now: Instant) -> Timer {
+        let timer = self.heard_for(after, now);
+        self.with_late(after, timer, now)
     }
 
     pub(crate) fn timer_after(&self, after: &ControlBlock<'_>, now: Instant) -> Timer {
@@ -95,7 +100,7 @@ impl<'a> ControlBlock<'a> {
             Rules::Rfc if self.remote_win_len == 0 && !self.tx_buffer.is_empty() => {
                 Timer::probe(now, &self.rtte)
             }
-            _ => Timer::idle(now, self.keep_alive),
+            _ => Timer::idle(now, self.keep_alive()),
         }
     }
 
@@ -105,7 +110,7 @@ impl<'a> ControlBlock<'a> {
             Timer::Idle { .. } if self.flight() != 0 => Timer::retransmit(now, &self.rtte),
             Timer::ZeroWindowProbe { .. } if self.tx_buffer.len() <= self.flight() => {
                 if self.flight() == 0 {
-                    Timer::idle(now, self.keep_alive)
+                    Timer::idle(now, self.keep_alive())
                 } else {
                     Timer::retransmit(now, &self.rtte)
                 }

@@ -20,7 +20,13 @@ pub fn scoreboard_follows_segments() {}
 pub fn answers_tell_what_is_held() {}
 
 /// Where a segment shows that a recovery was for nothing, Reno's congestion window and threshold are at least what was
-/// kept of the time before it, and nothing is marked to go out again (RFC 4015, section 3.2). The first echo of something
-/// new decides, whatever it says, and what is decided is never undone: a later echo of the first sending, or a D-SACK,
-/// changes nothing then.
+/// kept of the time before it, and nothing is marked to go out again (RFC 4015, section 3.2). The first echo of
+/// something new decides, whatever it says, and what is decided is never undone: a later echo of the first sending, or
+/// a D-SACK, changes nothing then.
 pub fn recoveries_for_nothing_are_undone() {}
+
+/// By the RFCs' rules: where a segment tells of a loss while no recovery goes on, and something is in flight, a fast
+/// retransmission is due at once, or the timer is over after as many quarters of a round trip as reordering was seen,
+/// at most four (RFC 8985, section 6.2). A dispatch then comes to its emit with a fast recovery from SND.UNA on, of
+/// which something is due. Where no reordering was seen nothing is waited for.
+pub fn losses_are_waited_for() {}

@@ -28,3 +28,8 @@ pub fn older_window_is_not_taken() {}
 /// What is sent without bytes, a SYN or a FIN has a number that is not before SND.NXT (RFC 9293, section 3.4), after
 /// any such list.
 pub fn number_is_not_behind() {}
+
+/// Bytes or a FIN are not dropped for the age of the acknowledgement that they come with (RFC 9293, section 3.10.7.4):
+/// from before SND.UNA, by no more than the largest window (RFC 5961, section 5.2), it is ignored, and the segment
+/// passes, after any such list.
+pub fn old_acknowledgement_passes() {}

@@ -26,10 +26,15 @@ impl<'a> Socket<'a> {
     /// it went to. Where the receive buffer has no room for it, it is dropped.
     /// That `accepts` holds of it is not required.
     pub fn process<C: Context>(&mut self, _cx: &C, ip_repr: &IpRepr, repr: &UdpRepr, payload: &[u8]) {
+        let _ = self.queue_datagram(ip_repr, repr, payload);
+    }
+
+    /// The same, and whether there was room for it.
+    pub fn queue_datagram(&mut self, ip_repr: &IpRepr, repr: &UdpRepr, payload: &[u8]) -> bool {
         let meta = UdpMetadata {
             endpoint: IpEndpoint { addr: ip_repr.src_addr(), port: repr.src_port },
             local_address: Some(ip_repr.dst_addr()),
         };
-        store(&mut self.rx_buffer, meta, payload);
+        store(&mut self.rx_buffer, meta, payload)
     }
 }
