@@ -1,6 +1,6 @@
 -- The estimator of round-trip times and of the retransmission timeout (RFC 6298), in milliseconds.
 use Rattle.std.specs.Prelude.{ℕ, ◌+◌, ◌*◌, ◌/◌, ◌^◌, ◌≤◌, ◌==◌, nat_lt, max, min, Bool, true, ◌&&◌, if◌then◌else◌}
-use Rattle.std.specs.Prelude.{List, [], ◌∷◌, Option, None, Some, is_none, ◌-ℤ◌, unsigned_abs, false}
+use Rattle.std.specs.Prelude.{List, [], ◌∷◌, Option, None, Some, is_none, pos, ◌-ℤ◌, unsigned_abs, false}
 use Rattle.std.specs.Int.{div_ceil, abs_diff}
 use Rattle.net_base.specs.declared.time.Instant.{Instant}
 use Rattle.control_wire.specs.Seq.{seq_of}
@@ -18,6 +18,13 @@ pub record Estimator : Type 0 where
   pub highest : Option TcpSeqNumber  -- the highest number that was sent
   pub backoffs : ℕ  -- the timeouts since the last sample, or since the measurement was cleared
   pub least : ℕ  -- the lowest timeout that a sample makes
+
+-- what stands in an estimator where nothing is timed
+abbrev pub no_timing : Timing
+no_timing = record { at = record { micros = pos 0 }; number = seq_of 0 }
+
+abbrev pub no_stamp : StampTiming
+no_stamp = record { at = record { micros = pos 0 }; stamp = 0 }
 
 -- a second, and no measurement
 abbrev pub fresh_estimator : Estimator

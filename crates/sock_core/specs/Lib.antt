@@ -8,6 +8,7 @@ pub mod Emission
 pub mod Streams
 pub mod HeldRanges
 pub mod Received
+pub mod Kept
 pub mod Estimator
 pub mod Reno
 pub mod Congestion

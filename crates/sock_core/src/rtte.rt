@@ -1,11 +1,12 @@
 //! The estimator of round-trip times and of the retransmission timeout (RFC 6298).
-ghost use Rattle.std.specs.Prelude.{is_some, ◌≡◌, ◌*◌, ◌≤◌, List, true, if◌then◌else◌};
+ghost use Rattle.std.specs.Prelude.{is_some, ◌≡◌, ◌*◌, ◌≤◌, List, true, if◌then◌else◌, Some, None};
 ghost use Rattle.sock_core.specs.Estimator.{fresh_estimator, sampled, sent, acked, backed_off, retransmitted};
 ghost use Rattle.sock_core.specs.Estimator.{begun_anew, begun_with, bounded_below, is_backed_off, IsWait};
 ghost use Rattle.sock_core.specs.Estimator.{smoothed_by, timeout_of, AreSmall, IsTimeout, srtt_of, rttvar_of};
 ghost use Rattle.sock_core.specs.Estimator.{stamped, echoed, is_awaited};
 ghost use Rattle.sock_core.specs.Estimator.{Call, after_calls};
 
+use crate::kept::kept;
 use crate::seq::before;
 use control_wire::TcpSeqNumber;
 use net_base::time::{Duration, Instant};
@@ -59,42 +60,76 @@ pub struct StampTiming {
 ///
 /// The timeout is between 1,000 and 60,000 milliseconds, unless another lowest one is set. One number at a time is
 /// timed, and none that was sent again; that is timed by its timestamp, where the socket says which it has.
+// A moment stands beside a flag, and is 0 without it: an `Option` of one takes eight bytes more.
 #[derive(Debug, Clone, Copy)]
 pub struct RttEstimator {
+    // when what lies before `timed` was sent
+    timed_at: Instant,
+    // when a segment was sent with the timestamp `stamp`
+    stamped_at: Instant,
     smoothed: Option<Smoothed>,
-    rto: u32,
-    timing: Option<Timing>,
-    stamp_timing: Option<StampTiming>,
     highest: Option<TcpSeqNumber>,
-    backoffs: u8,
+    timed: TcpSeqNumber,
+    stamp: u32,
+    rto: u32,
     least: u32,
+    backoffs: u8,
+    is_timed: bool,
+    is_stamped: bool,
 }
 
 impl Model for RttEstimator {
-    ghost use Rattle.sock_core.specs.Estimator.{Estimator, IsEstimator};
+    ghost use Rattle.std.specs.Prelude.{◌≡◌, is_some};
+    ghost use Rattle.sock_core.specs.Kept.{is_kept, kept, or_blank};
+    ghost use Rattle.sock_core.specs.declared.rtte.Timing.{Timing};
+    ghost use Rattle.sock_core.specs.declared.rtte.StampTiming.{StampTiming};
+    ghost use Rattle.sock_core.specs.Estimator.{Estimator, IsEstimator, no_stamp, no_timing};
 
     ghost Value = { Estimator };
 
     ghost view = { λ e. record {
       smoothed = e.smoothed;
       rto = e.rto;
-      timing = e.timing;
-      stamp_timing = e.stamp_timing;
+      timing = kept e.is_timed (record { at = e.timed_at; number = e.timed });
+      stamp_timing = kept e.is_stamped (record { at = e.stamped_at; stamp = e.stamp });
       highest = e.highest;
       backoffs = e.backoffs;
       least = e.least;
     } };
 
-    ghost invariant = { λ e. IsEstimator e.smoothed e.rto e.backoffs e.least };
+    ghost invariant = { λ e.
+      IsEstimator e.smoothed e.rto e.backoffs e.least
+      × (or_blank no_timing (kept e.is_timed (record { at = e.timed_at; number = e.timed }))
+        ≡ record { at = e.timed_at; number = e.timed })
+      × (or_blank no_stamp (kept e.is_stamped (record { at = e.stamped_at; stamp = e.stamp }))
+        ≡ record { at = e.stamped_at; stamp = e.stamp }) };
 
     ghost inverse = { λ e. record {
+      timed_at = (or_blank no_timing e.timing).at;
+      stamped_at = (or_blank no_stamp e.stamp_timing).at;
       smoothed = e.smoothed;
-      rto = e.rto;
-      timing = e.timing;
-      stamp_timing = e.stamp_timing;
       highest = e.highest;
-      backoffs = e.backoffs;
+      timed = (or_blank no_timing e.timing).number;
+      stamp = (or_blank no_stamp e.stamp_timing).stamp;
+      rto = e.rto;
       least = e.least;
+      backoffs = e.backoffs;
+      is_timed = is_some e.timing;
+      is_stamped = is_some e.stamp_timing;
+    } };
+
+    ghost inverse_ok = { λ e h i. record {
+      timed_at = (h.1 i).at;
+      stamped_at = (h.2 i).at;
+      smoothed = e.smoothed;
+      highest = e.highest;
+      timed = (h.1 i).number;
+      stamp = (h.2 i).stamp;
+      rto = e.rto;
+      least = e.least;
+      backoffs = e.backoffs;
+      is_timed = is_kept {A = Timing} e.is_timed (record { at = e.timed_at; number = e.timed }) i;
+      is_stamped = is_kept {A = StampTiming} e.is_stamped (record { at = e.stamped_at; stamp = e.stamp }) i;
     } };
 }
 
@@ -104,13 +139,17 @@ impl Default for RttEstimator {
     /// No measurement, and a timeout of a second.
     fn default() -> Self {
         RttEstimator {
+            timed_at: Instant::ZERO,
+            stamped_at: Instant::ZERO,
             smoothed: None,
-            rto: INITIAL_TIMEOUT,
-            timing: None,
-            stamp_timing: None,
             highest: None,
-            backoffs: 0,
+            timed: TcpSeqNumber(0),
+            stamp: 0,
+            rto: INITIAL_TIMEOUT,
             least: LEAST_TIMEOUT,
+            backoffs: 0,
+            is_timed: false,
+            is_stamped: false,
         }
     }
 }
@@ -149,6 +188,50 @@ impl RttEstimator {
         }
     }
 
+    fn timing(&self) -> Option<Timing>
+        ensures { result ≡ self.now.timing }
+    {
+        kept(self.is_timed, Timing { at: self.timed_at, number: self.timed })
+    }
+
+    fn keep_timing(&mut self, at: Instant, number: TcpSeqNumber)
+        ensures { self.new ≡ record self.old { timing = Some (record { at = at; number = number }) } }
+    {
+        self.timed_at = at;
+        self.timed = number;
+        self.is_timed = true;
+    }
+
+    fn end_timing(&mut self)
+        ensures { self.new ≡ record self.old { timing = None } }
+    {
+        self.timed_at = Instant::ZERO;
+        self.timed = TcpSeqNumber(0);
+        self.is_timed = false;
+    }
+
+    fn stamp_timing(&self) -> Option<StampTiming>
+        ensures { result ≡ self.now.stamp_timing }
+    {
+        kept(self.is_stamped, StampTiming { at: self.stamped_at, stamp: self.stamp })
+    }
+
+    fn keep_stamp_timing(&mut self, at: Instant, stamp: u32)
+        ensures { self.new ≡ record self.old { stamp_timing = Some (record { at = at; stamp = stamp }) } }
+    {
+        self.stamped_at = at;
+        self.stamp = stamp;
+        self.is_stamped = true;
+    }
+
+    fn end_stamp_timing(&mut self)
+        ensures { self.new ≡ record self.old { stamp_timing = None } }
+    {
+        self.stamped_at = Instant::ZERO;
+        self.stamp = 0;
+        self.is_stamped = false;
+    }
+
     /// Takes a round-trip time, in milliseconds, of which at most 2^28 count (RFC 6298, section 2).
     #[tactic(auto, unfolding(crate::specs::Estimator::sampled))]
     pub fn sample(&mut self, new_rtt: u32)
@@ -171,8 +254,8 @@ impl RttEstimator {
         };
         if is_highest {
             self.highest = Some(number);
-            if self.timing.is_none() {
-                self.timing = Some(Timing { at: now, number });
+            if !self.is_timed {
+                self.keep_timing(now, number);
             }
         }
     }
@@ -183,7 +266,7 @@ impl RttEstimator {
     pub fn on_ack(&mut self, now: Instant, number: TcpSeqNumber)
         ensures { self.new ≡ acked self.old now number }
     {
-        let Some(timing) = self.timing else {
+        let Some(timing) = self.timing() else {
             return;
         };
         if before(number, timing.number) {
@@ -191,8 +274,8 @@ impl RttEstimator {
         }
         let elapsed = (now - timing.at).total_millis();
         self.sample(elapsed.min(LONGEST_SAMPLE as u64) as u32);
-        self.timing = None;
-        self.stamp_timing = None;
+        self.end_timing();
+        self.end_stamp_timing();
     }
 
     /// Something is sent again with the timestamp `stamp`. Where neither a number nor a timestamp is timed, that one is
@@ -201,8 +284,8 @@ impl RttEstimator {
     pub fn on_stamp(&mut self, now: Instant, stamp: u32)
         ensures { self.new ≡ stamped self.old now stamp }
     {
-        if self.timing.is_none() && self.stamp_timing.is_none() {
-            self.stamp_timing = Some(StampTiming { at: now, stamp });
+        if !self.is_timed && !self.is_stamped {
+            self.keep_stamp_timing(now, stamp);
         }
     }
 
@@ -214,17 +297,17 @@ impl RttEstimator {
         ensures state { self.new ≡ echoed self.old now echo }
         ensures sample { result ≡ is_awaited self.old.stamp_timing echo }
     {
-        let Some(timing) = self.stamp_timing else {
+        let Some(timing) = self.stamp_timing() else {
             return false;
         };
         if echo == timing.stamp {
             let elapsed = (now - timing.at).total_millis();
             self.sample(elapsed.min(LONGEST_SAMPLE as u64) as u32);
-            self.stamp_timing = None;
+            self.end_stamp_timing();
             return true;
         }
         if before(TcpSeqNumber(timing.stamp), TcpSeqNumber(echo)) {
-            self.stamp_timing = None;
+            self.end_stamp_timing();
         }
         false
     }
@@ -236,7 +319,7 @@ impl RttEstimator {
         ensures { self.new ≡ backed_off self.old }
     {
         self.rto = (self.rto * 2).min(LONGEST_TIMEOUT);
-        self.stamp_timing = None;
+        self.end_stamp_timing();
         self.backoffs += 1;
         if self.backoffs == TIMEOUTS_TO_CLEAR {
             self.backoffs = 0;
@@ -249,7 +332,7 @@ impl RttEstimator {
     pub fn on_retransmit(&mut self)
         ensures { self.new ≡ retransmitted self.old }
     {
-        self.timing = None;
+        self.end_timing();
     }
 
     /// The lowest timeout that a sample makes, in milliseconds.

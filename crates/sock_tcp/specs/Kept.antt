@@ -1,15 +1,9 @@
 -- What a control block keeps beside a flag, as an option takes the room of two moments.
-use Rattle.std.specs.Prelude.{Option, Some, None, Bool, true, false}
 use Rattle.net_base.specs.declared.time.Instant.{Instant}
 use Rattle.sock_tcp.specs.declared.kept.DelayKind.{DelayKind}
 use Rattle.sock_tcp.specs.declared.kept.DelayKind.TheVariants as kind
 use Rattle.sock_tcp.specs.declared.timer.AckDelayTimer.{AckDelayTimer}
 use Rattle.sock_tcp.specs.declared.timer.AckDelayTimer.TheVariants as ack_delay
-
--- a value, where the flag says that there is one
-abbrev pub kept : {A : Type 0} → Bool → A → Option A
-kept true a = Some a
-kept false a = None
 
 -- how long an acknowledgement may wait
 abbrev pub delay_kept : DelayKind → Instant → AckDelayTimer

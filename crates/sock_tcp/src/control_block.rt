@@ -124,7 +124,8 @@ pub struct ControlBlock<'a> {
 }
 
 impl<'a> Model for ControlBlock<'a> {
-    ghost use Rattle.sock_tcp.specs.Kept.{delay_kept, kept};
+    ghost use Rattle.sock_core.specs.Kept.{kept};
+    ghost use Rattle.sock_tcp.specs.Kept.{delay_kept};
     ghost use Rattle.sock_tcp.specs.Queue.{queue_of};
     ghost use Rattle.sock_tcp.specs.View.{View, IsSound};
 

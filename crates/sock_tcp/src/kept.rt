@@ -1,7 +1,7 @@
 //! What a control block may have or not have: each value stands beside a flag, since the `Option` of a moment takes as
 //! many bytes as two moments.
 ghost use Rattle.std.specs.Prelude.{◌≡◌};
-ghost use Rattle.sock_tcp.specs.Kept.{delay_kept, kept};
+ghost use Rattle.sock_tcp.specs.Kept.{delay_kept};
 ghost use Rattle.sock_tcp.specs.Timers.{IsLastTs};
 ghost use Rattle.sock_tcp.specs.View.{IsShort};
 
@@ -9,6 +9,7 @@ use crate::control_block::ControlBlock;
 use crate::timer::AckDelayTimer;
 use control_wire::TcpSeqNumber;
 use net_base::time::{Duration, Instant};
+use sock_core::kept::kept;
 
 /// Which of its variants an [`AckDelayTimer`] has.
 #[derive(Debug, Clone, Copy)]
@@ -19,14 +20,6 @@ pub enum DelayKind {
     Waiting,
     /// `Immediate`.
     Immediate,
-}
-
-// The value, where the flag says that there is one.
-#[inline(always)]
-fn kept<T: Copy>(has: bool, value: T) -> Option<T>
-    ensures { result ≡ kept has value }
-{
-    if has { Some(value) } else { None }
 }
 
 impl DelayKind {
