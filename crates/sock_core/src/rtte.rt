@@ -98,10 +98,10 @@ impl Model for RttEstimator {
     } };
 
     ghost invariant = { λ e.
-      IsEstimator e.smoothed e.rto e.backoffs e.least
-      × (or_blank no_timing (kept e.is_timed (record { at = e.timed_at; number = e.timed }))
+        IsEstimator e.smoothed e.rto e.backoffs e.least
+        × (or_blank no_timing (kept e.is_timed (record { at = e.timed_at; number = e.timed }))
         ≡ record { at = e.timed_at; number = e.timed })
-      × (or_blank no_stamp (kept e.is_stamped (record { at = e.stamped_at; stamp = e.stamp }))
+        × (or_blank no_stamp (kept e.is_stamped (record { at = e.stamped_at; stamp = e.stamp }))
         ≡ record { at = e.stamped_at; stamp = e.stamp }) };
 
     ghost inverse = { λ e. record {
@@ -191,7 +191,13 @@ impl RttEstimator {
     fn timing(&self) -> Option<Timing>
         ensures { result ≡ self.now.timing }
     {
-        kept(self.is_timed, Timing { at: self.timed_at, number: self.timed })
+        kept(
+            self.is_timed,
+            Timing {
+                at: self.timed_at,
+                number: self.timed,
+            },
+        )
     }
 
     fn keep_timing(&mut self, at: Instant, number: TcpSeqNumber)
@@ -213,7 +219,13 @@ impl RttEstimator {
     fn stamp_timing(&self) -> Option<StampTiming>
         ensures { result ≡ self.now.stamp_timing }
     {
-        kept(self.is_stamped, StampTiming { at: self.stamped_at, stamp: self.stamp })
+        kept(
+            self.is_stamped,
+            StampTiming {
+                at: self.stamped_at,
+                stamp: self.stamp,
+            },
+        )
     }
 
     fn keep_stamp_timing(&mut self, at: Instant, stamp: u32)

@@ -11,7 +11,7 @@ ghost use Rattle.sock_tcp.specs.Timers.{IsTimer};
 ghost use Rattle.sock_tcp.specs.Begin.{is_paused, begun, nothing_due, before_emit_to, before_emit};
 
 use crate::control_block::ControlBlock;
-use crate::poll::{is_reached, timeout_poll};
+use crate::poll::is_reached;
 use crate::rules::Rules;
 use crate::scoreboard::NOTHING_TOLD;
 use crate::state::State;
@@ -145,7 +145,7 @@ impl<'a> ControlBlock<'a> {
         ensures table { self.new ≡ after_timers self.old now }
         ensures stamps { self.new.stamps ≡ self.old.stamps }
     {
-        if is_reached(timeout_poll(self.timeout(), self.remote_last_ts()), now) {
+        if is_reached(self.timeout_poll(), now) {
             self.state = State::Closed;
             return;
         }

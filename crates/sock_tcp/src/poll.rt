@@ -1,7 +1,5 @@
 //! When a socket wants its next dispatch.
 ghost use Rattle.std.specs.Prelude.{◌≡◌, IsTrue, Some, false};
-ghost use Rattle.sock_tcp.specs.View.{IsShort};
-ghost use Rattle.sock_tcp.specs.Timers.{IsLastTs};
 ghost use Rattle.sock_tcp.specs.Polls.{is_reached, earlier, timeout_poll, timer_poll};
 ghost use Rattle.sock_tcp.specs.Poll.{is_due_by, is_due_now, poll_moment, poll_moment_by};
 ghost use Rattle.sock_tcp.specs.Window.{next_ack};
@@ -14,7 +12,7 @@ use crate::control_block::ControlBlock;
 use crate::socket::Socket;
 use crate::state::State;
 use crate::timer::{Timer, after, is_over};
-use net_base::time::{Duration, Instant};
+use net_base::time::Instant;
 use sock_core::{Context, PollAt};
 
 // Whether the poll moment is now or was before.
@@ -43,19 +41,19 @@ pub(crate) fn earlier(poll: PollAt, other: PollAt) -> PollAt
     }
 }
 
-// When the user timeout is over.
-pub(crate) fn timeout_poll(timeout: Option<Duration>, last: Option<Instant>) -> PollAt
-    requires lawful { IsLastTs last }
-    requires short { IsShort timeout }
-    ensures { result ≡ timeout_poll timeout last }
-{
-    match (timeout, last) {
-        (Some(timeout), Some(last)) => PollAt::Time(after(last, timeout)),
-        _ => PollAt::Ingress,
-    }
-}
-
 impl<'a> ControlBlock<'a> {
+    // When the user timeout is over.
+    #[inline(always)]
+    pub(crate) fn timeout_poll(&self) -> PollAt
+        ensures { result ≡ timeout_poll self.now.timeout self.now.remote_last_ts }
+    {
+        if self.has_timeout && self.has_remote_last_ts {
+            PollAt::Time(after(self.remote_last_ts, self.timeout))
+        } else {
+            PollAt::Ingress
+        }
+    }
+
     #[tactic(auto, unfolding(crate::specs::Work::has_work))]
     fn has_work(&self) -> bool
         ensures { result ≡ has_work self.now }
@@ -84,24 +82,23 @@ impl<'a> ControlBlock<'a> {
             None => return PollAt::Ingress,
             Some(tuple) => tuple,
         };
-        let timeout = timeout_poll(self.timeout(), self.remote_last_ts());
         if self.is_quiet() {
-            return self.timer_or(timeout);
+            return self.timer_or(self.timeout_poll());
         }
-        self.poll_at_in_full(self.effective_mss(cx, tuple), timeout)
+        self.poll_at_in_full(self.effective_mss(cx, tuple))
     }
 
     // The poll moment of a socket with a peer, by all that it may wait for, with segments of up to so many bytes. Not
     // inlined, so that the path of a quiet socket has no registers to save; and of the context it takes the one number,
     // which then need not lie in memory.
     #[inline(never)]
-    fn poll_at_in_full(&self, mss: usize, timeout: PollAt) -> PollAt
-        requires { timeout ≡ timeout_poll self.now.timeout self.now.remote_last_ts }
+    fn poll_at_in_full(&self, mss: usize) -> PollAt
         ensures { result ≡ poll_moment_by self.now mss }
     {
         if self.is_due_by(mss) {
             return PollAt::Now;
         }
+        let timeout = self.timeout_poll();
         match self.held_poll() {
             PollAt::Ingress => self.timer_or(timeout),
             held => earlier(self.timer.poll_at(), earlier(timeout, held)),

@@ -4,6 +4,7 @@
 
 pub mod congestion;
 pub mod context;
+pub mod kept;
 pub mod places;
 pub mod ranges;
 pub mod receive_buffer;

@@ -3,6 +3,7 @@
 
 use crate::proved::control_wire::TcpSeqNumber;
 use crate::proved::net_base::time::{Duration, Instant};
+use crate::proved::sock_core::kept::kept;
 use crate::proved::sock_core::seq::before;
 
 // All in milliseconds.
@@ -53,28 +54,39 @@ pub struct StampTiming {
 ///
 /// The timeout is between 1,000 and 60,000 milliseconds, unless another lowest one is set. One number at a time is
 /// timed, and none that was sent again; that is timed by its timestamp, where the socket says which it has.
+// A moment stands beside a flag, and is 0 without it: an `Option` of one takes eight bytes more.
 #[derive(Debug, Clone, Copy)]
 pub struct RttEstimator {
+    // when what lies before `timed` was sent
+    timed_at: Instant,
+    // when a segment was sent with the timestamp `stamp`
+    stamped_at: Instant,
     smoothed: Option<Smoothed>,
-    rto: u32,
-    timing: Option<Timing>,
-    stamp_timing: Option<StampTiming>,
     highest: Option<TcpSeqNumber>,
-    backoffs: u8,
+    timed: TcpSeqNumber,
+    stamp: u32,
+    rto: u32,
     least: u32,
+    backoffs: u8,
+    is_timed: bool,
+    is_stamped: bool,
 }
 
 impl Default for RttEstimator {
     /// No measurement, and a timeout of a second.
     fn default() -> Self {
         RttEstimator {
+            timed_at: Instant::ZERO,
+            stamped_at: Instant::ZERO,
             smoothed: None,
-            rto: INITIAL_TIMEOUT,
-            timing: None,
-            stamp_timing: None,
             highest: None,
-            backoffs: 0,
+            timed: TcpSeqNumber(0),
+            stamp: 0,
+            rto: INITIAL_TIMEOUT,
             least: LEAST_TIMEOUT,
+            backoffs: 0,
+            is_timed: false,
+            is_stamped: false,
         }
     }
 }
@@ -104,6 +116,38 @@ impl RttEstimator {
         }
     }
 
+    fn timing(&self) -> Option<Timing> {
+        kept(self.is_timed, Timing { at: self.timed_at, number: self.timed })
+    }
+
+    fn keep_timing(&mut self, at: Instant, number: TcpSeqNumber) {
+        self.timed_at = at;
+        self.timed = number;
+        self.is_timed = true;
+    }
+
+    fn end_timing(&mut self) {
+        self.timed_at = Instant::ZERO;
+        self.timed = TcpSeqNumber(0);
+        self.is_timed = false;
+    }
+
+    fn stamp_timing(&self) -> Option<StampTiming> {
+        kept(self.is_stamped, StampTiming { at: self.stamped_at, stamp: self.stamp })
+    }
+
+    fn keep_stamp_timing(&mut self, at: Instant, stamp: u32) {
+        self.stamped_at = at;
+        self.stamp = stamp;
+        self.is_stamped = true;
+    }
+
+    fn end_stamp_timing(&mut self) {
+        self.stamped_at = Instant::ZERO;
+        self.stamp = 0;
+        self.is_stamped = false;
+    }
+
     /// Takes a round-trip time, in milliseconds, of which at most 2^28 count (RFC 6298, section 2).
     pub fn sample(&mut self, new_rtt: u32) {
         let smoothed = smoothed_by(self.smoothed, new_rtt.min(LONGEST_SAMPLE));
@@ -120,8 +164,8 @@ impl RttEstimator {
         };
         if is_highest {
             self.highest = Some(number);
-            if self.timing.is_none() {
-                self.timing = Some(Timing { at: now, number });
+            if !self.is_timed {
+                self.keep_timing(now, number);
             }
         }
     }
@@ -129,7 +173,7 @@ impl RttEstimator {
     /// The numbers before `number` are acknowledged. Where the timed one is among them, the time since it was sent, in
     /// whole milliseconds, is a sample, and nothing is timed any more.
     pub fn on_ack(&mut self, now: Instant, number: TcpSeqNumber) {
-        let Some(timing) = self.timing else {
+        let Some(timing) = self.timing() else {
             return;
         };
         if before(number, timing.number) {
@@ -137,15 +181,15 @@ impl RttEstimator {
         }
         let elapsed = (now - timing.at).total_millis();
         self.sample(elapsed.min(LONGEST_SAMPLE as u64) as u32);
-        self.timing = None;
-        self.stamp_timing = None;
+        self.end_timing();
+        self.end_stamp_timing();
     }
 
     /// Something is sent again with the timestamp `stamp`. Where neither a number nor a timestamp is timed, that one is
     /// (RFC 7323, section 4).
     pub fn on_stamp(&mut self, now: Instant, stamp: u32) {
-        if self.timing.is_none() && self.stamp_timing.is_none() {
-            self.stamp_timing = Some(StampTiming { at: now, stamp });
+        if !self.is_timed && !self.is_stamped {
+            self.keep_stamp_timing(now, stamp);
         }
     }
 
@@ -153,17 +197,17 @@ impl RttEstimator {
     /// time since it was sent, in whole milliseconds, is a sample, also of what was sent more than once (RFC 6298,
     /// section 3). A later one ends the timing without. Call it after `on_ack`. Answers whether it gave a sample.
     pub fn on_echo(&mut self, now: Instant, echo: u32) -> bool {
-        let Some(timing) = self.stamp_timing else {
+        let Some(timing) = self.stamp_timing() else {
             return false;
         };
         if echo == timing.stamp {
             let elapsed = (now - timing.at).total_millis();
             self.sample(elapsed.min(LONGEST_SAMPLE as u64) as u32);
-            self.stamp_timing = None;
+            self.end_stamp_timing();
             return true;
         }
         if before(TcpSeqNumber(timing.stamp), TcpSeqNumber(echo)) {
-            self.stamp_timing = None;
+            self.end_stamp_timing();
         }
         false
     }
@@ -172,7 +216,7 @@ impl RttEstimator {
     /// sample between the measurement is cleared. A timestamp is waited for no longer, since all is sent again.
     pub fn on_rto(&mut self) {
         self.rto = (self.rto * 2).min(LONGEST_TIMEOUT);
-        self.stamp_timing = None;
+        self.end_stamp_timing();
         self.backoffs += 1;
         if self.backoffs == TIMEOUTS_TO_CLEAR {
             self.backoffs = 0;
@@ -182,7 +226,7 @@ impl RttEstimator {
 
     /// What was sent is sent again, so that no acknowledgement tells a round-trip time: no number is timed any more.
     pub fn on_retransmit(&mut self) {
-        self.timing = None;
+        self.end_timing();
     }
 
     /// The lowest timeout that a sample makes, in milliseconds.

@@ -4,6 +4,7 @@
 
 use crate::proved::control_wire::TcpSeqNumber;
 use crate::proved::net_base::time::{Duration, Instant};
+use crate::proved::sock_core::kept::kept;
 use crate::proved::sock_tcp::control_block::ControlBlock;
 use crate::proved::sock_tcp::timer::AckDelayTimer;
 
@@ -16,12 +17,6 @@ pub enum DelayKind {
     Waiting,
     /// `Immediate`.
     Immediate,
-}
-
-// The value, where the flag says that there is one.
-#[inline(always)]
-fn kept<T: Copy>(has: bool, value: T) -> Option<T> {
-    if has { Some(value) } else { None }
 }
 
 impl DelayKind {
