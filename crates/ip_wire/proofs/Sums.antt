@@ -326,24 +326,31 @@ sixteen_octets n xs h e =
     ∙ ap (sum_after (word_of (n + a + b + c + d))) (drop_all 16 xs (omega (arith, e)))
     ∙ ap word_of all
 
--- the addresses' sums, and what follows them in a pseudo header
-pub pseudo : (src dst : IpAddress) (protocol len s d : ℕ) → protocol < 256
-    → ((n : ℕ) → sum_after (word_of n) (octets_of src) ≡ word_of (n + s))
-    → ((n : ℕ) → sum_after (word_of n) (octets_of dst) ≡ word_of (n + d))
-    → pseudo_sum src dst protocol len ≡ word_of (s + d + (len % 4294967296 + protocol))
-pseudo src dst protocol len s d h ss ds =
+-- the sums of two addresses are one of both
+pub both_sums : (src dst : List ℕ) (s d : ℕ)
+    → ((n : ℕ) → sum_after (word_of n) src ≡ word_of (n + s))
+    → ((n : ℕ) → sum_after (word_of n) dst ≡ word_of (n + d))
+    → (n : ℕ) → sum_after (sum_after (word_of n) src) dst ≡ word_of (n + (s + d))
+both_sums src dst s d ss ds n =
+    let grouped : n + s + d ≡ n + (s + d) = omega arith in
+    ap (λ v. sum_after v dst) (ss n) ∙ ds (n + s) ∙ ap word_of grouped
+
+-- the addresses' sum, and what follows them in a pseudo header
+pub pseudo : (src dst : IpAddress) (protocol len t : ℕ) → protocol < 256
+    → ((n : ℕ) → sum_after (sum_after (word_of n) (octets_of src)) (octets_of dst) ≡ word_of (n + t))
+    → pseudo_sum src dst protocol len ≡ word_of (t + (len % 4294967296 + protocol))
+pseudo src dst protocol len t h both =
     let a = len / 65536 / 256 % 256 in
     let b = len / 65536 % 256 in
     let c = len / 256 % 256 in
     let e = len % 256 in
     let high = 256 * a + b in
     let low = 256 * c + e in
-    let n = 0 + s + d in
+    let n = 0 + t in
     let end = 0 ∷ 0 ∷ 0 ∷ protocol ∷ [] in
     let regrouped : n + high + low ≡ n + low + high = omega arith in
-    let whole : n + low + 65536 * high + 0 + (0 + protocol) ≡ s + d + (len % 4294967296 + protocol) = omega arith in
-    ap (λ v. sum_after (sum_after v (octets_of dst)) (be32 len ++ end)) (ss 0)
-    ∙ ap (λ v. sum_after v (be32 len ++ end)) (ds (0 + s))
+    let whole : n + low + 65536 * high + 0 + (0 + protocol) ≡ t + (len % 4294967296 + protocol) = omega arith in
+    ap (λ v. sum_after v (be32 len ++ end)) (both 0)
     ∙ ap (λ v. sum_after (ones_add v low) end) (word_of_more n high (omega arith))
     ∙ ap (λ v. sum_after v end) (word_of_more (n + high) low (omega arith) ∙ ap word_of regrouped ∙ word_of_carries (n + low) high)
     ∙ ap (λ v. ones_add v (0 + protocol)) (word_of_more (n + low + 65536 * high) 0 (omega arith))

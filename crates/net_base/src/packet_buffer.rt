@@ -182,6 +182,8 @@ impl<'a, H: Copy> PacketBuffer<'a, H> {
     }
 
     // The `size` bytes that stand behind the entries become one more. Answers where they begin.
+    // Inlined as `claim`, so that the header is copied once.
+    #[inline(always)]
     fn append(&mut self, size: usize, header: Option<H>) -> usize
         requires place { length self.old.entries < self.old.places }
         requires fits { size ≤ run_of self.old }
@@ -269,6 +271,7 @@ impl<'a, H: Copy> PacketBuffer<'a, H> {
 
     /// Appends a packet of `size` bytes as they stand in the storage. Answers whether there was room, and where they
     /// begin; `part_mut` lends them. The first step of `enqueue`, for a caller that lends on what that lends.
+    #[inline(always)]
     pub fn claim(&mut self, size: usize, header: H) -> (bool, usize)
         ensures { Claims size header self.old result.0 result.1 self.new }
     {

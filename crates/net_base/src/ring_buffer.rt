@@ -247,6 +247,7 @@ impl<'a, T: Copy> RingBuffer<'a, T> {
     }
 
     // Appends one item.
+    #[inline(always)]
     pub(crate) fn enqueue_one(&mut self, item: T)
         requires { 0 < length self.old.spare }
         ensures { self.new ≡ ring (self.old.queue ++ item ∷ []) (drop 1 self.old.spare) self.old.until_end }

@@ -1,6 +1,6 @@
 -- The sum of a pseudo header, not folded: numbers, and others with the low octet first.
 use Rattle.std.proofs.Common.{ℕ, ◌+◌, ◌*◌, ◌%◌, ◌<◌, ◌≡◌, List, ap, sym, ◌∙◌, arith}
-use Rattle.ip_wire.proofs.Sums.{pseudo, swapped_word_zero}
+use Rattle.ip_wire.proofs.Sums.{both_sums, pseudo, swapped_word_zero}
 use Rattle.ip_wire.specs.Sum.{pseudo_sum, sum_after, swapped_word, word_of}
 use Rattle.ip_wire.specs.declared.address.Ipv4Address.{Ipv4Address}
 use Rattle.ip_wire.specs.declared.address.IpAddress.TheVariants as address
@@ -24,4 +24,5 @@ pub of_v4 : (src dst : Ipv4Address) (len a b : ℕ)
 of_v4 src dst len a b p q =
     let order : len % 4294967296 + 6 + 256 * (a + b) ≡ 256 * a + 256 * b + (len % 4294967296 + 6) = omega arith in
     ap word_of order
-    ∙ sym (pseudo (address.Ipv4 src) (address.Ipv4 dst) 6 len (256 * a) (256 * b) (omega arith) (wide src.0 a p) (wide dst.0 b q))
+    ∙ sym (pseudo (address.Ipv4 src) (address.Ipv4 dst) 6 len (256 * a + 256 * b) (omega arith)
+    (both_sums src.0 dst.0 (256 * a) (256 * b) (wide src.0 a p) (wide dst.0 b q)))

@@ -118,7 +118,7 @@ abbrev pub read_as : {R V : Type 0} → (R → V) → Result R Error → Option 
 read_as view (Ok found) = Some (view found)
 read_as view (Err e) = None
 
--- a segment that was read into a place, where there is one
-abbrev pub filled : Bool → Segment → Option Segment
+-- a segment or datagram that was read into a place, where there is one
+abbrev pub filled : {A : Type 0} → Bool → A → Option A
 filled true s = Some s
 filled false s = None

@@ -5,6 +5,7 @@ ghost use Rattle.ip_wire.specs.Octets.{be16, be16_at};
 ghost use Rattle.ip_wire.specs.Sum.{complement, sum_after};
 ghost use Rattle.segment_wire.specs.Tcp.{read_as};
 ghost use Rattle.std.specs.Prelude.{option_map};
+ghost use Rattle.segment_wire.specs.Tcp.{filled};
 ghost use Rattle.segment_wire.specs.Udp.{datagram_of, datagram_with, ones_if_zero, udp_octets, udp_parsed, udp_with};
 
 use control_wire::{UdpRepr, udp_source};
@@ -111,20 +112,25 @@ pub fn parse<'a>(
     Ok((UdpRepr { src_port, dst_port }, payload))
 }
 
-/// Reads the datagram that the bytes spell, as [`parse`]: its header into `repr`, and its payload, if it is one; else
-/// `repr` is as it was.
+/// Reads the datagram that the bytes spell, as [`parse`], into `repr` and `payload`, if it is one; else these are as they
+/// were.
 #[inline(always)]
 pub(crate) fn parse_into<'a>(
     repr: &mut UdpRepr,
+    payload: &mut &'a [u8],
     bytes: &'a [u8],
     src_addr: &IpAddress,
     dst_addr: &IpAddress,
     caps: &ChecksumCapabilities,
-) -> Option<&'a [u8]>
-    ensures { option_map (datagram_with repr.new) result
+) -> bool
+    ensures { filled result (datagram_with repr.new payload.new)
         ≡ udp_parsed (is_received caps.now.udp) src_addr.now dst_addr.now bytes.now }
 {
-    repr.src_port = udp_source(bytes, src_addr, dst_addr, caps)?;
+    let Some(src_port) = udp_source(bytes, src_addr, dst_addr, caps) else {
+        return false;
+    };
+    repr.src_port = src_port;
     repr.dst_port = word(bytes[2], bytes[3]);
-    Some(&bytes[8..be16_at(bytes, 4)])
+    *payload = &bytes[8..be16_at(bytes, 4)];
+    true
 }

@@ -1,7 +1,6 @@
 //! The calls of a datagram socket that take and give packets.
 ghost use Rattle.std.specs.Prelude.{◌≡◌, ◌↔◌, IsTrue, true, false, None, Some, option_map};
-ghost use Rattle.segment_wire.specs.Packet.{Carried, UdpPacket, carried_of, udp_packet_of, with_datagram};
-ghost use Rattle.segment_wire.specs.Udp.{datagram_with};
+ghost use Rattle.segment_wire.specs.Packet.{Carried, UdpPacket, carried_of, udp_packet_of};
 ghost use Rattle.sock_dgram.specs.Datagrams.{poll_moment};
 ghost use Rattle.sock_dgram.specs.IcmpDispatch.{outgoing as message_due, outgoing_of as message_of};
 ghost use Rattle.sock_dgram.specs.RawDispatch.{outgoing_of as raw_of};
@@ -46,11 +45,8 @@ pub extern "C" fn smoltcp_udp_accepts_nonnull(h: &mut UdpHandle, cx: &Cx, packet
 fn is_for_udp(socket: &udp::Socket<'_>, moment: &Moment, packet: &[u8]) -> bool
     ensures { IsTrue result ↔ IsForUdp (facts_in moment.now.cx) socket.now packet.now }
 {
-    let (mut ip, mut repr) = (NO_HEADER, NO_PORTS);
-    match read_datagram(packet, &mut ip, &mut repr) {
-        None => false,
-        Some(_) => socket.accepts(moment, &ip, &repr),
-    }
+    let (mut ip, mut repr, mut payload) = (NO_HEADER, NO_PORTS, packet);
+    read_datagram(packet, &mut ip, &mut repr, &mut payload) && socket.accepts(moment, &ip, &repr)
 }
 
 // What packets are read into.
@@ -59,12 +55,18 @@ const NO_PORTS: UdpRepr = UdpRepr {
     dst_port: 0,
 };
 
-// Reads the datagram that the packet carries: its payload, if it carries one.
+// Reads the datagram that the packet carries. Whether it carries one.
 #[tactic(auto, unfolding(crate::specs::Udp::carried_datagram))]
-fn read_datagram<'a>(packet: &'a [u8], ip: &mut IpRepr, repr: &mut UdpRepr) -> Option<&'a [u8]>
-    ensures { with_datagram ip.new (option_map (datagram_with repr.new) result) ≡ carried_datagram packet.now }
+fn read_datagram<'a>(
+    packet: &'a [u8],
+    ip: &mut IpRepr,
+    repr: &mut UdpRepr,
+    payload: &mut &'a [u8],
+) -> bool
+    ensures none { result ≡ false → carried_datagram packet.now ≡ None }
+    ensures some { result ≡ true → carried_datagram packet.now ≡ Some (udp_packet_of (ip.new, repr.new, payload.new)) }
 {
-    read_udp(packet, &ChecksumCapabilities::default(), ip, repr)
+    read_udp(packet, &ChecksumCapabilities::default(), ip, repr, payload)
 }
 
 /// Takes an IP packet: the datagram that it carries comes behind the receive queue, or is dropped where the queue has
@@ -82,11 +84,20 @@ pub extern "C" fn smoltcp_udp_process_nonnull(h: &mut UdpHandle, cx: &Cx, packet
     ensures at { h.new.at ≡ h.old.at }
 {
     let moment = in_context!(cx);
-    let (mut ip, mut repr) = (NO_HEADER, NO_PORTS);
-    let Some(payload) = read_datagram(packet, &mut ip, &mut repr) else {
+    read_by_udp(h.socket(), &moment, packet)
+}
+
+// Gives the datagram that the packet carries to the socket.
+fn read_by_udp(socket: &mut udp::Socket<'_>, moment: &Moment, packet: &[u8]) -> i64
+    ensures broken { carried_datagram packet.now ≡ None → (result ≡ not_accepted) × (socket.new ≡ socket.old) }
+    ensures table { (p : UdpPacket) → carried_datagram packet.now ≡ Some p
+        → HearsDatagram (facts_in moment.now.cx) socket.old p result socket.new }
+{
+    let (mut ip, mut repr, mut payload) = (NO_HEADER, NO_PORTS, packet);
+    if !read_datagram(packet, &mut ip, &mut repr, &mut payload) {
         return NOT_ACCEPTED;
-    };
-    heard_by_udp(h.socket(), &moment, &ip, &repr, payload)
+    }
+    heard_by_udp(socket, moment, &ip, &repr, payload)
 }
 
 // Gives the datagram to the socket.

@@ -29,6 +29,7 @@ pub(crate) fn poll_moment<M: Copy>(tx_buffer: &PacketBuffer<'_, M>) -> PollAt
 }
 
 // Appends a packet, where there is room for it. Answers whether there was.
+#[inline(always)]
 fn append<M: Copy>(buffer: &mut PacketBuffer<'_, M>, meta: M, data: &[u8]) -> bool
     ensures takes { result ≡ takes (length «data».now) buffer.old }
     ensures after { buffer.new ≡ stored meta «data».now buffer.old }
@@ -42,7 +43,8 @@ fn append<M: Copy>(buffer: &mut PacketBuffer<'_, M>, meta: M, data: &[u8]) -> bo
     true
 }
 
-// The same, and what then waits.
+// The same, and what then waits. Inlined, so that the metadata is made where it stays.
+#[inline(always)]
 #[tactic(auto, using(crate::proofs::Storing::stored_queue))]
 pub(crate) fn store<M: Copy>(buffer: &mut PacketBuffer<'_, M>, meta: M, data: &[u8]) -> bool
     ensures takes { result ≡ takes (length «data».now) buffer.old }

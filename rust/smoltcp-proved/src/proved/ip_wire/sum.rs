@@ -162,7 +162,24 @@ pub fn checksum_after(start: u16, bytes: &[u8]) -> u16 {
 #[inline(always)]
 pub fn pseudo_sum(src: &IpAddress, dst: &IpAddress, protocol: u8, length: usize) -> u16 {
     let rest = length as u64 % 0x1_0000_0000 + protocol as u64;
-    word_of(address_sum(src) + address_sum(dst) + rest)
+    word_of(addresses_sum(src, dst) + rest)
+}
+
+// The sum of both addresses, not folded.
+#[inline(always)]
+fn addresses_sum(src: &IpAddress, dst: &IpAddress) -> u64 {
+    match (src, dst) {
+        (IpAddress::Ipv4(src), IpAddress::Ipv4(dst)) => {
+            four_octets(&src.octets()) + four_octets(&dst.octets())
+        }
+        _ => long_addresses_sum(src, dst),
+    }
+}
+
+// The same of IPv6. Not inlined, so that a sum over IPv4 keeps no registers for the words of IPv6.
+#[inline(never)]
+fn long_addresses_sum(src: &IpAddress, dst: &IpAddress) -> u64 {
+    address_sum(src) + address_sum(dst)
 }
 
 /// The sum of words that were added up without a carry at the other end, up to 2^62.

@@ -149,6 +149,7 @@ impl<'a, T: Copy> RingBuffer<'a, T> {
     }
 
     // Appends one item.
+    #[inline(always)]
     pub(crate) fn enqueue_item(&mut self, item: T) {
         let at = place(self.storage.len(), self.read_at, self.length);
         self.storage[at] = item;

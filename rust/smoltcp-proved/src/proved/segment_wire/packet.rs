@@ -158,8 +158,8 @@ pub fn parse_udp<'a>(
     Ok((ip, repr, payload))
 }
 
-/// Reads a packet, as [`parse_udp`], into `ip` and `repr`. The payload of the datagram that it carries; none where it
-/// carries none, and `ip` and `repr` say nothing then.
+/// Reads a packet, as [`parse_udp`], into `ip`, `repr` and `payload`. Whether it carries a datagram: else they say
+/// nothing.
 ///
 /// An answer that is handed up by value is copied at each return.
 pub fn read_udp<'a>(
@@ -167,11 +167,12 @@ pub fn read_udp<'a>(
     caps: &ChecksumCapabilities,
     ip: &mut IpRepr,
     repr: &mut UdpRepr,
-) -> Option<&'a [u8]> {
+    payload: &mut &'a [u8],
+) -> bool {
     match IpVersion::of_packet(packet) {
-        Ok(IpVersion::Ipv4) => read_udp_v4(packet, caps, ip, repr),
-        Ok(IpVersion::Ipv6) => read_udp_v6(packet, caps, ip, repr),
-        Err(Error) => None,
+        Ok(IpVersion::Ipv4) => read_udp_v4(packet, caps, ip, repr, payload),
+        Ok(IpVersion::Ipv6) => read_udp_v6(packet, caps, ip, repr, payload),
+        Err(Error) => false,
     }
 }
 
@@ -180,15 +181,18 @@ fn read_udp_v4<'a>(
     caps: &ChecksumCapabilities,
     ip: &mut IpRepr,
     repr: &mut UdpRepr,
-) -> Option<&'a [u8]> {
-    let (header, bytes) = whole_v4(packet, caps)?;
+    payload: &mut &'a [u8],
+) -> bool {
+    let Some((header, bytes)) = whole_v4(packet, caps) else {
+        return false;
+    };
     if u8::from(header.next_header) != 17 {
-        return None;
+        return false;
     }
     *ip = IpRepr::Ipv4(header);
     let src = IpAddress::Ipv4(header.src_addr);
     let dst = IpAddress::Ipv4(header.dst_addr);
-    udp::parse_into(repr, bytes, &src, &dst, caps)
+    udp::parse_into(repr, payload, bytes, &src, &dst, caps)
 }
 
 fn read_udp_v6<'a>(
@@ -196,15 +200,18 @@ fn read_udp_v6<'a>(
     caps: &ChecksumCapabilities,
     ip: &mut IpRepr,
     repr: &mut UdpRepr,
-) -> Option<&'a [u8]> {
-    let (header, bytes) = whole_v6(packet)?;
+    payload: &mut &'a [u8],
+) -> bool {
+    let Some((header, bytes)) = whole_v6(packet) else {
+        return false;
+    };
     if u8::from(header.next_header) != 17 {
-        return None;
+        return false;
     }
     *ip = IpRepr::Ipv6(header);
     let src = IpAddress::Ipv6(header.src_addr);
     let dst = IpAddress::Ipv6(header.dst_addr);
-    udp::parse_into(repr, bytes, &src, &dst, caps)
+    udp::parse_into(repr, payload, bytes, &src, &dst, caps)
 }
 
 // The header and what stands behind it, where that is of this protocol.

@@ -82,17 +82,22 @@ pub fn parse<'a>(
     Ok((UdpRepr { src_port, dst_port }, payload))
 }
 
-/// Reads the datagram that the bytes spell, as [`parse`]: its header into `repr`, and its payload, if it is one; else
-/// `repr` is as it was.
+/// Reads the datagram that the bytes spell, as [`parse`], into `repr` and `payload`, if it is one; else these are as they
+/// were.
 #[inline(always)]
 pub(crate) fn parse_into<'a>(
     repr: &mut UdpRepr,
+    payload: &mut &'a [u8],
     bytes: &'a [u8],
     src_addr: &IpAddress,
     dst_addr: &IpAddress,
     caps: &ChecksumCapabilities,
-) -> Option<&'a [u8]> {
-    repr.src_port = udp_source(bytes, src_addr, dst_addr, caps)?;
+) -> bool {
+    let Some(src_port) = udp_source(bytes, src_addr, dst_addr, caps) else {
+        return false;
+    };
+    repr.src_port = src_port;
     repr.dst_port = word(bytes[2], bytes[3]);
-    Some(&bytes[8..be16_at(bytes, 4)])
+    *payload = &bytes[8..be16_at(bytes, 4)];
+    true
 }

@@ -18,6 +18,7 @@ pub(crate) fn poll_moment<M: Copy>(tx_buffer: &PacketBuffer<'_, M>) -> PollAt {
 }
 
 // Appends a packet, where there is room for it. Answers whether there was.
+#[inline(always)]
 fn append<M: Copy>(buffer: &mut PacketBuffer<'_, M>, meta: M, data: &[u8]) -> bool {
     let size = data.len();
     let (taken, from) = buffer.claim(size, meta);
@@ -28,7 +29,8 @@ fn append<M: Copy>(buffer: &mut PacketBuffer<'_, M>, meta: M, data: &[u8]) -> bo
     true
 }
 
-// The same, and what then waits.
+// The same, and what then waits. Inlined, so that the metadata is made where it stays.
+#[inline(always)]
 pub(crate) fn store<M: Copy>(buffer: &mut PacketBuffer<'_, M>, meta: M, data: &[u8]) -> bool {
     append(buffer, meta, data)
 }

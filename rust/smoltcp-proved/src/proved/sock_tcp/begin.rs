@@ -5,7 +5,7 @@ use crate::proved::net_base::time::Instant;
 use crate::proved::sock_core::Context;
 use crate::proved::sock_core::congestion::Controller;
 use crate::proved::sock_tcp::control_block::ControlBlock;
-use crate::proved::sock_tcp::poll::{is_reached, timeout_poll};
+use crate::proved::sock_tcp::poll::is_reached;
 use crate::proved::sock_tcp::rules::Rules;
 use crate::proved::sock_tcp::scoreboard::NOTHING_TOLD;
 use crate::proved::sock_tcp::state::State;
@@ -94,7 +94,7 @@ impl<'a> ControlBlock<'a> {
     // What the moments that have passed change.
     #[inline(always)]
     fn heed_timers(&mut self, now: Instant) {
-        if is_reached(timeout_poll(self.timeout(), self.remote_last_ts()), now) {
+        if is_reached(self.timeout_poll(), now) {
             self.state = State::Closed;
             return;
         }

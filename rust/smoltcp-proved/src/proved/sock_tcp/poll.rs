@@ -1,7 +1,7 @@
 // Made from crates/sock_tcp/src/poll.rt by rust/translate: change it there.
 //! When a socket wants its next dispatch.
 
-use crate::proved::net_base::time::{Duration, Instant};
+use crate::proved::net_base::time::Instant;
 use crate::proved::sock_core::{Context, PollAt};
 use crate::proved::sock_tcp::control_block::ControlBlock;
 use crate::proved::sock_tcp::socket::Socket;
@@ -30,15 +30,17 @@ pub(crate) fn earlier(poll: PollAt, other: PollAt) -> PollAt {
     }
 }
 
-// When the user timeout is over.
-pub(crate) fn timeout_poll(timeout: Option<Duration>, last: Option<Instant>) -> PollAt {
-    match (timeout, last) {
-        (Some(timeout), Some(last)) => PollAt::Time(after(last, timeout)),
-        _ => PollAt::Ingress,
-    }
-}
-
 impl<'a> ControlBlock<'a> {
+    // When the user timeout is over.
+    #[inline(always)]
+    pub(crate) fn timeout_poll(&self) -> PollAt {
+        if self.has_timeout && self.has_remote_last_ts {
+            PollAt::Time(after(self.remote_last_ts, self.timeout))
+        } else {
+            PollAt::Ingress
+        }
+    }
+
     fn has_work(&self) -> bool {
         self.state.works(self.tuple.is_some(), self.tx_buffer.is_empty(), self.synack_paused)
     }
@@ -55,21 +57,21 @@ impl<'a> ControlBlock<'a> {
             None => return PollAt::Ingress,
             Some(tuple) => tuple,
         };
-        let timeout = timeout_poll(self.timeout(), self.remote_last_ts());
         if self.is_quiet() {
-            return self.timer_or(timeout);
+            return self.timer_or(self.timeout_poll());
         }
-        self.poll_at_in_full(self.effective_mss(cx, tuple), timeout)
+        self.poll_at_in_full(self.effective_mss(cx, tuple))
     }
 
     // The poll moment of a socket with a peer, by all that it may wait for, with segments of up to so many bytes. Not
     // inlined, so that the path of a quiet socket has no registers to save; and of the context it takes the one number,
     // which then need not lie in memory.
     #[inline(never)]
-    fn poll_at_in_full(&self, mss: usize, timeout: PollAt) -> PollAt {
+    fn poll_at_in_full(&self, mss: usize) -> PollAt {
         if self.is_due_by(mss) {
             return PollAt::Now;
         }
+        let timeout = self.timeout_poll();
         match self.held_poll() {
             PollAt::Ingress => self.timer_or(timeout),
             held => earlier(self.timer.poll_at(), earlier(timeout, held)),
