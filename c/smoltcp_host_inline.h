@@ -54,9 +54,16 @@ SMOLTCP_INLINE int64_t smoltcp_host_opened(const struct smoltcp_host *host, cons
 SMOLTCP_INLINE int64_t smoltcp_host_receive(struct smoltcp_host *host, int64_t now, const uint8_t *packet, size_t len,
                                             uint8_t *reply, size_t cap) {
     struct smoltcp_host_handle h = {SMOLTCP_AT(host)};
-    if (!host || (!packet && len) || (!reply && cap)) return SMOLTCP_ERROR_NULL;
-    return smoltcp_host_receive_nonnull(&h, now, SMOLTCP_OR_NONE(const uint8_t, packet), len,
-                                        SMOLTCP_OR_NONE(uint8_t, reply), cap);
+    if (!host) return SMOLTCP_ERROR_NULL;
+    if (!packet) {
+        if (len) return SMOLTCP_ERROR_NULL;
+        packet = SMOLTCP_NONE(const uint8_t);
+    }
+    if (!reply) {
+        if (cap) return SMOLTCP_ERROR_NULL;
+        reply = SMOLTCP_NONE(uint8_t);
+    }
+    return smoltcp_host_receive_nonnull(&h, now, packet, len, reply, cap);
 }
 
 SMOLTCP_INLINE int64_t smoltcp_host_remove_icmp(struct smoltcp_host *host, const struct smoltcp_socket_id *id,
@@ -94,8 +101,12 @@ SMOLTCP_INLINE int64_t smoltcp_host_remove_udp(struct smoltcp_host *host, const 
 SMOLTCP_INLINE int64_t smoltcp_host_set_addresses(struct smoltcp_host *host, const struct smoltcp_cidr *addresses,
                                                   size_t count) {
     struct smoltcp_host_handle h = {SMOLTCP_AT(host)};
-    if (!host || (!addresses && count)) return SMOLTCP_ERROR_NULL;
-    return smoltcp_host_set_addresses_nonnull(&h, SMOLTCP_OR_NONE(const struct smoltcp_cidr, addresses), count);
+    if (!host) return SMOLTCP_ERROR_NULL;
+    if (!addresses) {
+        if (count) return SMOLTCP_ERROR_NULL;
+        addresses = SMOLTCP_NONE(const struct smoltcp_cidr);
+    }
+    return smoltcp_host_set_addresses_nonnull(&h, addresses, count);
 }
 
 SMOLTCP_INLINE int64_t smoltcp_host_set_guards(struct smoltcp_host *host, const struct smoltcp_guards *guards) {

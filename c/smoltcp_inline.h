@@ -54,8 +54,12 @@ SMOLTCP_INLINE int64_t smoltcp_tcp_consume(struct smoltcp_tcp *s, size_t count) 
 SMOLTCP_INLINE int64_t smoltcp_tcp_dispatch(struct smoltcp_tcp *s, const struct smoltcp_context *cx, uint8_t *out,
                                             size_t cap) {
     struct smoltcp_tcp_handle h = {SMOLTCP_AT(s)};
-    if (!s || !cx || (!out && cap)) return SMOLTCP_ERROR_NULL;
-    return smoltcp_tcp_dispatch_nonnull(&h, cx, SMOLTCP_OR_NONE(uint8_t, out), cap);
+    if (!s || !cx) return SMOLTCP_ERROR_NULL;
+    if (!out) {
+        if (cap) return SMOLTCP_ERROR_NULL;
+        out = SMOLTCP_NONE(uint8_t);
+    }
+    return smoltcp_tcp_dispatch_nonnull(&h, cx, out, cap);
 }
 
 SMOLTCP_INLINE int64_t smoltcp_tcp_ended(const struct smoltcp_tcp *s) {
@@ -102,22 +106,37 @@ SMOLTCP_INLINE int64_t smoltcp_tcp_pause_synack(struct smoltcp_tcp *s, uint8_t p
 
 SMOLTCP_INLINE int64_t smoltcp_tcp_peek_slice(const struct smoltcp_tcp *s, uint8_t *data, size_t cap) {
     struct smoltcp_tcp_handle h = {SMOLTCP_AT(s)};
-    if (!s || (!data && cap)) return SMOLTCP_ERROR_NULL;
-    return smoltcp_tcp_peek_slice_nonnull(&h, SMOLTCP_OR_NONE(uint8_t, data), cap);
+    if (!s) return SMOLTCP_ERROR_NULL;
+    if (!data) {
+        if (cap) return SMOLTCP_ERROR_NULL;
+        data = SMOLTCP_NONE(uint8_t);
+    }
+    return smoltcp_tcp_peek_slice_nonnull(&h, data, cap);
 }
 
 SMOLTCP_INLINE int64_t smoltcp_tcp_process(struct smoltcp_tcp *s, const struct smoltcp_context *cx,
                                            const uint8_t *packet, size_t len, uint8_t *reply, size_t cap) {
     struct smoltcp_tcp_handle h = {SMOLTCP_AT(s)};
-    if (!s || !cx || (!packet && len) || (!reply && cap)) return SMOLTCP_ERROR_NULL;
-    return smoltcp_tcp_process_nonnull(&h, cx, SMOLTCP_OR_NONE(const uint8_t, packet), len,
-                                       SMOLTCP_OR_NONE(uint8_t, reply), cap);
+    if (!s || !cx) return SMOLTCP_ERROR_NULL;
+    if (!packet) {
+        if (len) return SMOLTCP_ERROR_NULL;
+        packet = SMOLTCP_NONE(const uint8_t);
+    }
+    if (!reply) {
+        if (cap) return SMOLTCP_ERROR_NULL;
+        reply = SMOLTCP_NONE(uint8_t);
+    }
+    return smoltcp_tcp_process_nonnull(&h, cx, packet, len, reply, cap);
 }
 
 SMOLTCP_INLINE int64_t smoltcp_tcp_recv(struct smoltcp_tcp *s, uint8_t *data, size_t cap) {
     struct smoltcp_tcp_handle h = {SMOLTCP_AT(s)};
-    if (!s || (!data && cap)) return SMOLTCP_ERROR_NULL;
-    return smoltcp_tcp_recv_nonnull(&h, SMOLTCP_OR_NONE(uint8_t, data), cap);
+    if (!s) return SMOLTCP_ERROR_NULL;
+    if (!data) {
+        if (cap) return SMOLTCP_ERROR_NULL;
+        data = SMOLTCP_NONE(uint8_t);
+    }
+    return smoltcp_tcp_recv_nonnull(&h, data, cap);
 }
 
 SMOLTCP_INLINE int64_t smoltcp_tcp_remote_endpoint(const struct smoltcp_tcp *s, struct smoltcp_endpoint *out) {
@@ -127,14 +146,25 @@ SMOLTCP_INLINE int64_t smoltcp_tcp_remote_endpoint(const struct smoltcp_tcp *s, 
 }
 
 SMOLTCP_INLINE int64_t smoltcp_tcp_reset(const uint8_t *packet, size_t len, uint8_t *reply, size_t cap) {
-    if ((!packet && len) || (!reply && cap)) return SMOLTCP_ERROR_NULL;
-    return smoltcp_tcp_reset_nonnull(SMOLTCP_OR_NONE(const uint8_t, packet), len, SMOLTCP_OR_NONE(uint8_t, reply), cap);
+    if (!packet) {
+        if (len) return SMOLTCP_ERROR_NULL;
+        packet = SMOLTCP_NONE(const uint8_t);
+    }
+    if (!reply) {
+        if (cap) return SMOLTCP_ERROR_NULL;
+        reply = SMOLTCP_NONE(uint8_t);
+    }
+    return smoltcp_tcp_reset_nonnull(packet, len, reply, cap);
 }
 
 SMOLTCP_INLINE int64_t smoltcp_tcp_send(struct smoltcp_tcp *s, const uint8_t *data, size_t len) {
     struct smoltcp_tcp_handle h = {SMOLTCP_AT(s)};
-    if (!s || (!data && len)) return SMOLTCP_ERROR_NULL;
-    return smoltcp_tcp_send_nonnull(&h, SMOLTCP_OR_NONE(const uint8_t, data), len);
+    if (!s) return SMOLTCP_ERROR_NULL;
+    if (!data) {
+        if (len) return SMOLTCP_ERROR_NULL;
+        data = SMOLTCP_NONE(const uint8_t);
+    }
+    return smoltcp_tcp_send_nonnull(&h, data, len);
 }
 
 SMOLTCP_INLINE int64_t smoltcp_tcp_set_ack_delay(struct smoltcp_tcp *s, int64_t micros) {
@@ -206,8 +236,12 @@ SMOLTCP_INLINE int64_t smoltcp_tcp_state(const struct smoltcp_tcp *s) {
 SMOLTCP_INLINE int64_t smoltcp_udp_accepts(const struct smoltcp_udp *s, const struct smoltcp_context *cx,
                                            const uint8_t *packet, size_t len) {
     struct smoltcp_udp_handle h = {SMOLTCP_AT(s)};
-    if (!s || !cx || (!packet && len)) return SMOLTCP_ERROR_NULL;
-    return smoltcp_udp_accepts_nonnull(&h, cx, SMOLTCP_OR_NONE(const uint8_t, packet), len);
+    if (!s || !cx) return SMOLTCP_ERROR_NULL;
+    if (!packet) {
+        if (len) return SMOLTCP_ERROR_NULL;
+        packet = SMOLTCP_NONE(const uint8_t);
+    }
+    return smoltcp_udp_accepts_nonnull(&h, cx, packet, len);
 }
 
 SMOLTCP_INLINE int64_t smoltcp_udp_ask(const struct smoltcp_udp *s, uint32_t what) {
@@ -231,8 +265,12 @@ SMOLTCP_INLINE int64_t smoltcp_udp_close(struct smoltcp_udp *s) {
 SMOLTCP_INLINE int64_t smoltcp_udp_dispatch(struct smoltcp_udp *s, const struct smoltcp_context *cx, uint8_t *out,
                                             size_t cap) {
     struct smoltcp_udp_handle h = {SMOLTCP_AT(s)};
-    if (!s || !cx || (!out && cap)) return SMOLTCP_ERROR_NULL;
-    return smoltcp_udp_dispatch_nonnull(&h, cx, SMOLTCP_OR_NONE(uint8_t, out), cap);
+    if (!s || !cx) return SMOLTCP_ERROR_NULL;
+    if (!out) {
+        if (cap) return SMOLTCP_ERROR_NULL;
+        out = SMOLTCP_NONE(uint8_t);
+    }
+    return smoltcp_udp_dispatch_nonnull(&h, cx, out, cap);
 }
 
 SMOLTCP_INLINE int64_t smoltcp_udp_endpoint(const struct smoltcp_udp *s, struct smoltcp_endpoint *out) {
@@ -244,29 +282,45 @@ SMOLTCP_INLINE int64_t smoltcp_udp_endpoint(const struct smoltcp_udp *s, struct 
 SMOLTCP_INLINE int64_t smoltcp_udp_peek(struct smoltcp_udp *s, struct smoltcp_udp_metadata *meta, uint8_t *data,
                                         size_t cap) {
     struct smoltcp_udp_handle h = {SMOLTCP_AT(s)};
-    if (!s || !meta || (!data && cap)) return SMOLTCP_ERROR_NULL;
-    return smoltcp_udp_peek_nonnull(&h, meta, SMOLTCP_OR_NONE(uint8_t, data), cap);
+    if (!s || !meta) return SMOLTCP_ERROR_NULL;
+    if (!data) {
+        if (cap) return SMOLTCP_ERROR_NULL;
+        data = SMOLTCP_NONE(uint8_t);
+    }
+    return smoltcp_udp_peek_nonnull(&h, meta, data, cap);
 }
 
 SMOLTCP_INLINE int64_t smoltcp_udp_process(struct smoltcp_udp *s, const struct smoltcp_context *cx,
                                            const uint8_t *packet, size_t len) {
     struct smoltcp_udp_handle h = {SMOLTCP_AT(s)};
-    if (!s || !cx || (!packet && len)) return SMOLTCP_ERROR_NULL;
-    return smoltcp_udp_process_nonnull(&h, cx, SMOLTCP_OR_NONE(const uint8_t, packet), len);
+    if (!s || !cx) return SMOLTCP_ERROR_NULL;
+    if (!packet) {
+        if (len) return SMOLTCP_ERROR_NULL;
+        packet = SMOLTCP_NONE(const uint8_t);
+    }
+    return smoltcp_udp_process_nonnull(&h, cx, packet, len);
 }
 
 SMOLTCP_INLINE int64_t smoltcp_udp_recv(struct smoltcp_udp *s, struct smoltcp_udp_metadata *meta, uint8_t *data,
                                         size_t cap) {
     struct smoltcp_udp_handle h = {SMOLTCP_AT(s)};
-    if (!s || !meta || (!data && cap)) return SMOLTCP_ERROR_NULL;
-    return smoltcp_udp_recv_nonnull(&h, meta, SMOLTCP_OR_NONE(uint8_t, data), cap);
+    if (!s || !meta) return SMOLTCP_ERROR_NULL;
+    if (!data) {
+        if (cap) return SMOLTCP_ERROR_NULL;
+        data = SMOLTCP_NONE(uint8_t);
+    }
+    return smoltcp_udp_recv_nonnull(&h, meta, data, cap);
 }
 
 SMOLTCP_INLINE int64_t smoltcp_udp_send(struct smoltcp_udp *s, const struct smoltcp_udp_metadata *meta,
                                         const uint8_t *data, size_t len) {
     struct smoltcp_udp_handle h = {SMOLTCP_AT(s)};
-    if (!s || !meta || (!data && len)) return SMOLTCP_ERROR_NULL;
-    return smoltcp_udp_send_nonnull(&h, meta, SMOLTCP_OR_NONE(const uint8_t, data), len);
+    if (!s || !meta) return SMOLTCP_ERROR_NULL;
+    if (!data) {
+        if (len) return SMOLTCP_ERROR_NULL;
+        data = SMOLTCP_NONE(const uint8_t);
+    }
+    return smoltcp_udp_send_nonnull(&h, meta, data, len);
 }
 
 SMOLTCP_INLINE int64_t smoltcp_udp_set_hop_limit(struct smoltcp_udp *s, uint8_t hop_limit) {
@@ -277,8 +331,12 @@ SMOLTCP_INLINE int64_t smoltcp_udp_set_hop_limit(struct smoltcp_udp *s, uint8_t 
 
 SMOLTCP_INLINE int64_t smoltcp_raw_accepts(const struct smoltcp_raw *s, const uint8_t *packet, size_t len) {
     struct smoltcp_raw_handle h = {SMOLTCP_AT(s)};
-    if (!s || (!packet && len)) return SMOLTCP_ERROR_NULL;
-    return smoltcp_raw_accepts_nonnull(&h, SMOLTCP_OR_NONE(const uint8_t, packet), len);
+    if (!s) return SMOLTCP_ERROR_NULL;
+    if (!packet) {
+        if (len) return SMOLTCP_ERROR_NULL;
+        packet = SMOLTCP_NONE(const uint8_t);
+    }
+    return smoltcp_raw_accepts_nonnull(&h, packet, len);
 }
 
 SMOLTCP_INLINE int64_t smoltcp_raw_ask(const struct smoltcp_raw *s, uint32_t what) {
@@ -290,40 +348,64 @@ SMOLTCP_INLINE int64_t smoltcp_raw_ask(const struct smoltcp_raw *s, uint32_t wha
 SMOLTCP_INLINE int64_t smoltcp_raw_dispatch(struct smoltcp_raw *s, const struct smoltcp_context *cx, uint8_t *out,
                                             size_t cap) {
     struct smoltcp_raw_handle h = {SMOLTCP_AT(s)};
-    if (!s || !cx || (!out && cap)) return SMOLTCP_ERROR_NULL;
-    return smoltcp_raw_dispatch_nonnull(&h, cx, SMOLTCP_OR_NONE(uint8_t, out), cap);
+    if (!s || !cx) return SMOLTCP_ERROR_NULL;
+    if (!out) {
+        if (cap) return SMOLTCP_ERROR_NULL;
+        out = SMOLTCP_NONE(uint8_t);
+    }
+    return smoltcp_raw_dispatch_nonnull(&h, cx, out, cap);
 }
 
 SMOLTCP_INLINE int64_t smoltcp_raw_peek(struct smoltcp_raw *s, uint8_t *data, size_t cap) {
     struct smoltcp_raw_handle h = {SMOLTCP_AT(s)};
-    if (!s || (!data && cap)) return SMOLTCP_ERROR_NULL;
-    return smoltcp_raw_peek_nonnull(&h, SMOLTCP_OR_NONE(uint8_t, data), cap);
+    if (!s) return SMOLTCP_ERROR_NULL;
+    if (!data) {
+        if (cap) return SMOLTCP_ERROR_NULL;
+        data = SMOLTCP_NONE(uint8_t);
+    }
+    return smoltcp_raw_peek_nonnull(&h, data, cap);
 }
 
 SMOLTCP_INLINE int64_t smoltcp_raw_process(struct smoltcp_raw *s, const struct smoltcp_context *cx,
                                            const uint8_t *packet, size_t len) {
     struct smoltcp_raw_handle h = {SMOLTCP_AT(s)};
-    if (!s || !cx || (!packet && len)) return SMOLTCP_ERROR_NULL;
-    return smoltcp_raw_process_nonnull(&h, cx, SMOLTCP_OR_NONE(const uint8_t, packet), len);
+    if (!s || !cx) return SMOLTCP_ERROR_NULL;
+    if (!packet) {
+        if (len) return SMOLTCP_ERROR_NULL;
+        packet = SMOLTCP_NONE(const uint8_t);
+    }
+    return smoltcp_raw_process_nonnull(&h, cx, packet, len);
 }
 
 SMOLTCP_INLINE int64_t smoltcp_raw_recv(struct smoltcp_raw *s, uint8_t *data, size_t cap) {
     struct smoltcp_raw_handle h = {SMOLTCP_AT(s)};
-    if (!s || (!data && cap)) return SMOLTCP_ERROR_NULL;
-    return smoltcp_raw_recv_nonnull(&h, SMOLTCP_OR_NONE(uint8_t, data), cap);
+    if (!s) return SMOLTCP_ERROR_NULL;
+    if (!data) {
+        if (cap) return SMOLTCP_ERROR_NULL;
+        data = SMOLTCP_NONE(uint8_t);
+    }
+    return smoltcp_raw_recv_nonnull(&h, data, cap);
 }
 
 SMOLTCP_INLINE int64_t smoltcp_raw_send(struct smoltcp_raw *s, const uint8_t *data, size_t len) {
     struct smoltcp_raw_handle h = {SMOLTCP_AT(s)};
-    if (!s || (!data && len)) return SMOLTCP_ERROR_NULL;
-    return smoltcp_raw_send_nonnull(&h, SMOLTCP_OR_NONE(const uint8_t, data), len);
+    if (!s) return SMOLTCP_ERROR_NULL;
+    if (!data) {
+        if (len) return SMOLTCP_ERROR_NULL;
+        data = SMOLTCP_NONE(const uint8_t);
+    }
+    return smoltcp_raw_send_nonnull(&h, data, len);
 }
 
 SMOLTCP_INLINE int64_t smoltcp_icmp_accepts(const struct smoltcp_icmp *s, const struct smoltcp_context *cx,
                                             const uint8_t *packet, size_t len) {
     struct smoltcp_icmp_handle h = {SMOLTCP_AT(s)};
-    if (!s || !cx || (!packet && len)) return SMOLTCP_ERROR_NULL;
-    return smoltcp_icmp_accepts_nonnull(&h, cx, SMOLTCP_OR_NONE(const uint8_t, packet), len);
+    if (!s || !cx) return SMOLTCP_ERROR_NULL;
+    if (!packet) {
+        if (len) return SMOLTCP_ERROR_NULL;
+        packet = SMOLTCP_NONE(const uint8_t);
+    }
+    return smoltcp_icmp_accepts_nonnull(&h, cx, packet, len);
 }
 
 SMOLTCP_INLINE int64_t smoltcp_icmp_ask(const struct smoltcp_icmp *s, uint32_t what) {
@@ -341,29 +423,45 @@ SMOLTCP_INLINE int64_t smoltcp_icmp_bind(struct smoltcp_icmp *s, const struct sm
 SMOLTCP_INLINE int64_t smoltcp_icmp_dispatch(struct smoltcp_icmp *s, const struct smoltcp_context *cx, uint8_t *out,
                                              size_t cap) {
     struct smoltcp_icmp_handle h = {SMOLTCP_AT(s)};
-    if (!s || !cx || (!out && cap)) return SMOLTCP_ERROR_NULL;
-    return smoltcp_icmp_dispatch_nonnull(&h, cx, SMOLTCP_OR_NONE(uint8_t, out), cap);
+    if (!s || !cx) return SMOLTCP_ERROR_NULL;
+    if (!out) {
+        if (cap) return SMOLTCP_ERROR_NULL;
+        out = SMOLTCP_NONE(uint8_t);
+    }
+    return smoltcp_icmp_dispatch_nonnull(&h, cx, out, cap);
 }
 
 SMOLTCP_INLINE int64_t smoltcp_icmp_process(struct smoltcp_icmp *s, const struct smoltcp_context *cx,
                                             const uint8_t *packet, size_t len) {
     struct smoltcp_icmp_handle h = {SMOLTCP_AT(s)};
-    if (!s || !cx || (!packet && len)) return SMOLTCP_ERROR_NULL;
-    return smoltcp_icmp_process_nonnull(&h, cx, SMOLTCP_OR_NONE(const uint8_t, packet), len);
+    if (!s || !cx) return SMOLTCP_ERROR_NULL;
+    if (!packet) {
+        if (len) return SMOLTCP_ERROR_NULL;
+        packet = SMOLTCP_NONE(const uint8_t);
+    }
+    return smoltcp_icmp_process_nonnull(&h, cx, packet, len);
 }
 
 SMOLTCP_INLINE int64_t smoltcp_icmp_recv(struct smoltcp_icmp *s, struct smoltcp_address *remote, uint8_t *data,
                                          size_t cap) {
     struct smoltcp_icmp_handle h = {SMOLTCP_AT(s)};
-    if (!s || !remote || (!data && cap)) return SMOLTCP_ERROR_NULL;
-    return smoltcp_icmp_recv_nonnull(&h, remote, SMOLTCP_OR_NONE(uint8_t, data), cap);
+    if (!s || !remote) return SMOLTCP_ERROR_NULL;
+    if (!data) {
+        if (cap) return SMOLTCP_ERROR_NULL;
+        data = SMOLTCP_NONE(uint8_t);
+    }
+    return smoltcp_icmp_recv_nonnull(&h, remote, data, cap);
 }
 
 SMOLTCP_INLINE int64_t smoltcp_icmp_send(struct smoltcp_icmp *s, const struct smoltcp_address *remote,
                                          const uint8_t *data, size_t len) {
     struct smoltcp_icmp_handle h = {SMOLTCP_AT(s)};
-    if (!s || !remote || (!data && len)) return SMOLTCP_ERROR_NULL;
-    return smoltcp_icmp_send_nonnull(&h, remote, SMOLTCP_OR_NONE(const uint8_t, data), len);
+    if (!s || !remote) return SMOLTCP_ERROR_NULL;
+    if (!data) {
+        if (len) return SMOLTCP_ERROR_NULL;
+        data = SMOLTCP_NONE(const uint8_t);
+    }
+    return smoltcp_icmp_send_nonnull(&h, remote, data, len);
 }
 
 SMOLTCP_INLINE int64_t smoltcp_icmp_set_hop_limit(struct smoltcp_icmp *s, uint8_t hop_limit) {

@@ -10,7 +10,8 @@
 #define SMOLTCP_AT(place) ((uint8_t *)(uintptr_t)(place))
 
 /* Where bytes or structs lie: of none the pointer may be null, which the library is never handed. */
-#define SMOLTCP_OR_NONE(type, items) ((items) ? (items) : (type *)(uintptr_t)8)
+#define SMOLTCP_NONE(type) ((type *)(uintptr_t)8)
+#define SMOLTCP_OR_NONE(type, items) ((items) ? (items) : SMOLTCP_NONE(type))
 
 /* 1 where each of so many bytes is zero: the memory of a socket is so from its release, or its move into a host, on,
  * and never with a socket in it, as that has pointers to its buffers. */
