@@ -19,3 +19,5 @@ mod lost;
 mod sizes;
 #[cfg(test)]
 mod sources;
+#[cfg(test)]
+mod strays;

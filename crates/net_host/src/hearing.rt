@@ -19,7 +19,7 @@ use crate::cookies::{
 use crate::filing::connection_key;
 use crate::limit::Limit;
 use crate::replies::put_reply;
-use crate::segments::{Taker, hear_anew_at, hear_at, take_segment, who_takes};
+use crate::segments::{Taker, hear_anew_at, hear_at, keep_within, take_segment, who_takes};
 use crate::set::SocketSet;
 use crate::slot::Slot;
 use crate::unsent::pass_at;
@@ -259,7 +259,6 @@ fn believe<C: Context, G: TsvalSource>(
 fn take_heard<C: Context, G: TsvalSource>(
     sockets: &mut SocketSet<'_, G>,
     cx: &mut C,
-    limit: &mut Limit,
     heard: &Heard,
     ip: &IpRepr,
     repr: &TcpRepr<'_>,
@@ -269,8 +268,7 @@ fn take_heard<C: Context, G: TsvalSource>(
     requires opens { OpensOn heard.now.course sockets.old.slots.items ip.now (segment_of repr.now) heard.now.again }
     requires small { length repr.now.payload.now ≤ 65535 }
     ensures taken { TakenOn C.facts C.word_at G.tells heard.now.course heard.now.taker heard.now.again
-        sockets.old.slots.items cx.old limit.old ip.now (segment_of repr.now) reply.new sockets.new.slots.items cx.new
-        limit.new }
+        sockets.old.slots.items cx.old ip.now (segment_of repr.now) reply.new sockets.new.slots.items cx.new }
     ensures bare { ForSome reply.new (λ r. r.1.payload.now ≡ []) }
     ensures fits { ForSome (option_map reply_of reply.new) (λ r. FitsPacket r.0 r.1) }
     ensures touched { Touches sockets.old.bounds sockets.old.slots.items sockets.new.bounds
@@ -279,7 +277,7 @@ fn take_heard<C: Context, G: TsvalSource>(
 {
     match heard.course {
         Course::Plain | Course::Doubted => {
-            take_segment(sockets, cx, limit, heard.taker, ip, repr, reply);
+            take_segment(sockets, cx, heard.taker, ip, repr, reply);
         }
         Course::Answered(place, number) => {
             let room = room_at(&sockets.slots, place);
@@ -327,6 +325,7 @@ pub(crate) fn hear_known<C: Context, G: TsvalSource>(
     sockets: &mut SocketSet<'_, G>,
     i: usize,
     cx: &mut C,
+    limit: &mut Limit,
     ip: &IpRepr,
     repr: &TcpRepr<'_>,
     out: &mut [u8],
@@ -335,15 +334,15 @@ pub(crate) fn hear_known<C: Context, G: TsvalSource>(
     requires small { length repr.now.payload.now ≤ 65535 }
     requires room { 100 ≤ length out.old }
     ensures within { result ≤ length out.old }
-    ensures heard { (l : Limit) → AnswersSegment C.facts C.word_at G.tells Course.Plain (Taker.Connection i)
-        Taker.Nobody sockets.old.slots.items cx.old l ip.now (segment_of repr.now) out.old result
-        sockets.new.slots.items cx.new l out.new }
+    ensures heard { AnswersSegment C.facts C.word_at G.tells Course.Plain (Taker.Connection i)
+        Taker.Nobody sockets.old.slots.items cx.old limit.old ip.now (segment_of repr.now) out.old result
+        sockets.new.slots.items cx.new limit.new out.new }
     ensures touched { Touches sockets.old.bounds sockets.old.slots.items sockets.new.bounds
         sockets.new.slots.items }
     ensures ended { sockets.new.ended ≡ sockets.old.ended }
 {
     sockets.lend(i);
-    hear_out_there(&mut sockets.slots, i, cx, ip, repr, out)
+    hear_out_there(&mut sockets.slots, i, cx, limit, ip, repr, out)
 }
 
 /// A segment arrives, and who takes it is looked for: who took it, and the length of the packet that answers it, at the
@@ -373,10 +372,12 @@ pub(crate) fn hear_sought<C: Context, G: TsvalSource>(
     ensures ended { sockets.new.ended ≡ sockets.old.ended }
 {
     let caps = cx.checksum_caps();
+    let now = cx.now();
     sockets.settle_for(connection_key(&ip.src_addr(), repr.dst_port, repr.src_port));
     let heard = heard_by(sockets, cx, cookies, ip, repr);
     let mut reply = None;
-    take_heard(sockets, cx, limit, &heard, ip, repr, &mut reply);
+    take_heard(sockets, cx, &heard, ip, repr, &mut reply);
+    keep_within(limit, now, &mut reply);
     let len = put_reply(&reply, out, &caps);
     (heard, len)
 }

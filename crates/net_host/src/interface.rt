@@ -73,10 +73,10 @@ impl<W: Words> Interface<W> {
     /// as it was told again, dispatches its SYN|ACK into nothing, as that has gone out, and then hears the
     /// acknowledgement, without the octet of a keep-alive (RFC 9293, section 3.8.4). None is believed once no SYN was
     /// answered so for 128 seconds. One for no socket is answered by an RST (RFC 9293, section 3.10.7.1), unless it is
-    /// one, at most `ANSWERS_A_SECOND` times a second. A datagram goes to the first UDP socket that accepts it; of one
-    /// that none does the sender is told by an ICMP error (RFC 1122, section 4.1.3.1; RFC 4443, section 3.1). Errors go
-    /// out for packets to an own address that no raw socket takes, at most `ANSWERS_A_SECOND` times a second, and fit
-    /// the MTU. Of an ICMP message each ICMP socket that accepts it takes a copy, and an echo request is answered (RFC
+    /// one. At most `ANSWERS_A_SECOND` RSTs answer in a second, with those of sockets whose handshake is not over
+    /// (section 3.10.7.4). A datagram goes to the first UDP socket that accepts it; of one that none does the sender is
+    /// told by an ICMP error (RFC 1122, section 4.1.3.1; RFC 4443, section 3.1). Errors go out for packets to an own
+    /// address that no raw socket takes, at most `ANSWERS_A_SECOND` times a second, and fit the MTU. Of an ICMP message each ICMP socket that accepts it takes a copy, and an echo request is answered (RFC
     /// 792; RFC 4443, section 4.2), by at most as many bytes as the MTU. No other socket changes.
     ///
     /// A TCP socket whose place is not `touched` afterwards is as it was, and was not touched before.

@@ -400,7 +400,7 @@ impl<W: Words> Interface<W> {
         ensures ended { sockets.new.ended ≡ sockets.old.ended }
     {
         match known_taker(sockets, &self.inner, ip, repr) {
-            Some(i) => hear_known(sockets, i, &mut self.inner, ip, repr, out),
+            Some(i) => hear_known(sockets, i, &mut self.inner, &mut self.resets, ip, repr, out),
             None => self.seek_taker(sockets, ip, repr, out),
         }
     }

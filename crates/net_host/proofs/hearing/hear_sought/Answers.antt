@@ -1,4 +1,4 @@
-use Rattle.std.proofs.Common.{◌∙◌, ap, subst, sym, option_map}
+use Rattle.std.proofs.Common.{◌∙◌, ap, subst, sym, option_map, rules}
 use Rattle.control_wire.specs.Segment.{segment_of}
 use Rattle.sock_tcp.specs.Process.{reply_of}
 use Rattle.net_host.specs.Cookies.{IsAgain, OpensOn, TakenOn, class_if}
@@ -20,7 +20,9 @@ take_heard-requires-clause-opens g c = subst (λ k. OpensOn k c.settle_for.new.s
 pub returns-clause-heard : goal.returns-clause-heard
 returns-clause-heard g c = record {
   reply = c.take_heard.new.reply;
-  taken = subst (λ s. TakenOn g.C.Context.facts g.C.Context.word_at g.G.TsvalSource.tells c.heard_by-heard.result.course c.heard_by-heard.result.taker c.heard_by-heard.result.again s.items c.args.cx.now c.args.limit.now c.args.ip.now (segment_of c.args.repr.now) c.take_heard.new.reply c.take_heard.new.sockets.slots.items c.take_heard.new.cx c.take_heard.new.limit) c.settle_for.ensures.slots c.take_heard.ensures.taken;
+  taken = subst (λ s. TakenOn g.C.Context.facts g.C.Context.word_at g.G.TsvalSource.tells c.heard_by-heard.result.course c.heard_by-heard.result.taker c.heard_by-heard.result.again s.items c.args.cx.now c.args.ip.now (segment_of c.args.repr.now) c.take_heard.new.reply c.take_heard.new.sockets.slots.items c.take_heard.new.cx) c.settle_for.ensures.slots c.take_heard.ensures.taken;
+  sent = c.keep_within.new.reply;
+  within = search rules;
   len = c.put_reply-len.ensures.len;
-  octets = c.put_reply-len.ensures.bytes ∙ ap (λ caps. with_reply caps (option_map reply_of c.take_heard.new.reply) c.args.out.now) c.checksum_caps-caps.ensures;
+  octets = c.put_reply-len.ensures.bytes ∙ ap (λ caps. with_reply caps (option_map reply_of c.keep_within.new.reply) c.args.out.now) c.checksum_caps-caps.ensures;
 }
