@@ -4,6 +4,8 @@
 #[cfg(test)]
 mod cookies;
 #[cfg(test)]
+mod crowds;
+#[cfg(test)]
 mod datagrams;
 #[cfg(test)]
 mod devices;

@@ -15,6 +15,7 @@ use Rattle.sock_tcp.specs.declared.socket.Socket as tcp
 use Rattle.smoltcp_socket.specs.declared.socket.Socket.TheVariants as socket
 use Rattle.net_host.specs.Answered.{HearsOut, PutsAnswer}
 use Rattle.net_host.specs.Cookies.{AnswersSegment, IsAgain, course_of, noted_on}
+use Rattle.net_host.specs.Crowding.{begins}
 use Rattle.net_host.specs.Receiving.{TakesSegment, counted_on, facts_of, words_of}
 use Rattle.net_host.specs.Segments.{IsTaker, SendsWithin, SocketHears, as_is}
 use Rattle.net_host.specs.Walks.{ChangesAt}
@@ -66,7 +67,10 @@ known_answers facts word_at tells ss ts i cx cx' l l' ip s out out' n c = record
   octets = c.changed.octets;
 }
 
--- what is for a connection goes on by no cookie, and is not counted
+none_begins : false ≡ true → ⊥
+none_begins e = cc
+
+-- what is for a connection goes on by no cookie, begins none, and is not counted
 pub known_taken : {W G : Type 0} (is : IpAddress → IpAddress → Bool) (word_at : W → ℕ → ℕ) (tells : G → ℕ → Type 0) (i : Interface W) (inner : InterfaceInner W) (l : Limit) (ss us ts : List (Slot G)) (k : ℕ) (ip : IpRepr) (s : Segment) (out out' : List ℕ) (n : ℕ) → IsTaker ss ip s (taker.Connection k) → us ≡ ss → AnswersSegment (facts_of is word_at tells) (words_of is word_at tells) tells course.Plain (taker.Connection k) taker.Nobody us i.inner i.resets ip s out n ts inner l out' → TakesSegment is word_at tells ip s i ss out n (record i { inner = inner; resets = l }) ts out'
 known_taken is word_at tells i inner l ss us ts k ip s out out' n takes same h =
     let plain : course.Plain ≡ course_of i.cookies (taker.Connection k) taker.Nobody (facts_of is word_at tells i.inner).now ip s = connection_is_plain i.cookies k taker.Nobody _ ip s in
@@ -75,6 +79,8 @@ known_taken is word_at tells i inner l ss us ts k ip s out out' n takes same h =
       takes = takes;
       again = taker.Nobody;
       believes = subst (λ c. IsAgain c ss ip s taker.Nobody) (sym (connection_has_no_class i.cookies k (facts_of is word_at tells i.inner).now s)) refl;
+      dropped = false;
+      limited = record { few = λ e b m. absurd (none_begins (subst (λ c. begins c (taker.Connection k) s ≡ true) (sym plain) b)); unlimited = λ e. refl; others = λ e. refl };
       answers = subst (λ c. AnswersSegment (facts_of is word_at tells) (words_of is word_at tells) tells c (taker.Connection k) taker.Nobody ss i.inner i.resets ip s out n ts inner l out') plain (subst (λ xs. AnswersSegment (facts_of is word_at tells) (words_of is word_at tells) tells course.Plain (taker.Connection k) taker.Nobody xs i.inner i.resets ip s out n ts inner l out') same h);
       counters = ap (λ c. counted_on c (taker.Connection k) taker.Nobody i.counters) plain;
       turn = refl;
@@ -82,4 +88,5 @@ known_taken is word_at tells i inner l ss us ts k ip s out out' n takes same h =
       guards = refl;
       cookies = ap (λ c. noted_on c (facts_of is word_at tells i.inner).now i.cookies) plain;
       groups = refl;
+      most = refl;
     }

@@ -147,6 +147,7 @@ noted_on course.Plain now o = o
 noted_on course.Doubted now o = o
 noted_on (course.Answered k number) now o = noted now o
 noted_on (course.Believed class number) now o = o
+noted_on course.Dropped now o = o
 
 -- who takes the SYN before an acknowledgement that may be believed
 abbrev pub IsAgain : {G : Type 0} → Option ℕ → List (Slot G) → IpRepr → Segment → Taker → Type 0
@@ -239,6 +240,7 @@ module _ {C G : Type 0} (facts : C → Facts) (word_at : C → ℕ → ℕ) (tel
       × (option_map reply_of r ≡ Some (answer_of (facts cx) (room_at (slice_get ss k)) number ip s))
   TakenOn (course.Believed class number) t again ss cx ip s r ts cx' =
       BelievedBy again class number ss cx ip (opening_of s) r ts cx'
+  TakenOn course.Dropped t again ss cx ip s r ts cx' = (ts ≡ ss) × (cx' ≡ cx) × (r ≡ None)
 
   -- and what goes out of what it answers stands as a packet at the beginning of the buffer
   pub record AnswersSegment (c : Course) (t again : Taker) (ss : List (Slot G)) (cx : C) (l : Limit) (ip : IpRepr)

@@ -430,6 +430,7 @@ impl<W: Words> Interface<W> {
             &mut self.inner,
             &mut self.resets,
             &self.cookies,
+            self.most_of_source,
             ip,
             repr,
             out,
@@ -488,6 +489,7 @@ fn count_heard(counters: &mut Counters, heard: &Heard)
         }
         Course::Answered(..) => counters.count_sent(),
         Course::Believed(..) => count_again(counters, heard.again),
+        Course::Dropped => counters.count(Reason::TooMany),
     }
 }
 
