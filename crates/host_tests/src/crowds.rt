@@ -65,6 +65,34 @@ fn came_to(
     (counters.too_many, counters.cookies_sent)
 }
 
+fn filled<'a>(
+    rt: &HostRuntime,
+    a: tcp::Socket<'a>,
+    b: tcp::Socket<'a>,
+    c: tcp::Socket<'a>,
+) -> Result<SocketSet<'a>, AllocError> {
+    let mut sockets = SocketSet::new(rt.alloc(), 3)?;
+    let _ = sockets.add(Socket::Tcp(a));
+    let _ = sockets.add(Socket::Tcp(b));
+    let _ = sockets.add(Socket::Tcp(c));
+    Ok(sockets)
+}
+
+// The same, to a host with these sockets.
+fn run(
+    rt: &HostRuntime,
+    sockets: &mut SocketSet<'_>,
+    most: usize,
+    cookies: bool,
+    packets: [&[u8]; 3],
+) -> Result<(u64, u64), AllocError> {
+    let mut interface = host(rt, most)?;
+    if cookies {
+        interface.set_syn_cookies(Some(SynCookies::new([9; 32], 2)));
+    }
+    Ok(came_to(&mut interface, sockets, packets))
+}
+
 // The same, to a host with three sockets that listen.
 fn came(
     rt: &HostRuntime,
@@ -81,15 +109,8 @@ fn came(
     listens(&mut a);
     listens(&mut b);
     listens(&mut c);
-    let mut interface = host(rt, most)?;
-    if cookies {
-        interface.set_syn_cookies(Some(SynCookies::new([9; 32], 2)));
-    }
-    let mut sockets: SocketSet<'_> = SocketSet::new(rt.alloc(), 3)?;
-    let _ = sockets.add(Socket::Tcp(a));
-    let _ = sockets.add(Socket::Tcp(b));
-    let _ = sockets.add(Socket::Tcp(c));
-    Ok(came_to(&mut interface, &mut sockets, packets))
+    let mut sockets = filled(rt, a, b, c)?;
+    run(rt, &mut sockets, most, cookies, packets)
 }
 
 #[test]
