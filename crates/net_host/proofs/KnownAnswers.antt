@@ -52,7 +52,7 @@ heard_out facts word_at tells before x m y o cx cx' l l' ip s out out' n is tabl
         heard = subst (λ a. SocketHears facts word_at tells as_is a cx ip s p.reply (Some (socket.Tcp y)) cx') (sym is) (call, same ∙ source ∙ ap (λ b. source_kept b x.tsval_generator) stamps);
       };
       sent = p.sent;
-      within = subst (λ f. SendsWithin l (moment_of f) p.reply p.sent l') (facts_kept facts word_at cx cx' _ drawn) p.within;
+      within = subst (λ f. SendsWithin l (moment_of f) ip p.reply p.sent l') (facts_kept facts word_at cx cx' _ drawn) p.within;
       len = p.len;
       octets = p.octets ∙ ap (λ f. with_reply f.checksums (option_map reply_of p.sent) out) (facts_kept facts word_at cx cx' _ drawn);
     }

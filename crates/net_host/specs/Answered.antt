@@ -26,7 +26,7 @@ pub record PutsAnswer (stamped : TcpControl → Option TcpTimestampRepr → Type
   pub bare : ForSome reply (λ r. r.1.payload.now ≡ [])
   pub fits : ForSome (option_map reply_of reply) (λ r. FitsPacket r.0 r.1)
   pub sent : Option (IpRepr × TcpRepr)
-  pub within : SendsWithin l (moment_of f) reply sent l'
+  pub within : SendsWithin l (moment_of f) ip reply sent l'
   pub len : n ≡ reply_len (option_map reply_of sent)
   pub octets : out' ≡ with_reply f.checksums (option_map reply_of sent) out
 
@@ -37,6 +37,6 @@ module _ {C G : Type 0} (facts : C → Facts) (word_at : C → ℕ → ℕ) (tel
     pub reply : Option (IpRepr × TcpRepr)
     pub heard : Hears facts word_at tells as_is no_more before cx ip s reply after cx'
     pub sent : Option (IpRepr × TcpRepr)
-    pub within : SendsWithin l (moment_of (facts cx)) reply sent l'
+    pub within : SendsWithin l (moment_of (facts cx)) ip reply sent l'
     pub len : n ≡ reply_len (option_map reply_of sent)
     pub octets : out' ≡ with_reply (facts cx).checksums (option_map reply_of sent) out

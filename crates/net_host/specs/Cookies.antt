@@ -248,7 +248,7 @@ module _ {C G : Type 0} (facts : C → Facts) (word_at : C → ℕ → ℕ) (tel
     pub reply : Option (IpRepr × TcpRepr)
     pub taken : TakenOn c t again ss cx ip s reply ts cx'
     pub sent : Option (IpRepr × TcpRepr)
-    pub within : SendsWithin l (moment_of (facts cx)) reply sent l'
+    pub within : SendsWithin l (moment_of (facts cx)) ip reply sent l'
     pub len : n ≡ reply_len (option_map reply_of sent)
     pub octets : out' ≡ with_reply (facts cx).checksums (option_map reply_of sent) out
 

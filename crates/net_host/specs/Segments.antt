@@ -1,5 +1,6 @@
 -- Which socket takes a TCP segment, and what becomes of it.
 use Rattle.std.specs.Prelude.{ℕ, ◌≡◌, ◌&&◌, if◌then◌else◌, List, Option, Some, None, IfSome, option_map, slice_get, Bool, true, false}
+use Rattle.ip_wire.specs.IpHeader.{src_addr_of}
 use Rattle.ip_wire.specs.declared.repr.IpRepr.{IpRepr}
 use Rattle.net_base.specs.declared.time.Instant.{Instant}
 use Rattle.control_wire.specs.Segment.{Segment}
@@ -14,6 +15,7 @@ use Rattle.sock_tcp.specs.View.{View}
 use Rattle.smoltcp_socket.specs.declared.socket.Socket.{Socket}
 use Rattle.smoltcp_socket.specs.declared.socket.Socket.TheVariants as socket
 use Rattle.net_host.specs.Counts.{next}
+use Rattle.net_host.specs.Filing.{number_of}
 use Rattle.net_host.specs.Limits.{allows, spent}
 use Rattle.net_host.specs.Resting.{FindsOldest, IsOldest, Reopens, Serves, anew, is_opening}
 use Rattle.net_host.specs.Walks.{ChangesAt, IsFirst, Nowhere}
@@ -117,15 +119,16 @@ sent_if false allowed r = r
 sent_if true true r = r
 sent_if true false r = None
 
-abbrev pub spent_if : (rst : Bool) → Limit → Instant → Limit
-spent_if false l now = l
-spent_if true l now = spent l now
+abbrev pub spent_if : (rst : Bool) → Limit → (source : ℕ) → Instant → Limit
+spent_if false l source now = l
+spent_if true l source now = spent l source now
 
--- an RST only where the limit allows one more: one for a segment that no socket takes, and one of a socket whose
--- handshake is not over
-pub record SendsWithin (l : Limit) (now : Instant) (r out : Option (IpRepr × TcpRepr)) (l' : Limit) : Type 0 where
-  pub reply : out ≡ sent_if (is_rst r) (allows l now) r
-  pub limit : l' ≡ spent_if (is_rst r) l now
+-- an RST only where the limit allows the sender one more: one for a segment that no socket takes, and one of a socket
+-- whose handshake is not over
+pub record SendsWithin (l : Limit) (now : Instant) (ip : IpRepr) (r out : Option (IpRepr × TcpRepr)) (l' : Limit)
+    : Type 0 where
+  pub reply : out ≡ sent_if (is_rst r) (allows l (number_of (src_addr_of ip)) now) r
+  pub limit : l' ≡ spent_if (is_rst r) l (number_of (src_addr_of ip)) now
 
 -- ---- the whole
 

@@ -38,7 +38,7 @@ fn put_answer<C: Context, G: TsvalSource>(
 {
     let caps = cx.checksum_caps();
     let mut reply = tcp.reply_by(answer, ip, repr);
-    keep_within(limit, cx.now(), &mut reply);
+    keep_within(limit, cx.now(), ip, &mut reply);
     put_reply(&reply, out, &caps)
 }
 

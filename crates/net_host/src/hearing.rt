@@ -391,7 +391,7 @@ pub(crate) fn hear_sought<C: Context, G: TsvalSource>(
     let heard = heard_by(sockets, cx, cookies, most, ip, repr);
     let mut reply = None;
     take_heard(sockets, cx, &heard, ip, repr, &mut reply);
-    keep_within(limit, now, &mut reply);
+    keep_within(limit, now, ip, &mut reply);
     let len = put_reply(&reply, out, &caps);
     (heard, len)
 }

@@ -13,7 +13,7 @@ ghost use Rattle.net_host.specs.Segments.{TakesSegment, as_is, is_rst, opened_by
 ghost use Rattle.net_host.specs.Touching.{Touches};
 ghost use Rattle.net_host.specs.Walks.{Finds, IsAt, Nowhere};
 
-use crate::filing::{connection_key, listener_key};
+use crate::filing::{connection_key, listener_key, number_of};
 use crate::find::{Sought, first_if_any, first_sought};
 use crate::limit::Limit;
 use crate::rest::{any_server, oldest, opens};
@@ -435,16 +435,16 @@ fn is_rst(reply: &Option<Reply>) -> bool
     }
 }
 
-/// What goes out of what answers a segment: an RST only where the limit allows one more.
-pub(crate) fn keep_within(limit: &mut Limit, now: Instant, reply: &mut Option<Reply>)
+/// What goes out of what answers a segment: an RST only where the limit allows its sender one more.
+pub(crate) fn keep_within(limit: &mut Limit, now: Instant, ip: &IpRepr, reply: &mut Option<Reply>)
     requires moment { IsMoment now.micros }
     requires bare { ForSome reply.old (λ r. r.1.payload.now ≡ []) }
     requires fits { ForSome (option_map reply_of reply.old) (λ r. FitsPacket r.0 r.1) }
-    ensures sent { SendsWithin limit.old now reply.old reply.new limit.new }
+    ensures sent { SendsWithin limit.old now ip.now reply.old reply.new limit.new }
     ensures bare { ForSome reply.new (λ r. r.1.payload.now ≡ []) }
     ensures fits { ForSome (option_map reply_of reply.new) (λ r. FitsPacket r.0 r.1) }
 {
-    if is_rst(reply) && !limit.take(now) {
+    if is_rst(reply) && !limit.take(number_of(&ip.src_addr()), now) {
         *reply = None;
     }
 }
