@@ -62,9 +62,9 @@ step start u now more false false n e f h = as_many start u n h
 not_same : (c b : ℕ) → nat_eq c b ≡ false → b ≡ c → ⊥
 not_same c b e t = grind (arith, e, t)
 
-module _ (start : ℤ) (b : ℕ) (within : b < 64) where
+module _ (start : ℤ) (b : ℕ) (within : b < 16) where
   -- what is asked for of this bucket
-  here : (l : Limit) (now : Instant) (a : Bool) (n : ℕ) → length l.until ≡ 64 → allows_in l b now ≡ a → Lies start (until_of (if a then taken_in l b now else l) b) n → Lies start (until_of l b) ((if in_second start now && a then 1 else 0) + n)
+  here : (l : Limit) (now : Instant) (a : Bool) (n : ℕ) → length l.until ≡ 16 → allows_in l b now ≡ a → Lies start (until_of (if a then taken_in l b now else l) b) n → Lies start (until_of l b) ((if in_second start now && a then 1 else 0) + n)
   here l now true n len e h = step start (until_of l b) now.micros (next_seed l.seed / 1125899906842624) true (in_second start now) n e refl (subst (λ t. Lies start t n) (get_or-set_same l.until b (later (until_of l b) now.micros +ℤ takes (next_seed l.seed)) at_once (omega (arith, within, len))) h)
   here l now false n len e h = step start (until_of l b) now.micros 0 false (in_second start now) n e refl h
 
@@ -74,17 +74,17 @@ module _ (start : ℤ) (b : ℕ) (within : b < 64) where
       as_many start (until_of l b) n (subst (λ t. Lies start t n) (get_or-set_other l.until c b (later (until_of l c) now.micros +ℤ takes (next_seed l.seed)) at_once (λ t. not_same c b e t)) h)
   elsewhere l c now false n e h = as_many start (until_of l b) n h
 
-  one : (l : Limit) (c : ℕ) (now : Instant) (q : Bool) (n : ℕ) → length l.until ≡ 64 → nat_eq c b ≡ q → Lies start (until_of (if allows_in l c now then taken_in l c now else l) b) n → Lies start (until_of l b) ((if q && (in_second start now && allows_in l c now) then 1 else 0) + n)
+  one : (l : Limit) (c : ℕ) (now : Instant) (q : Bool) (n : ℕ) → length l.until ≡ 16 → nat_eq c b ≡ q → Lies start (until_of (if allows_in l c now then taken_in l c now else l) b) n → Lies start (until_of l b) ((if q && (in_second start now && allows_in l c now) then 1 else 0) + n)
   one l c now true n len e h =
       let s : c ≡ b = grind (arith, e) in
       subst (λ d. Lies start (until_of (if allows_in l d now then taken_in l d now else l) b) n → Lies start (until_of l b) ((if in_second start now && allows_in l d now then 1 else 0) + n)) (sym s) (λ k. here l now (allows_in l b now) n len refl k) h
   one l c now false n len e h = elsewhere l c now (allows_in l c now) n e h
 
-  as_long : (l : Limit) (c : ℕ) (now : Instant) (a : Bool) → length l.until ≡ 64 → length (if a then taken_in l c now else l).until ≡ 64
+  as_long : (l : Limit) (c : ℕ) (now : Instant) (a : Bool) → length l.until ≡ 16 → length (if a then taken_in l c now else l).until ≡ 16
   as_long l c now true len = length-set l.until c (later (until_of l c) now.micros +ℤ takes (next_seed l.seed)) ∙ len
   as_long l c now false len = len
 
-  lies : (asked : List (ℕ × Instant)) (l : Limit) → length l.until ≡ 64 → Lies start (until_of l b) (gone start b l asked)
+  lies : (asked : List (ℕ × Instant)) (l : Limit) → length l.until ≡ 16 → Lies start (until_of l b) (gone start b l asked)
   unfolding gone
   lies [] l len = inl refl
   lies (e ∷ rest) l len = one l (bucket_of l.key e.0) e.1 (nat_eq (bucket_of l.key e.0) b) (gone start b (spent l e.0 e.1) rest) len refl (lies rest (spent l e.0 e.1) (as_long l (bucket_of l.key e.0) e.1 (allows l e.0 e.1) len))

@@ -11,9 +11,9 @@ use Rattle.net_host.specs.declared.limit.Limit.{Limit}
 abbrev pub part_of : ℕ → ℕ
 part_of n = if nat_eq (n / 2 ^ 64) 0 then n % 2 ^ 64 else n / 2 ^ 64
 
--- one of 64 buckets, by multiplication with an odd number that no peer knows
+-- one of 16 buckets, by multiplication with an odd number that no peer knows
 abbrev pub bucket_of : (key n : ℕ) → ℕ
-bucket_of key n = (key * 2 + 1) % 2 ^ 64 * part_of n % 2 ^ 64 / 288230376151711744
+bucket_of key n = (key * 2 + 1) % 2 ^ 64 * part_of n % 2 ^ 64 / 1152921504606846976
 
 -- ---- a bucket
 
@@ -22,7 +22,7 @@ new_key = 11400714819323198485
 
 -- nothing is taken in advance
 abbrev pub full_limit : Limit
-full_limit = record { key = new_key; seed = new_key; until = replicate 64 at_once }
+full_limit = record { key = new_key; seed = new_key; until = replicate 16 at_once }
 
 -- the key is another, and what went out still counts
 abbrev pub keyed : ℕ → Limit → Limit
@@ -74,5 +74,5 @@ gone start b l (e ∷ rest) =
 -- at most a hundred, also where moments go back
 abbrev pub AnswersAreLimited : Type 0
 AnswersAreLimited =
-    (start : ℤ) (b : ℕ) (l : Limit) (asked : List (ℕ × Instant)) → b < 64 → length l.until ≡ 64
+    (start : ℤ) (b : ℕ) (l : Limit) (asked : List (ℕ × Instant)) → b < 16 → length l.until ≡ 16
     → gone start b l asked ≤ 100

@@ -11,10 +11,10 @@ use smoltcp_socket::time::Instant;
 pub const ANSWERS_A_SECOND: u32 = 100;
 
 // How many buckets there are.
-const BUCKETS: usize = 64;
+const BUCKETS: usize = 16;
 
 // What a product is divided by, to say which bucket.
-const BUCKET: u64 = 0x0400_0000_0000_0000;
+const BUCKET: u64 = 0x1000_0000_0000_0000;
 
 // How many addresses a prefix of 64 bits has.
 const PREFIX: u128 = 0x1_0000_0000_0000_0000;
@@ -30,7 +30,7 @@ const CHANCE: u64 = 0x0004_0000_0000_0000;
 // The key of a new limit.
 const NEW_KEY: u64 = 0x9e37_79b9_7f4a_7c15;
 
-/// Each answer takes time that lies at most a second ahead. There are 64 buckets of sources, by a key: a stranger neither
+/// Each answer takes time that lies at most a second ahead. There are 16 buckets of sources, by a key: a stranger neither
 /// takes what others are answered, nor sees by his own answers that others had one.
 #[derive(Debug, Clone, Copy, Drop)]
 pub struct Limit {
@@ -54,7 +54,7 @@ fn part_of(source: u128) -> u64
 
 // The bucket of a source, by multiplication with an odd number that nobody knows.
 fn bucket_of(key: u64, source: u128) -> usize
-    ensures within { result < 64 }
+    ensures within { result < 16 }
     ensures value { result ≡ bucket_of key source }
 {
     let odd = key.wrapping_mul(2).wrapping_add(1);
@@ -114,7 +114,7 @@ impl Limit {
 
     fn take_in(&mut self, bucket: usize, now: Instant)
         requires moment { IsMoment now.micros }
-        requires within { bucket < 64 }
+        requires within { bucket < 16 }
         requires may { allows_in self.old bucket now ≡ true }
         ensures { self.new ≡ taken_in self.old bucket now }
     {
@@ -124,7 +124,7 @@ impl Limit {
 
     fn allows_in(&self, bucket: usize, now: Instant) -> bool
         requires moment { IsMoment now.micros }
-        requires within { bucket < 64 }
+        requires within { bucket < 16 }
         ensures { result ≡ allows_in self.now bucket now }
     {
         self.until[bucket] <= now.micros + AHEAD
