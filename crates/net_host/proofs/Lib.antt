@@ -1,4 +1,5 @@
 pub mod Aim
+pub mod Crowded
 pub mod Idle
 pub mod Listeners
 pub mod SameNumbers

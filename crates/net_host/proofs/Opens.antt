@@ -8,7 +8,9 @@ use Rattle.control_wire.specs.declared.seq_number.TcpSeqNumber.{TcpSeqNumber}
 use Rattle.host_cookies.specs.Numbers.{awaited}
 use Rattle.host_cookies.specs.declared.cookies.SynCookies.{SynCookies}
 use Rattle.net_host.specs.Cookies.{IsAgain, OpensOn, acked_by, believed_if, class_awaited, class_if, course_of, doubted_by, is_anybody, kept_or, syn_before, tested_if}
+use Rattle.net_host.specs.Crowding.{dropped_if}
 use Rattle.net_host.specs.Segments.{IsTaker}
+use Rattle.net_host.specs.declared.cookies.Course.{Course}
 use Rattle.net_host.specs.declared.segments.Taker.{Taker}
 use Rattle.net_host.specs.declared.segments.Taker.TheVariants as taker
 use Rattle.net_host.specs.declared.slot.Slot.{Slot}
@@ -40,3 +42,8 @@ module _ {G : Type 0} (ss : List (Slot G)) (ip : IpRepr) (s : Segment) (again : 
   opens_on (Some c) (taker.Reopened k) now h = tt
   opens_on (Some c) (taker.Reused k) now h = tt
   opens_on (Some c) taker.Busy now h = tt
+
+-- also where it is dropped
+pub opens_if : {G : Type 0} (ss : List (Slot G)) (ip : IpRepr) (s : Segment) (again : Taker) (b : Bool) (c : Course) → OpensOn c ss ip s again → OpensOn (dropped_if b c) ss ip s again
+opens_if ss ip s again true c h = tt
+opens_if ss ip s again false c h = h

@@ -1,5 +1,5 @@
 -- Steps that leave the sockets that are not touched as they were.
-use Rattle.std.proofs.Common.{◌≡◌, ◌∙◌, ℕ, ℤ, ◌<ℤ◌, List, length, Bool, true, false, nat_eq, refl, sym, subst, ap, Some, arith}
+use Rattle.std.proofs.Common.{◌≡◌, ◌∙◌, ℕ, ℤ, ◌<ℤ◌, List, Bool, true, false, nat_eq, refl, sym, subst, ap, Some, arith}
 use Rattle.std.specs.Prelude.{slice_get, slice_set, ◌||◌}
 use Rattle.std.proofs.lemmas.Option.{slice_get_within}
 use Rattle.std.proofs.lemmas.List.{get_or-set_other}

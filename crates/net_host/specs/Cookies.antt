@@ -19,11 +19,11 @@ use Rattle.sock_core.specs.Received.{room_of}
 use Rattle.sock_tcp.specs.Due.{ip_header_len, mtu_for}
 use Rattle.sock_tcp.specs.Process.{reply_of}
 use Rattle.sock_tcp.specs.Replies.{bare_reply, with_header}
-use Rattle.sock_tcp.specs.View.{View}
+use Rattle.sock_tcp.specs.View.{View, moment_of}
 use Rattle.smoltcp_socket.specs.declared.socket.Socket.{Socket}
 use Rattle.smoltcp_socket.specs.declared.socket.Socket.TheVariants as socket
 use Rattle.net_host.specs.Resting.{anew, is_opening}
-use Rattle.net_host.specs.Segments.{HearsAt, IsTaker, TakenBy, TakesSegment, as_is, no_more, opened_by}
+use Rattle.net_host.specs.Segments.{HearsAt, IsTaker, SendsWithin, TakenBy, TakesSegment, as_is, no_more, opened_by}
 use Rattle.net_host.specs.Unsent.{PassesAt}
 use Rattle.net_host.specs.Wire.{reply_len, with_reply}
 use Rattle.net_host.specs.declared.cookies.Course.{Course}
@@ -147,6 +147,7 @@ noted_on course.Plain now o = o
 noted_on course.Doubted now o = o
 noted_on (course.Answered k number) now o = noted now o
 noted_on (course.Believed class number) now o = o
+noted_on course.Dropped now o = o
 
 -- who takes the SYN before an acknowledgement that may be believed
 abbrev pub IsAgain : {G : Type 0} → Option ℕ → List (Slot G) → IpRepr → Segment → Taker → Type 0
@@ -230,23 +231,26 @@ module _ {C G : Type 0} (facts : C → Facts) (word_at : C → ℕ → ℕ) (tel
       HearsBoth anew ss i cx class number ip s r ts cx'
   BelievedBy _ class number ss cx ip s r ts cx' = (ts ≡ ss) × (cx' ≡ cx) × (r ≡ None)
 
-  abbrev pub TakenOn : Course → Taker → Taker → List (Slot G) → C → Limit → IpRepr → Segment
-      → Option (IpRepr × TcpRepr) → List (Slot G) → C → Limit → Type 0
-  TakenOn course.Plain t again ss cx l ip s r ts cx' l' = TakenBy facts word_at tells t ss cx l ip s r ts cx' l'
-  TakenOn course.Doubted t again ss cx l ip s r ts cx' l' = TakenBy facts word_at tells t ss cx l ip s r ts cx' l'
-  TakenOn (course.Answered k number) t again ss cx l ip s r ts cx' l' =
-      (ts ≡ ss) × (cx' ≡ cx) × (l' ≡ l)
+  abbrev pub TakenOn : Course → Taker → Taker → List (Slot G) → C → IpRepr → Segment → Option (IpRepr × TcpRepr)
+      → List (Slot G) → C → Type 0
+  TakenOn course.Plain t again ss cx ip s r ts cx' = TakenBy facts word_at tells t ss cx ip s r ts cx'
+  TakenOn course.Doubted t again ss cx ip s r ts cx' = TakenBy facts word_at tells t ss cx ip s r ts cx'
+  TakenOn (course.Answered k number) t again ss cx ip s r ts cx' =
+      (ts ≡ ss) × (cx' ≡ cx)
       × (option_map reply_of r ≡ Some (answer_of (facts cx) (room_at (slice_get ss k)) number ip s))
-  TakenOn (course.Believed class number) t again ss cx l ip s r ts cx' l' =
-      BelievedBy again class number ss cx ip (opening_of s) r ts cx' × (l' ≡ l)
+  TakenOn (course.Believed class number) t again ss cx ip s r ts cx' =
+      BelievedBy again class number ss cx ip (opening_of s) r ts cx'
+  TakenOn course.Dropped t again ss cx ip s r ts cx' = (ts ≡ ss) × (cx' ≡ cx) × (r ≡ None)
 
-  -- and what it answers stands as a packet at the beginning of the buffer
+  -- and what goes out of what it answers stands as a packet at the beginning of the buffer
   pub record AnswersSegment (c : Course) (t again : Taker) (ss : List (Slot G)) (cx : C) (l : Limit) (ip : IpRepr)
       (s : Segment) (out : List ℕ) (n : ℕ) (ts : List (Slot G)) (cx' : C) (l' : Limit) (out' : List ℕ) : Type 0 where
     pub reply : Option (IpRepr × TcpRepr)
-    pub taken : TakenOn c t again ss cx l ip s reply ts cx' l'
-    pub len : n ≡ reply_len (option_map reply_of reply)
-    pub octets : out' ≡ with_reply (facts cx).checksums (option_map reply_of reply) out
+    pub taken : TakenOn c t again ss cx ip s reply ts cx'
+    pub sent : Option (IpRepr × TcpRepr)
+    pub within : SendsWithin l (moment_of (facts cx)) ip reply sent l'
+    pub len : n ≡ reply_len (option_map reply_of sent)
+    pub octets : out' ≡ with_reply (facts cx).checksums (option_map reply_of sent) out
 
 -- ---- the law
 

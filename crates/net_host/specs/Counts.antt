@@ -16,6 +16,7 @@ no_counts = record {
   busy = 0;
   nobody = 0;
   full = 0;
+  too_many = 0;
   cookies_sent = 0;
   cookies_taken = 0;
   cookies_wrong = 0;
@@ -37,6 +38,7 @@ counted reason.Message k = record k { message = next k.message }
 counted reason.Busy k = record k { busy = next k.busy }
 counted reason.Nobody k = record k { nobody = next k.nobody }
 counted reason.Full k = record k { full = next k.full }
+counted reason.TooMany k = record k { too_many = next k.too_many }
 
 -- ---- cookies
 

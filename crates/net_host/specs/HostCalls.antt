@@ -24,6 +24,7 @@ pub record MovesTo {W : Type 0} (at : Instant) (i j : Interface W) : Type 0 wher
   pub guards : j.guards ≡ i.guards
   pub cookies : j.cookies ≡ i.cookies
   pub groups : j.groups ≡ i.groups
+  pub most : j.most_of_source ≡ i.most_of_source
 
 module _ {W G : Type 0} (is : IpAddress → IpAddress → Bool) where
   -- it is at the moment, and takes the packet
@@ -47,3 +48,4 @@ module _ {W G : Type 0} (is : IpAddress → IpAddress → Bool) where
     pub guards : j.guards ≡ i.guards
     pub cookies : j.cookies ≡ i.cookies
     pub groups : j.groups ≡ i.groups
+    pub most : j.most_of_source ≡ i.most_of_source

@@ -4,6 +4,7 @@ pub mod Arrivals
 pub mod Bindings
 pub mod Cookies
 pub mod Counts
+pub mod Crowding
 pub mod Datagrams
 pub mod Emissions
 pub mod Entries
@@ -37,6 +38,7 @@ pub mod Sides
 pub mod Sleeping
 pub mod Sights
 pub mod Slots
+pub mod Spans
 pub mod Speaking
 pub mod Telling
 pub mod Touching

@@ -21,6 +21,7 @@ pub record FitsTo {W : Type 0} (mtu : ℕ) (i j : Interface W) : Type 0 where
   pub guards : j.guards ≡ i.guards
   pub cookies : j.cookies ≡ i.cookies
   pub groups : j.groups ≡ i.groups
+  pub most : j.most_of_source ≡ i.most_of_source
 
 -- the packet at the beginning of a buffer is sent, or there is none
 abbrev pub SendsIf : {D : Type 0} → (D → List ℕ → D → Type 0) → Bool → ℕ → List ℕ → D → D → Type 0

@@ -1,5 +1,6 @@
 -- Which socket takes a TCP segment, and what becomes of it.
 use Rattle.std.specs.Prelude.{ℕ, ◌≡◌, ◌&&◌, if◌then◌else◌, List, Option, Some, None, IfSome, option_map, slice_get, Bool, true, false}
+use Rattle.ip_wire.specs.IpHeader.{src_addr_of}
 use Rattle.ip_wire.specs.declared.repr.IpRepr.{IpRepr}
 use Rattle.net_base.specs.declared.time.Instant.{Instant}
 use Rattle.control_wire.specs.Segment.{Segment}
@@ -10,10 +11,11 @@ use Rattle.sock_core.specs.Facts.{Facts}
 use Rattle.sock_tcp.specs.Opening.{is_listening}
 use Rattle.sock_tcp.specs.Process.{Accepts, Processes, reply_of, source_kept}
 use Rattle.sock_tcp.specs.Replies.{IsReplyStamp, echoed, rst_segment, with_header}
-use Rattle.sock_tcp.specs.View.{View, moment_of}
+use Rattle.sock_tcp.specs.View.{View}
 use Rattle.smoltcp_socket.specs.declared.socket.Socket.{Socket}
 use Rattle.smoltcp_socket.specs.declared.socket.Socket.TheVariants as socket
 use Rattle.net_host.specs.Counts.{next}
+use Rattle.net_host.specs.Filing.{number_of}
 use Rattle.net_host.specs.Limits.{allows, spent}
 use Rattle.net_host.specs.Resting.{FindsOldest, IsOldest, Reopens, Serves, anew, is_opening}
 use Rattle.net_host.specs.Walks.{ChangesAt, IsFirst, Nowhere}
@@ -94,38 +96,52 @@ opened_by listening s n = if listening && is_opening s then next n else n
 
 -- ---- a segment for nobody
 
--- an RST answers it, unless it is one, and not too often
-abbrev pub reset_by : TcpControl → Bool → IpRepr → Segment → Option (IpRepr × Segment)
-reset_by control.Rst allowed ip s = None
-reset_by _ false ip s = None
-reset_by _ true ip s = Some (with_header ip (rst_segment s))
+-- an RST answers it, unless it is one
+abbrev pub reset_by : TcpControl → IpRepr → Segment → Option (IpRepr × Segment)
+reset_by control.Rst ip s = None
+reset_by _ ip s = Some (with_header ip (rst_segment s))
 
-abbrev pub limit_by : TcpControl → Limit → Instant → Limit
-limit_by control.Rst l now = l
-limit_by _ l now = spent l now
+abbrev pub reset_of : IpRepr → Segment → Option (IpRepr × Segment)
+reset_of ip s = reset_by s.control ip s
 
-abbrev pub reset_of : Limit → Instant → IpRepr → Segment → Option (IpRepr × Segment)
-reset_of l now ip s = reset_by s.control (allows l now) ip s
+-- ---- what goes out of what answers
 
-pub record Refuses (l : Limit) (now : Instant) (ip : IpRepr) (s : Segment) (r : Option (IpRepr × TcpRepr)) (l' : Limit)
+abbrev pub is_reset : TcpControl → Bool
+is_reset control.Rst = true
+is_reset _ = false
+
+abbrev pub is_rst : Option (IpRepr × TcpRepr) → Bool
+is_rst None = false
+is_rst (Some r) = is_reset r.1.control
+
+abbrev pub sent_if : (rst allowed : Bool) → Option (IpRepr × TcpRepr) → Option (IpRepr × TcpRepr)
+sent_if false allowed r = r
+sent_if true true r = r
+sent_if true false r = None
+
+abbrev pub spent_if : (rst : Bool) → Limit → (source : ℕ) → Instant → Limit
+spent_if false l source now = l
+spent_if true l source now = spent l source now
+
+-- an RST only where the limit allows the sender one more: one for a segment that no socket takes, and one of a socket
+-- whose handshake is not over
+pub record SendsWithin (l : Limit) (now : Instant) (ip : IpRepr) (r out : Option (IpRepr × TcpRepr)) (l' : Limit)
     : Type 0 where
-  pub reply : option_map reply_of r ≡ reset_of l now ip s
-  pub limit : l' ≡ limit_by s.control l now
+  pub reply : out ≡ sent_if (is_rst r) (allows l (number_of (src_addr_of ip)) now) r
+  pub limit : l' ≡ spent_if (is_rst r) l (number_of (src_addr_of ip)) now
 
 -- ---- the whole
 
 module _ {C G : Type 0} (facts : C → Facts) (word_at : C → ℕ → ℕ) (tells : G → ℕ → Type 0) where
   -- with this taker
-  abbrev pub TakenBy : Taker → List (Slot G) → C → Limit → IpRepr → Segment → Option (IpRepr × TcpRepr)
-      → List (Slot G) → C → Limit → Type 0
-  TakenBy (taker.Connection i) ss cx l ip s r ts cx' l' =
-      HearsAt facts word_at tells as_is no_more ss i cx ip s r ts cx' × (l' ≡ l)
-  TakenBy (taker.Reopened i) ss cx l ip s r ts cx' l' =
-      HearsAt facts word_at tells anew (opened_by true s) ss i cx ip s r ts cx' × (l' ≡ l)
-  TakenBy (taker.Listener i) ss cx l ip s r ts cx' l' =
-      HearsAt facts word_at tells as_is (opened_by true s) ss i cx ip s r ts cx' × (l' ≡ l)
-  TakenBy (taker.Reused i) ss cx l ip s r ts cx' l' =
-      HearsAt facts word_at tells anew (opened_by true s) ss i cx ip s r ts cx' × (l' ≡ l)
-  TakenBy taker.Busy ss cx l ip s r ts cx' l' = (ts ≡ ss) × (cx' ≡ cx) × (r ≡ None) × (l' ≡ l)
-  TakenBy taker.Nobody ss cx l ip s r ts cx' l' =
-      (ts ≡ ss) × (cx' ≡ cx) × Refuses l (moment_of (facts cx)) ip s r l'
+  abbrev pub TakenBy : Taker → List (Slot G) → C → IpRepr → Segment → Option (IpRepr × TcpRepr) → List (Slot G) → C
+      → Type 0
+  TakenBy (taker.Connection i) ss cx ip s r ts cx' = HearsAt facts word_at tells as_is no_more ss i cx ip s r ts cx'
+  TakenBy (taker.Reopened i) ss cx ip s r ts cx' =
+      HearsAt facts word_at tells anew (opened_by true s) ss i cx ip s r ts cx'
+  TakenBy (taker.Listener i) ss cx ip s r ts cx' =
+      HearsAt facts word_at tells as_is (opened_by true s) ss i cx ip s r ts cx'
+  TakenBy (taker.Reused i) ss cx ip s r ts cx' =
+      HearsAt facts word_at tells anew (opened_by true s) ss i cx ip s r ts cx'
+  TakenBy taker.Busy ss cx ip s r ts cx' = (ts ≡ ss) × (cx' ≡ cx) × (r ≡ None)
+  TakenBy taker.Nobody ss cx ip s r ts cx' = (ts ≡ ss) × (cx' ≡ cx) × (option_map reply_of r ≡ reset_of ip s)

@@ -1,7 +1,7 @@
 -- What tells a sender that nobody takes its packet.
 use Rattle.std.specs.Prelude.{ℕ, ◌≡◌, ◌+◌, ◌-◌, min, Bool, not, ◌==◌, ◌&&◌, if◌then◌else◌, List, length, take}
 use Rattle.std.specs.Prelude.{Option, Some, None, is_some}
-use Rattle.ip_wire.specs.IpHeader.{dst_addr_of}
+use Rattle.ip_wire.specs.IpHeader.{dst_addr_of, src_addr_of}
 use Rattle.ip_wire.specs.Protocol.{number_of}
 use Rattle.ip_wire.specs.declared.protocol.IpProtocol.TheVariants as protocol
 use Rattle.ip_wire.specs.declared.repr.IpRepr.{IpRepr}
@@ -15,6 +15,7 @@ use Rattle.sock_dgram.specs.Raw.{Accepts}
 use Rattle.sock_tcp.specs.View.{moment_of}
 use Rattle.smoltcp_socket.specs.declared.socket.Socket.{Socket}
 use Rattle.smoltcp_socket.specs.declared.socket.Socket.TheVariants as socket
+use Rattle.net_host.specs.Filing as filing
 use Rattle.net_host.specs.Limits.{allows, spent}
 use Rattle.net_host.specs.Messages.{AnyMail, OverV4, OverV6, answer_len, if_short, with_answer}
 use Rattle.net_host.specs.Walks.{Finds}
@@ -83,13 +84,13 @@ abbrev pub wanted : Bool → Bool → Option AnyMail → Option AnyMail
 wanted own raw error = if own && not raw then error else None
 
 -- not too often
-abbrev pub told_within : Limit → Instant → Option AnyMail → Option AnyMail
-told_within l now None = None
-told_within l now (Some m) = if allows l now then Some m else None
+abbrev pub told_within : Limit → IpRepr → Instant → Option AnyMail → Option AnyMail
+told_within l ip now None = None
+told_within l ip now (Some m) = if allows l (filing.number_of (src_addr_of ip)) now then Some m else None
 
-abbrev pub spent_for : Option AnyMail → Limit → Instant → Limit
-spent_for None l now = l
-spent_for (Some m) l now = spent l now
+abbrev pub spent_for : Option AnyMail → Limit → IpRepr → Instant → Limit
+spent_for None l ip now = l
+spent_for (Some m) l ip now = spent l (filing.number_of (src_addr_of ip)) now
 
 -- ---- the whole
 
@@ -97,9 +98,9 @@ pub record TellsOf {G : Type 0} (f : Facts) (what : Unmet) (ip : IpRepr) (octets
     (l : Limit) (out : List ℕ) (n : ℕ) (l' : Limit) (out' : List ℕ) : Type 0 where
   pub raw : Option ℕ
   pub looked : Finds (TakesRaw ip) ss raw
-  pub len : n ≡ answer_len (if_short (min f.mtu (length out)) (told_within l (moment_of f)
+  pub len : n ≡ answer_len (if_short (min f.mtu (length out)) (told_within l ip (moment_of f)
       (wanted (f.has_address (dst_addr_of ip)) (is_some raw) (error_of what ip octets f.mtu))))
-  pub octets_are : out' ≡ with_answer f.checksums (if_short (min f.mtu (length out)) (told_within l (moment_of f)
+  pub octets_are : out' ≡ with_answer f.checksums (if_short (min f.mtu (length out)) (told_within l ip (moment_of f)
       (wanted (f.has_address (dst_addr_of ip)) (is_some raw) (error_of what ip octets f.mtu)))) out
   pub limit : l' ≡ spent_for (wanted (f.has_address (dst_addr_of ip)) (is_some raw) (error_of what ip octets f.mtu)) l
-      (moment_of f)
+      ip (moment_of f)

@@ -16,7 +16,8 @@ impl<W> Interface<W> {
         ensures same { (self.new.turn ≡ self.old.turn) × (self.new.resets ≡ self.old.resets)
             × (self.new.errors ≡ self.old.errors) × (self.new.counters ≡ self.old.counters)
             × (self.new.guards ≡ self.old.guards) × (self.new.cookies ≡ self.old.cookies)
-            × (self.new.groups ≡ self.old.groups) }
+            × (self.new.groups ≡ self.old.groups)
+            × (self.new.most_of_source ≡ self.old.most_of_source) }
     {
         self.inner.environment.addresses = addresses;
     }

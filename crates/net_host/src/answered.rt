@@ -7,18 +7,21 @@ ghost use Rattle.net_host.specs.Answered.{HearsOut, PutsAnswer};
 ghost use Rattle.net_host.specs.Segments.{TakesSegment};
 ghost use Rattle.net_host.specs.Walks.{ChangesAt};
 
+use crate::limit::Limit;
 use crate::replies::put_reply;
+use crate::segments::keep_within;
 use crate::slot::Slot;
 use smoltcp_socket::wire::{IpRepr, TcpRepr};
 use smoltcp_socket::{Context, Socket, tcp};
 use sock_tcp::{Answer, TsvalSource};
 
-// The answer to a segment that the socket took: the length of its packet, at the beginning of `out`.
+// What goes out of the answer to a segment that the socket took: the length of its packet, at the beginning of `out`.
 // Not inlined, as most segments are answered by nothing, and the space for a reply is cleared where it is made.
 #[inline(never)]
 fn put_answer<C: Context, G: TsvalSource>(
     tcp: &mut tcp::Socket<'_, G>,
     cx: &C,
+    limit: &mut Limit,
     answer: Answer,
     ip: &IpRepr,
     repr: &TcpRepr<'_>,
@@ -28,12 +31,14 @@ fn put_answer<C: Context, G: TsvalSource>(
     requires room { 100 ≤ length out.old }
     ensures within { result ≤ length out.old }
     ensures put { PutsAnswer (IsReplyStamp G.tells tcp.old.tsval_generator
-        (echoed tcp.new.control_block repr.now.timestamp)) (C.facts cx.now).checksums ip.now
-        (answered answer tcp.old.control_block (segment_of repr.now)) tcp.new.control_block out.old result out.new }
+        (echoed tcp.new.control_block repr.now.timestamp)) (C.facts cx.now) limit.old ip.now
+        (answered answer tcp.old.control_block (segment_of repr.now)) tcp.new.control_block out.old result limit.new
+        out.new }
     ensures generator { tcp.new.tsval_generator ≡ tcp.old.tsval_generator }
 {
     let caps = cx.checksum_caps();
-    let reply = tcp.reply_by(answer, ip, repr);
+    let mut reply = tcp.reply_by(answer, ip, repr);
+    keep_within(limit, cx.now(), ip, &mut reply);
     put_reply(&reply, out, &caps)
 }
 
@@ -43,6 +48,7 @@ impl<'a, G: TsvalSource> Slot<'a, G> {
     fn hear_out<C: Context>(
         &mut self,
         cx: &mut C,
+        limit: &mut Limit,
         ip: &IpRepr,
         repr: &TcpRepr<'_>,
         out: &mut [u8],
@@ -51,14 +57,14 @@ impl<'a, G: TsvalSource> Slot<'a, G> {
         requires small { length repr.now.payload.now ≤ 65535 }
         requires room { 100 ≤ length out.old }
         ensures within { result ≤ length out.old }
-        ensures heard { HearsOut C.facts C.word_at G.tells self.old cx.old ip.now (segment_of repr.now) out.old result
-            self.new cx.new out.new }
+        ensures heard { HearsOut C.facts C.word_at G.tells self.old cx.old limit.old ip.now (segment_of repr.now)
+            out.old result self.new cx.new limit.new out.new }
     {
         match &mut self.socket {
             Some(Socket::Tcp(tcp)) => match tcp.take_segment(cx, ip, repr) {
                 Answer::Nothing => 0,
-                Answer::Ack => put_answer(tcp, cx, Answer::Ack, ip, repr, out),
-                Answer::Rst => put_answer(tcp, cx, Answer::Rst, ip, repr, out),
+                Answer::Ack => put_answer(tcp, cx, limit, Answer::Ack, ip, repr, out),
+                Answer::Rst => put_answer(tcp, cx, limit, Answer::Rst, ip, repr, out),
             },
             _ => 0,
         }
@@ -71,6 +77,7 @@ pub(crate) fn hear_out_there<C: Context, G: TsvalSource>(
     slots: &mut Vec<Slot<'_, G>>,
     i: usize,
     cx: &mut C,
+    limit: &mut Limit,
     ip: &IpRepr,
     repr: &TcpRepr<'_>,
     out: &mut [u8],
@@ -80,8 +87,8 @@ pub(crate) fn hear_out_there<C: Context, G: TsvalSource>(
     requires small { length repr.now.payload.now ≤ 65535 }
     requires room { 100 ≤ length out.old }
     ensures within { result ≤ length out.old }
-    ensures heard { ChangesAt (λ before after. HearsOut C.facts C.word_at G.tells before cx.old ip.now
-        (segment_of repr.now) out.old result after cx.new out.new) slots.old.items i slots.new.items }
+    ensures heard { ChangesAt (λ before after. HearsOut C.facts C.word_at G.tells before cx.old limit.old ip.now
+        (segment_of repr.now) out.old result after cx.new limit.new out.new) slots.old.items i slots.new.items }
 {
-    slots[i].hear_out(cx, ip, repr, out)
+    slots[i].hear_out(cx, limit, ip, repr, out)
 }

@@ -156,7 +156,8 @@ impl<W: Words> Interface<W> {
         ensures same { (self.new.turn ≡ self.old.turn) × (self.new.resets ≡ self.old.resets)
             × (self.new.errors ≡ self.old.errors) × (self.new.counters ≡ self.old.counters)
             × (self.new.guards ≡ self.old.guards) × (self.new.cookies ≡ self.old.cookies)
-            × (self.new.groups ≡ self.old.groups) }
+            × (self.new.groups ≡ self.old.groups)
+            × (self.new.most_of_source ≡ self.old.most_of_source) }
     {
         bind_by(sockets, handle, &mut self.inner, endpoint)
     }

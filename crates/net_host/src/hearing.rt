@@ -6,6 +6,7 @@ ghost use Rattle.control_wire.specs.Segment.{segment_of};
 ghost use Rattle.sock_tcp.specs.Process.{reply_of};
 ghost use Rattle.net_host.specs.Cookies.{AnswersSegment, BelievedBy, HearsBoth, HearsIf, HearsSyn, IsAgain, OpensOn};
 ghost use Rattle.net_host.specs.Cookies.{TakenOn, class_if, course_of, syn_before};
+ghost use Rattle.net_host.specs.Crowding.{IsLimited, dropped_if};
 ghost use Rattle.net_host.specs.Filing.{keys_of};
 ghost use Rattle.net_host.specs.Indexing.{IsSettled};
 ghost use Rattle.net_host.specs.Resting.{Rests, anew, is_opening};
@@ -16,10 +17,11 @@ use crate::answered::hear_out_there;
 use crate::cookies::{
     Course, Told, answer_of, class_if, course_of, opening_of, room_at, syn_before,
 };
+use crate::crowding::{dropped_if, is_limited};
 use crate::filing::connection_key;
 use crate::limit::Limit;
 use crate::replies::put_reply;
-use crate::segments::{Taker, hear_anew_at, hear_at, take_segment, who_takes};
+use crate::segments::{Taker, hear_anew_at, hear_at, keep_within, take_segment, who_takes};
 use crate::set::SocketSet;
 use crate::slot::Slot;
 use crate::unsent::pass_at;
@@ -35,6 +37,8 @@ pub struct Heard {
     pub taker: Taker,
     /// Who takes the SYN before an acknowledgement that may be believed.
     pub again: Taker,
+    /// Whether it is dropped, as its source has too many connections.
+    pub dropped: bool,
 }
 
 fn who_again<C: Context, G: TsvalSource>(
@@ -259,7 +263,6 @@ fn believe<C: Context, G: TsvalSource>(
 fn take_heard<C: Context, G: TsvalSource>(
     sockets: &mut SocketSet<'_, G>,
     cx: &mut C,
-    limit: &mut Limit,
     heard: &Heard,
     ip: &IpRepr,
     repr: &TcpRepr<'_>,
@@ -269,8 +272,7 @@ fn take_heard<C: Context, G: TsvalSource>(
     requires opens { OpensOn heard.now.course sockets.old.slots.items ip.now (segment_of repr.now) heard.now.again }
     requires small { length repr.now.payload.now ≤ 65535 }
     ensures taken { TakenOn C.facts C.word_at G.tells heard.now.course heard.now.taker heard.now.again
-        sockets.old.slots.items cx.old limit.old ip.now (segment_of repr.now) reply.new sockets.new.slots.items cx.new
-        limit.new }
+        sockets.old.slots.items cx.old ip.now (segment_of repr.now) reply.new sockets.new.slots.items cx.new }
     ensures bare { ForSome reply.new (λ r. r.1.payload.now ≡ []) }
     ensures fits { ForSome (option_map reply_of reply.new) (λ r. FitsPacket r.0 r.1) }
     ensures touched { Touches sockets.old.bounds sockets.old.slots.items sockets.new.bounds
@@ -279,7 +281,7 @@ fn take_heard<C: Context, G: TsvalSource>(
 {
     match heard.course {
         Course::Plain | Course::Doubted => {
-            take_segment(sockets, cx, limit, heard.taker, ip, repr, reply);
+            take_segment(sockets, cx, heard.taker, ip, repr, reply);
         }
         Course::Answered(place, number) => {
             let room = room_at(&sockets.slots, place);
@@ -289,6 +291,7 @@ fn take_heard<C: Context, G: TsvalSource>(
             let opening = opening_of(repr);
             *reply = believe(sockets, cx, heard.again, class, number, ip, &opening);
         }
+        Course::Dropped => *reply = None,
     }
 }
 
@@ -297,13 +300,16 @@ fn heard_by<C: Context, G: TsvalSource>(
     sockets: &SocketSet<'_, G>,
     cx: &C,
     cookies: &Option<SynCookies>,
+    most: usize,
     ip: &IpRepr,
     repr: &TcpRepr<'_>,
 ) -> Heard
     requires { IsSettled (λ s. keys_of s) sockets.now.complete sockets.now.slots.items sockets.now.index
         sockets.now.free }
-    ensures course { result.course ≡ course_of cookies.now result.taker result.again (C.facts cx.now).now ip.now
-        (segment_of repr.now) }
+    ensures course { result.course ≡ dropped_if result.dropped (course_of cookies.now result.taker result.again
+        (C.facts cx.now).now ip.now (segment_of repr.now)) }
+    ensures dropped { IsLimited most sockets.now.slots.items ip.now (segment_of repr.now) result.taker (course_of
+        cookies.now result.taker result.again (C.facts cx.now).now ip.now (segment_of repr.now)) result.dropped }
     ensures taker { IsTaker sockets.now.slots.items ip.now (segment_of repr.now) result.taker }
     ensures again { IsAgain (class_if cookies.now result.taker (C.facts cx.now).now (segment_of repr.now))
         sockets.now.slots.items ip.now (segment_of repr.now) result.again }
@@ -312,10 +318,12 @@ fn heard_by<C: Context, G: TsvalSource>(
     let class = class_if(cookies, taker, cx, repr);
     let again = who_again(sockets, cx, class, ip, repr);
     let course = course_of(cookies, taker, again, cx, ip, repr);
+    let dropped = is_limited(sockets, most, taker, course, ip, repr);
     Heard {
-        course,
+        course: dropped_if(dropped, course),
         taker,
         again,
+        dropped,
     }
 }
 
@@ -327,6 +335,7 @@ pub(crate) fn hear_known<C: Context, G: TsvalSource>(
     sockets: &mut SocketSet<'_, G>,
     i: usize,
     cx: &mut C,
+    limit: &mut Limit,
     ip: &IpRepr,
     repr: &TcpRepr<'_>,
     out: &mut [u8],
@@ -335,15 +344,15 @@ pub(crate) fn hear_known<C: Context, G: TsvalSource>(
     requires small { length repr.now.payload.now ≤ 65535 }
     requires room { 100 ≤ length out.old }
     ensures within { result ≤ length out.old }
-    ensures heard { (l : Limit) → AnswersSegment C.facts C.word_at G.tells Course.Plain (Taker.Connection i)
-        Taker.Nobody sockets.old.slots.items cx.old l ip.now (segment_of repr.now) out.old result
-        sockets.new.slots.items cx.new l out.new }
+    ensures heard { AnswersSegment C.facts C.word_at G.tells Course.Plain (Taker.Connection i)
+        Taker.Nobody sockets.old.slots.items cx.old limit.old ip.now (segment_of repr.now) out.old result
+        sockets.new.slots.items cx.new limit.new out.new }
     ensures touched { Touches sockets.old.bounds sockets.old.slots.items sockets.new.bounds
         sockets.new.slots.items }
     ensures ended { sockets.new.ended ≡ sockets.old.ended }
 {
     sockets.lend(i);
-    hear_out_there(&mut sockets.slots, i, cx, ip, repr, out)
+    hear_out_there(&mut sockets.slots, i, cx, limit, ip, repr, out)
 }
 
 /// A segment arrives, and who takes it is looked for: who took it, and the length of the packet that answers it, at the
@@ -353,6 +362,7 @@ pub(crate) fn hear_sought<C: Context, G: TsvalSource>(
     cx: &mut C,
     limit: &mut Limit,
     cookies: &Option<SynCookies>,
+    most: usize,
     ip: &IpRepr,
     repr: &TcpRepr<'_>,
     out: &mut [u8],
@@ -360,8 +370,11 @@ pub(crate) fn hear_sought<C: Context, G: TsvalSource>(
     requires small { length repr.now.payload.now ≤ 65535 }
     requires room { 100 ≤ length out.old }
     ensures within { result.1 ≤ length out.old }
-    ensures course { result.0.course ≡ course_of cookies.now result.0.taker result.0.again (C.facts cx.old).now ip.now
-        (segment_of repr.now) }
+    ensures course { result.0.course ≡ dropped_if result.0.dropped (course_of cookies.now result.0.taker
+        result.0.again (C.facts cx.old).now ip.now (segment_of repr.now)) }
+    ensures dropped { IsLimited most sockets.old.slots.items ip.now (segment_of repr.now) result.0.taker (course_of
+        cookies.now result.0.taker result.0.again (C.facts cx.old).now ip.now (segment_of repr.now))
+        result.0.dropped }
     ensures taker { IsTaker sockets.old.slots.items ip.now (segment_of repr.now) result.0.taker }
     ensures again { IsAgain (class_if cookies.now result.0.taker (C.facts cx.old).now (segment_of repr.now))
         sockets.old.slots.items ip.now (segment_of repr.now) result.0.again }
@@ -373,10 +386,12 @@ pub(crate) fn hear_sought<C: Context, G: TsvalSource>(
     ensures ended { sockets.new.ended ≡ sockets.old.ended }
 {
     let caps = cx.checksum_caps();
+    let now = cx.now();
     sockets.settle_for(connection_key(&ip.src_addr(), repr.dst_port, repr.src_port));
-    let heard = heard_by(sockets, cx, cookies, ip, repr);
+    let heard = heard_by(sockets, cx, cookies, most, ip, repr);
     let mut reply = None;
-    take_heard(sockets, cx, limit, &heard, ip, repr, &mut reply);
+    take_heard(sockets, cx, &heard, ip, repr, &mut reply);
+    keep_within(limit, now, ip, &mut reply);
     let len = put_reply(&reply, out, &caps);
     (heard, len)
 }

@@ -9,7 +9,7 @@ ghost use Rattle.net_host.specs.Counts.{no_counts};
 ghost use Rattle.net_host.specs.Facts.{facts_by};
 ghost use Rattle.net_host.specs.Guards.{usual};
 ghost use Rattle.net_host.specs.HostCalls.{EmitsAt, MovesTo, ReceivesAt};
-ghost use Rattle.net_host.specs.Limits.{full_limit};
+ghost use Rattle.net_host.specs.Limits.{full_limit, keyed};
 ghost use Rattle.net_host.specs.Looking.{Unseen};
 ghost use Rattle.net_host.specs.Speaking.{Due, earliest};
 ghost use Rattle.net_host.specs.Telling.{TellsEnds};
@@ -54,6 +54,8 @@ pub struct Interface<W> {
     // where SYNs may be answered without a socket
     pub(crate) cookies: Option<SynCookies>,
     pub(crate) groups: Groups,
+    // how many connections a source may have; 0 where any number
+    pub(crate) most_of_source: usize,
 }
 
 impl<W: Words> Interface<W> {
@@ -72,12 +74,15 @@ impl<W: Words> Interface<W> {
     /// no socket takes it; the acknowledgement of that answer, within 64 seconds, takes a socket, which hears the SYN
     /// as it was told again, dispatches its SYN|ACK into nothing, as that has gone out, and then hears the
     /// acknowledgement, without the octet of a keep-alive (RFC 9293, section 3.8.4). None is believed once no SYN was
-    /// answered so for 128 seconds. One for no socket is answered by an RST (RFC 9293, section 3.10.7.1), unless it is
-    /// one, at most `ANSWERS_A_SECOND` times a second. A datagram goes to the first UDP socket that accepts it; of one
-    /// that none does the sender is told by an ICMP error (RFC 1122, section 4.1.3.1; RFC 4443, section 3.1). Errors go
-    /// out for packets to an own address that no raw socket takes, at most `ANSWERS_A_SECOND` times a second, and fit
-    /// the MTU. Of an ICMP message each ICMP socket that accepts it takes a copy, and an echo request is answered (RFC
-    /// 792; RFC 4443, section 4.2), by at most as many bytes as the MTU. No other socket changes.
+    /// answered so for 128 seconds. A SYN of a source that has as many connections as `set_most_of_source` allows is
+    /// dropped, and so is what a cookie would open. A segment for no socket is answered by an RST (RFC 9293, section
+    /// 3.10.7.1), unless it is one. Of RSTs at most `ANSWERS_A_SECOND` go out to a source in a second, with those of
+    /// sockets whose handshake is not over (section 3.10.7.4). A datagram goes to the first UDP socket that accepts
+    /// it; of one that none does the sender is told by an ICMP error (RFC 1122, section 4.1.3.1; RFC 4443, section
+    /// 3.1). Errors go out for packets to an own address that no raw socket takes, at most `ANSWERS_A_SECOND` to a
+    /// source in a second, and fit the MTU. Some sources share a limit, by a key (`set_answer_key`). Of an ICMP
+    /// message each ICMP socket that accepts it takes a copy, and an echo request is answered (RFC 792; RFC 4443,
+    /// section 4.2), by at most as many bytes as the MTU. No other socket changes.
     ///
     /// A TCP socket whose place is not `touched` afterwards is as it was, and was not touched before.
     ///
@@ -214,7 +219,8 @@ impl<W: Words> Interface<W> {
         ensures same { (self.new.inner.environment ≡ self.old.inner.environment) × (self.new.turn ≡ self.old.turn)
             × (self.new.resets ≡ self.old.resets) × (self.new.errors ≡ self.old.errors)
             × (self.new.counters ≡ self.old.counters) × (self.new.guards ≡ self.old.guards)
-            × (self.new.cookies ≡ self.old.cookies) × (self.new.groups ≡ self.old.groups) }
+            × (self.new.cookies ≡ self.old.cookies) × (self.new.groups ≡ self.old.groups)
+            × (self.new.most_of_source ≡ self.old.most_of_source) }
     {
         self.inner.words.next()
     }
@@ -249,6 +255,7 @@ impl<W> Interface<W> {
         ensures resets { result.resets ≡ full_limit }
         ensures errors { result.errors ≡ full_limit }
         ensures counters { result.counters ≡ no_counts }
+        ensures most { result.most_of_source ≡ 0 }
     {
         Interface {
             inner: InterfaceInner {
@@ -262,6 +269,7 @@ impl<W> Interface<W> {
             guards: Limits::of(&GuardSettings::new()),
             cookies: None,
             groups: Groups::none(),
+            most_of_source: 0,
         }
     }
 
@@ -310,7 +318,8 @@ impl<W> Interface<W> {
         ensures same { (self.new.inner ≡ self.old.inner) × (self.new.turn ≡ self.old.turn)
             × (self.new.resets ≡ self.old.resets) × (self.new.errors ≡ self.old.errors)
             × (self.new.counters ≡ self.old.counters) × (self.new.cookies ≡ self.old.cookies)
-            × (self.new.groups ≡ self.old.groups) }
+            × (self.new.groups ≡ self.old.groups)
+            × (self.new.most_of_source ≡ self.old.most_of_source) }
     {
         self.guards = Limits::of(&guards);
     }
@@ -322,9 +331,39 @@ impl<W> Interface<W> {
         ensures same { (self.new.inner ≡ self.old.inner) × (self.new.turn ≡ self.old.turn)
             × (self.new.resets ≡ self.old.resets) × (self.new.errors ≡ self.old.errors)
             × (self.new.counters ≡ self.old.counters) × (self.new.guards ≡ self.old.guards)
-            × (self.new.groups ≡ self.old.groups) }
+            × (self.new.groups ≡ self.old.groups)
+            × (self.new.most_of_source ≡ self.old.most_of_source) }
     {
         self.cookies = cookies;
+    }
+
+    /// Sets how many TCP connections a source may have: an address of IPv4, or 64 bits of one of IPv6 (in `::/64` each
+    /// address); 0, as in a new interface, allows any number. Those in TIME-WAIT and those that were opened here count,
+    /// too. A SYN that would begin one more is dropped and counted as `too_many`, and so is what a SYN cookie would open.
+    ///
+    /// It costs a search of the index, however many there are.
+    pub fn set_most_of_source(&mut self, most: usize)
+        ensures most { self.new.most_of_source ≡ most }
+        ensures same { (self.new.inner ≡ self.old.inner) × (self.new.turn ≡ self.old.turn)
+            × (self.new.resets ≡ self.old.resets) × (self.new.errors ≡ self.old.errors)
+            × (self.new.counters ≡ self.old.counters) × (self.new.guards ≡ self.old.guards)
+            × (self.new.cookies ≡ self.old.cookies) × (self.new.groups ≡ self.old.groups) }
+    {
+        self.most_of_source = most;
+    }
+
+    /// Sets the key by which sources have buckets of what is answered by RSTs and ICMP errors. In a new interface it is
+    /// a constant: set a random one, which nobody can guess.
+    pub fn set_answer_key(&mut self, key: u64)
+        ensures resets { self.new.resets ≡ keyed key self.old.resets }
+        ensures errors { self.new.errors ≡ keyed key self.old.errors }
+        ensures same { (self.new.inner ≡ self.old.inner) × (self.new.turn ≡ self.old.turn)
+            × (self.new.counters ≡ self.old.counters) × (self.new.guards ≡ self.old.guards)
+            × (self.new.cookies ≡ self.old.cookies) × (self.new.groups ≡ self.old.groups)
+            × (self.new.most_of_source ≡ self.old.most_of_source) }
+    {
+        self.resets.set_key(key);
+        self.errors.set_key(key);
     }
 
     /// Sets the largest IP packet, in bytes: 68 to 65535, and the nearest of these for any other. Over IPv6 less than
@@ -337,7 +376,8 @@ impl<W> Interface<W> {
             × (self.new.inner.words ≡ self.old.inner.words) × (self.new.turn ≡ self.old.turn)
             × (self.new.resets ≡ self.old.resets) × (self.new.errors ≡ self.old.errors)
             × (self.new.counters ≡ self.old.counters) × (self.new.guards ≡ self.old.guards)
-            × (self.new.cookies ≡ self.old.cookies) × (self.new.groups ≡ self.old.groups) }
+            × (self.new.cookies ≡ self.old.cookies) × (self.new.groups ≡ self.old.groups)
+            × (self.new.most_of_source ≡ self.old.most_of_source) }
     {
         self.inner.environment.set_mtu(mtu);
     }
@@ -351,7 +391,8 @@ impl<W> Interface<W> {
             × (self.new.inner.words ≡ self.old.inner.words) × (self.new.turn ≡ self.old.turn)
             × (self.new.resets ≡ self.old.resets) × (self.new.errors ≡ self.old.errors)
             × (self.new.counters ≡ self.old.counters) × (self.new.guards ≡ self.old.guards)
-            × (self.new.cookies ≡ self.old.cookies) × (self.new.groups ≡ self.old.groups) }
+            × (self.new.cookies ≡ self.old.cookies) × (self.new.groups ≡ self.old.groups)
+            × (self.new.most_of_source ≡ self.old.most_of_source) }
     {
         self.inner.environment.checksums = checksums;
     }

@@ -400,7 +400,7 @@ impl<W: Words> Interface<W> {
         ensures ended { sockets.new.ended ≡ sockets.old.ended }
     {
         match known_taker(sockets, &self.inner, ip, repr) {
-            Some(i) => hear_known(sockets, i, &mut self.inner, ip, repr, out),
+            Some(i) => hear_known(sockets, i, &mut self.inner, &mut self.resets, ip, repr, out),
             None => self.seek_taker(sockets, ip, repr, out),
         }
     }
@@ -430,6 +430,7 @@ impl<W: Words> Interface<W> {
             &mut self.inner,
             &mut self.resets,
             &self.cookies,
+            self.most_of_source,
             ip,
             repr,
             out,
@@ -488,6 +489,7 @@ fn count_heard(counters: &mut Counters, heard: &Heard)
         }
         Course::Answered(..) => counters.count_sent(),
         Course::Believed(..) => count_again(counters, heard.again),
+        Course::Dropped => counters.count(Reason::TooMany),
     }
 }
 

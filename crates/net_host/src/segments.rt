@@ -8,12 +8,12 @@ ghost use Rattle.sock_tcp.specs.Process.{Opens, reply_of};
 ghost use Rattle.net_host.specs.Filing.{keys_of};
 ghost use Rattle.net_host.specs.Indexing.{IsSettled};
 ghost use Rattle.net_host.specs.Resting.{Reopens, Rests, anew, is_opening};
-ghost use Rattle.net_host.specs.Segments.{Hears, HearsAt, IsTaker, NoneTakes, Refuses, TakenBy};
-ghost use Rattle.net_host.specs.Segments.{TakesSegment, as_is, opened_by};
+ghost use Rattle.net_host.specs.Segments.{Hears, HearsAt, IsTaker, NoneTakes, SendsWithin, TakenBy};
+ghost use Rattle.net_host.specs.Segments.{TakesSegment, as_is, is_rst, opened_by, reset_of};
 ghost use Rattle.net_host.specs.Touching.{Touches};
 ghost use Rattle.net_host.specs.Walks.{Finds, IsAt, Nowhere};
 
-use crate::filing::{connection_key, listener_key};
+use crate::filing::{connection_key, listener_key, number_of};
 use crate::find::{Sought, first_if_any, first_sought};
 use crate::limit::Limit;
 use crate::rest::{any_server, oldest, opens};
@@ -411,28 +411,50 @@ pub(crate) fn hear_anew_at<C: Context, G: TsvalSource>(
     hear_anew_there(&mut sockets.slots, i, cx, ip, repr, reply);
 }
 
-/// The RST that answers a segment for no socket, unless it is one itself, where the limit allows it.
+/// The RST that answers a segment for no socket, unless it is one itself.
 // Not inlined, as few segments come here.
 #[inline(never)]
-fn refuse(limit: &mut Limit, now: Instant, ip: &IpRepr, repr: &TcpRepr<'_>) -> Option<Reply>
-    requires small { length repr.now.payload.now ≤ 65535 }
-    requires moment { IsMoment now.micros }
-    ensures answer { Refuses limit.old now ip.now (segment_of repr.now) result limit.new }
+fn refuse(ip: &IpRepr, repr: &TcpRepr<'_>) -> Option<Reply>
+    requires { length repr.now.payload.now ≤ 65535 }
+    ensures answer { option_map reply_of result ≡ reset_of ip.now (segment_of repr.now) }
     ensures bare { ForSome result (λ r. r.1.payload.now ≡ []) }
     ensures fits { ForSome (option_map reply_of result) (λ r. FitsPacket r.0 r.1) }
 {
-    if repr.control == TcpControl::Rst || !limit.take(now) {
+    if repr.control == TcpControl::Rst {
         return None;
     }
     Some(tcp::Socket::rst_reply(ip, repr))
 }
 
-/// The segment goes to its taker, or is refused; the reply is written where it is wanted, as `hear_at` does.
+fn is_rst(reply: &Option<Reply>) -> bool
+    ensures { result ≡ is_rst reply.now }
+{
+    match reply {
+        None => false,
+        Some((_, repr)) => repr.control == TcpControl::Rst,
+    }
+}
+
+/// What goes out of what answers a segment: an RST only where the limit allows its sender one more.
+pub(crate) fn keep_within(limit: &mut Limit, now: Instant, ip: &IpRepr, reply: &mut Option<Reply>)
+    requires moment { IsMoment now.micros }
+    requires bare { ForSome reply.old (λ r. r.1.payload.now ≡ []) }
+    requires fits { ForSome (option_map reply_of reply.old) (λ r. FitsPacket r.0 r.1) }
+    ensures sent { SendsWithin limit.old now ip.now reply.old reply.new limit.new }
+    ensures bare { ForSome reply.new (λ r. r.1.payload.now ≡ []) }
+    ensures fits { ForSome (option_map reply_of reply.new) (λ r. FitsPacket r.0 r.1) }
+{
+    if is_rst(reply) && !limit.take(number_of(&ip.src_addr()), now) {
+        *reply = None;
+    }
+}
+
+/// The segment goes to its taker, or is refused; the reply is written where it is wanted, as `hear_at` does. Of the
+/// limit on RSTs nothing is taken yet.
 #[tactic(auto, using(crate::proofs::Touching::touches_none))]
 pub(crate) fn take_segment<C: Context, G: TsvalSource>(
     sockets: &mut SocketSet<'_, G>,
     cx: &mut C,
-    limit: &mut Limit,
     taker: Taker,
     ip: &IpRepr,
     repr: &TcpRepr<'_>,
@@ -440,8 +462,8 @@ pub(crate) fn take_segment<C: Context, G: TsvalSource>(
 )
     requires taker { IsTaker sockets.old.slots.items ip.now (segment_of repr.now) taker }
     requires small { length repr.now.payload.now ≤ 65535 }
-    ensures taken { TakenBy C.facts C.word_at G.tells taker sockets.old.slots.items cx.old limit.old ip.now
-        (segment_of repr.now) reply.new sockets.new.slots.items cx.new limit.new }
+    ensures taken { TakenBy C.facts C.word_at G.tells taker sockets.old.slots.items cx.old ip.now
+        (segment_of repr.now) reply.new sockets.new.slots.items cx.new }
     ensures bare { ForSome reply.new (λ r. r.1.payload.now ≡ []) }
     ensures fits { ForSome (option_map reply_of reply.new) (λ r. FitsPacket r.0 r.1) }
     ensures touched { Touches sockets.old.bounds sockets.old.slots.items sockets.new.bounds
@@ -453,6 +475,6 @@ pub(crate) fn take_segment<C: Context, G: TsvalSource>(
         Taker::Listener(i) => hear_at(sockets, i, cx, true, ip, repr, reply),
         Taker::Reopened(i) | Taker::Reused(i) => hear_anew_at(sockets, i, cx, ip, repr, reply),
         Taker::Busy => *reply = None,
-        Taker::Nobody => *reply = refuse(limit, cx.now(), ip, repr),
+        Taker::Nobody => *reply = refuse(ip, repr),
     }
 }

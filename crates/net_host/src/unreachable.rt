@@ -3,6 +3,8 @@ ghost use Rattle.std.specs.Prelude.{◌≡◌, ◌≤◌, ◌↔◌, ◌&&◌, I
 ghost use Rattle.sock_core.specs.Bounds.{IsMoment};
 ghost use Rattle.net_host.specs.Filing.{keys_of};
 ghost use Rattle.net_host.specs.Indexing.{AreFiled};
+ghost use Rattle.ip_wire.specs.IpHeader.{src_addr_of};
+ghost use Rattle.net_host.specs.Filing.{number_of};
 ghost use Rattle.net_host.specs.Limits.{allows};
 ghost use Rattle.net_host.specs.Messages.{answer_len, if_short, mail_of, with_answer};
 ghost use Rattle.net_host.specs.Unreachable.{TakesRaw, TellsOf, error_of, error_v4, error_v6, header_v6};
@@ -10,7 +12,7 @@ ghost use Rattle.net_host.specs.Unreachable.{problem_of, quoted_v4, quoted_v6};
 ghost use Rattle.net_host.specs.Walks.{Finds, IsAt};
 ghost use Rattle.net_host.specs.Unreachable.{spent_for, told_within, wanted};
 
-use crate::filing::raw_key;
+use crate::filing::{number_of, raw_key};
 use crate::find::next_under;
 use crate::limit::Limit;
 use crate::messages::{Mail, put_answer};
@@ -218,23 +220,35 @@ fn wanted<'p>(own: bool, raw: bool, error: Option<Mail<'p>>) -> Option<Mail<'p>>
 }
 
 // The error, where the limit allows it.
-fn within_limit<'p>(limit: &mut Limit, now: Instant, error: Option<Mail<'p>>) -> Option<Mail<'p>>
+fn within_limit<'p>(
+    limit: &mut Limit,
+    ip: &IpRepr,
+    now: Instant,
+    error: Option<Mail<'p>>,
+) -> Option<Mail<'p>>
     requires { IsMoment now.micros }
-    ensures told { option_map mail_of result ≡ told_within limit.old now (option_map mail_of error.entry) }
-    ensures limit { limit.new ≡ spent_for (option_map mail_of error.entry) limit.old now }
+    ensures told { option_map mail_of result ≡ told_within limit.old ip.now now (option_map mail_of error.entry) }
+    ensures limit { limit.new ≡ spent_for (option_map mail_of error.entry) limit.old ip.now now }
 {
     match error {
         None => None,
-        Some(mail) => if limit.take(now) { Some(mail) } else { None },
+        Some(mail) => {
+            if limit.take(number_of(&ip.src_addr()), now) {
+                Some(mail)
+            } else {
+                None
+            }
+        }
     }
 }
 
 // Whether the sender is told, where no raw socket takes the packet.
-fn may_tell(own: bool, error: &Option<Mail<'_>>, limit: &Limit, now: Instant) -> bool
+fn may_tell(own: bool, error: &Option<Mail<'_>>, limit: &Limit, ip: &IpRepr, now: Instant) -> bool
     requires { IsMoment now.micros }
-    ensures { result ≡ own && (is_some (option_map mail_of error.now) && allows limit.now now) }
+    ensures { result ≡ own && (is_some (option_map mail_of error.now)
+        && allows limit.now (number_of (src_addr_of ip.now)) now) }
 {
-    own && error.is_some() && limit.allows(now)
+    own && error.is_some() && limit.allows(number_of(&ip.src_addr()), now)
 }
 
 /// Tells the sender of a packet that nobody takes: writes the error at the beginning of `out`, and answers its length.
@@ -260,11 +274,11 @@ pub(crate) fn tell_sender<C: Context, G: TsvalSource>(
     let mtu = cx.ip_mtu();
     let own = cx.has_ip_addr(ip.dst_addr());
     let error = error_of(unmet, ip, bytes, mtu);
-    if !may_tell(own, &error, limit, cx.now()) {
+    if !may_tell(own, &error, limit, ip, cx.now()) {
         return 0;
     }
     let raw = first_raw(sockets, ip);
     let error = wanted(own, raw.is_some(), error);
-    let answer = within_limit(limit, cx.now(), error);
+    let answer = within_limit(limit, ip, cx.now(), error);
     put_answer(&answer, mtu, out, &cx.checksum_caps())
 }

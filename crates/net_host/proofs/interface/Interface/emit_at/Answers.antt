@@ -19,6 +19,7 @@ returns-clause-table g c = record {
   guards = c.set_now.ensures.guards;
   cookies = c.set_now.ensures.cookies;
   groups = c.set_now.ensures.groups;
+  most = c.set_now.ensures.most;
 }
 
 pub returns-clause-ends : goal.returns-clause-ends
