@@ -35,7 +35,7 @@ extern "C" {
 
 /* Memory for a host, for these calls alone; from smoltcp_host_init on it stays where it is. It lies at a multiple of
  * 16, as the compiler and malloc put it, since the library has numbers of 128 bits in it. */
-enum { SMOLTCP_HOST_SIZE = 1264, SMOLTCP_HOST_RESETS = 4 };
+enum { SMOLTCP_HOST_SIZE = 1552, SMOLTCP_HOST_RESETS = 4 };
 struct smoltcp_host {
     union { uint64_t opaque[SMOLTCP_HOST_SIZE / 8]; long double aligned; } memory;
     uint64_t mark; /* of a host that init made here */
@@ -78,11 +78,12 @@ struct smoltcp_guards { int64_t handshake, closing, window, timeout; };
  * speaks. segment, datagram, message: of TCP, UDP, ICMP, with a wrong header, length or checksum. busy: a SYN for a
  * port that is served, while no socket is free. nobody: for no socket. full: a UDP datagram whose socket has no room
  * for it. Then SYNs that were answered without a socket, and acknowledgements of such answers that took a socket, or
- * that answered none. too_long: packets of sockets that were dropped, as they were longer than the MTU. unsent: what a
- * UDP, ICMP or raw socket was to send, where no own address has the destination's version, or it is no such packet. */
+ * that answered none. too_many: of a source that has as many connections as it may. too_long: packets of sockets that
+ * were dropped, as they were longer than the MTU. unsent: what a UDP, ICMP or raw socket was to send, where no own
+ * address has the destination's version, or it is no such packet. */
 struct smoltcp_counters {
     uint64_t malformed, source, destination, protocol, segment, datagram, message, busy, nobody, full;
-    uint64_t cookies_sent, cookies_taken, cookies_wrong, too_long, unsent;
+    uint64_t cookies_sent, cookies_taken, cookies_wrong, too_many, too_long, unsent;
 };
 
 /* The size of a host that the library has, in bytes. */
@@ -135,6 +136,19 @@ int64_t smoltcp_host_set_syn_cookies(struct smoltcp_host *host, const struct smo
  * Errors: SMOLTCP_ERROR_NULL. */
 int64_t smoltcp_host_stop_syn_cookies(struct smoltcp_host *host);
 
+/* From the next packet on one source has so many TCP connections at most: an address of IPv4, or 64 bits of one of IPv6
+ * (in ::/64 each address); 0, as in a new host, allows any number. Those in TIME-WAIT and those that were opened here
+ * count, too. A SYN that would begin one more is dropped, and counted as too_many.
+ *
+ * Errors: SMOLTCP_ERROR_NULL. */
+int64_t smoltcp_host_set_most_of_source(struct smoltcp_host *host, size_t most);
+
+/* Sets the key by which sources share the limits of RSTs and ICMP errors: a random number, which nobody can guess. In a
+ * new host it is a constant.
+ *
+ * Errors: SMOLTCP_ERROR_NULL. */
+int64_t smoltcp_host_set_answer_key(struct smoltcp_host *host, uint64_t key);
+
 /* Joins a group: packets to it are taken then, for UDP and raw sockets. Nobody is told of it by IGMP or MLD.
  * SMOLTCP_ERROR_ADDRESS where the address is none of a group, SMOLTCP_ERROR_ROOM where four others were joined.
  *
@@ -154,8 +168,8 @@ int64_t smoltcp_host_counters(const struct smoltcp_host *host, struct smoltcp_co
 /* Takes an IP packet that arrives at this moment, in microseconds, within 2^60 of zero (one that is further away counts
  * as the nearest of these), of a clock that never goes back. The answer is the length of the packet that answers it,
  * which stands at the beginning of reply, or 0 for none. RSTs go out for segments, and ICMP errors for packets, that
- * nobody takes, a hundred of each in a second at most. SMOLTCP_ERROR_ROOM where reply is shorter than the MTU, or than
- * SMOLTCP_REPLY_ROOM bytes; nothing happens then.
+ * nobody takes, of each at most a hundred to a source in a second. SMOLTCP_ERROR_ROOM where reply is shorter than the
+ * MTU, or than SMOLTCP_REPLY_ROOM bytes; nothing happens then.
  *
  * Errors: SMOLTCP_ERROR_ROOM, SMOLTCP_ERROR_NULL. */
 int64_t smoltcp_host_receive(struct smoltcp_host *host, int64_t now, const uint8_t *packet, size_t len, uint8_t *reply,

@@ -24,6 +24,10 @@ static inline const struct smoltcp_host *smoltcp_checked_const_host(const struct
     (smoltcp_host_set_syn_cookies)(smoltcp_checked_host((s), 0, "smoltcp_host_set_syn_cookies"), __VA_ARGS__)
 #define smoltcp_host_stop_syn_cookies(s) \
     (smoltcp_host_stop_syn_cookies)(smoltcp_checked_host((s), 0, "smoltcp_host_stop_syn_cookies"))
+#define smoltcp_host_set_most_of_source(s, ...) \
+    (smoltcp_host_set_most_of_source)(smoltcp_checked_host((s), 0, "smoltcp_host_set_most_of_source"), __VA_ARGS__)
+#define smoltcp_host_set_answer_key(s, ...) \
+    (smoltcp_host_set_answer_key)(smoltcp_checked_host((s), 0, "smoltcp_host_set_answer_key"), __VA_ARGS__)
 #define smoltcp_host_join(s, ...) \
     (smoltcp_host_join)(smoltcp_checked_host((s), 0, "smoltcp_host_join"), __VA_ARGS__)
 #define smoltcp_host_leave(s, ...) \

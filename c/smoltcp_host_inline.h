@@ -109,10 +109,22 @@ SMOLTCP_INLINE int64_t smoltcp_host_set_addresses(struct smoltcp_host *host, con
     return smoltcp_host_set_addresses_nonnull(&h, addresses, count);
 }
 
+SMOLTCP_INLINE int64_t smoltcp_host_set_answer_key(struct smoltcp_host *host, uint64_t key) {
+    struct smoltcp_host_handle h = {SMOLTCP_AT(host)};
+    if (!host) return SMOLTCP_ERROR_NULL;
+    return smoltcp_host_set_answer_key_nonnull(&h, key);
+}
+
 SMOLTCP_INLINE int64_t smoltcp_host_set_guards(struct smoltcp_host *host, const struct smoltcp_guards *guards) {
     struct smoltcp_host_handle h = {SMOLTCP_AT(host)};
     if (!host || !guards) return SMOLTCP_ERROR_NULL;
     return smoltcp_host_set_guards_nonnull(&h, guards);
+}
+
+SMOLTCP_INLINE int64_t smoltcp_host_set_most_of_source(struct smoltcp_host *host, size_t most) {
+    struct smoltcp_host_handle h = {SMOLTCP_AT(host)};
+    if (!host) return SMOLTCP_ERROR_NULL;
+    return smoltcp_host_set_most_of_source_nonnull(&h, most);
 }
 
 SMOLTCP_INLINE int64_t smoltcp_host_set_mtu(struct smoltcp_host *host, size_t mtu) {

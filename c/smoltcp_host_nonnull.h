@@ -18,7 +18,7 @@ struct smoltcp_socket_at { uint8_t *at; };
 /* The sizes that the library's structs have, and those of a host. */
 #if defined(__STDC_VERSION__) && __STDC_VERSION__ >= 201112L
 _Static_assert(sizeof(struct smoltcp_cidr) == 22, "cidr");
-_Static_assert(sizeof(struct smoltcp_counters) == 120, "counters");
+_Static_assert(sizeof(struct smoltcp_counters) == 128, "counters");
 _Static_assert(sizeof(struct smoltcp_guards) == 32, "guards");
 _Static_assert(sizeof(struct smoltcp_host_handle) == 8, "host_handle");
 _Static_assert(sizeof(struct smoltcp_key) == 32, "key");
@@ -69,7 +69,9 @@ int64_t smoltcp_host_remove_udp_nonnull(struct smoltcp_host_handle *h, const str
                                         struct smoltcp_udp_handle *room);
 int64_t smoltcp_host_set_addresses_nonnull(struct smoltcp_host_handle *h, const struct smoltcp_cidr *addresses,
                                            size_t count);
+int64_t smoltcp_host_set_answer_key_nonnull(struct smoltcp_host_handle *h, uint64_t key);
 int64_t smoltcp_host_set_guards_nonnull(struct smoltcp_host_handle *h, const struct smoltcp_guards *guards);
+int64_t smoltcp_host_set_most_of_source_nonnull(struct smoltcp_host_handle *h, size_t most);
 int64_t smoltcp_host_set_mtu_nonnull(struct smoltcp_host_handle *h, size_t mtu);
 int64_t smoltcp_host_set_syn_cookies_nonnull(struct smoltcp_host_handle *h, const struct smoltcp_key *key,
                                              size_t kept_from);

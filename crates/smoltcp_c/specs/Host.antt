@@ -87,6 +87,7 @@ counters_told c = record {
   cookies_sent = c.cookies_sent;
   cookies_taken = c.cookies_taken;
   cookies_wrong = c.cookies_wrong;
+  too_many = c.too_many;
   too_long = c.too_long;
   unsent = c.unsent;
 }

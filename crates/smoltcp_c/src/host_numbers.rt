@@ -67,6 +67,7 @@ pub struct Counters {
     pub cookies_sent: u64,
     pub cookies_taken: u64,
     pub cookies_wrong: u64,
+    pub too_many: u64,
     pub too_long: u64,
     pub unsent: u64,
 }
@@ -138,6 +139,7 @@ pub fn counters_of(c: Counted) -> Counters
         cookies_sent: c.cookies_sent,
         cookies_taken: c.cookies_taken,
         cookies_wrong: c.cookies_wrong,
+        too_many: c.too_many,
         too_long: c.too_long,
         unsent: c.unsent,
     }

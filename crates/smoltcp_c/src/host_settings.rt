@@ -1,6 +1,7 @@
 //! The settings of a host, and what it counts.
 ghost use Rattle.std.specs.Prelude.{◌≡◌, None, Some, max, min, pos};
 ghost use Rattle.host_groups.specs.Joining.{join_answer, joined, leave_answer, left};
+ghost use Rattle.net_host.specs.Limits.{keyed};
 ghost use Rattle.smoltcp_c.specs.Numbers.{address_in};
 ghost use Rattle.smoltcp_c.specs.Host.{KeepsSockets, counters_told, group_answer, guards_in, interface};
 
@@ -27,7 +28,8 @@ pub extern "C" fn smoltcp_host_set_mtu_nonnull(h: &mut HostHandle, mtu: usize) -
         × ((interface h.new).counters ≡ (interface h.old).counters)
         × ((interface h.new).guards ≡ (interface h.old).guards)
         × ((interface h.new).cookies ≡ (interface h.old).cookies)
-        × ((interface h.new).groups ≡ (interface h.old).groups) }
+        × ((interface h.new).groups ≡ (interface h.old).groups)
+        × ((interface h.new).most_of_source ≡ (interface h.old).most_of_source) }
     ensures same { KeepsSockets h.old h.new }
 {
     h.host().interface.set_mtu(mtu);
@@ -44,7 +46,8 @@ pub extern "C" fn smoltcp_host_set_guards_nonnull(h: &mut HostHandle, guards: &G
         × ((interface h.new).errors ≡ (interface h.old).errors)
         × ((interface h.new).counters ≡ (interface h.old).counters)
         × ((interface h.new).cookies ≡ (interface h.old).cookies)
-        × ((interface h.new).groups ≡ (interface h.old).groups) }
+        × ((interface h.new).groups ≡ (interface h.old).groups)
+        × ((interface h.new).most_of_source ≡ (interface h.old).most_of_source) }
     ensures same { KeepsSockets h.old h.new }
 {
     h.host().interface.set_guards(guards_in(guards));
@@ -70,7 +73,8 @@ pub extern "C" fn smoltcp_host_set_syn_cookies_nonnull(
         × ((interface h.new).errors ≡ (interface h.old).errors)
         × ((interface h.new).counters ≡ (interface h.old).counters)
         × ((interface h.new).guards ≡ (interface h.old).guards)
-        × ((interface h.new).groups ≡ (interface h.old).groups) }
+        × ((interface h.new).groups ≡ (interface h.old).groups)
+        × ((interface h.new).most_of_source ≡ (interface h.old).most_of_source) }
     ensures same { KeepsSockets h.old h.new }
 {
     let cookies = SynCookies::new(key.bytes, kept_from);
@@ -88,10 +92,51 @@ pub extern "C" fn smoltcp_host_stop_syn_cookies_nonnull(h: &mut HostHandle) -> i
         × ((interface h.new).errors ≡ (interface h.old).errors)
         × ((interface h.new).counters ≡ (interface h.old).counters)
         × ((interface h.new).guards ≡ (interface h.old).guards)
-        × ((interface h.new).groups ≡ (interface h.old).groups) }
+        × ((interface h.new).groups ≡ (interface h.old).groups)
+        × ((interface h.new).most_of_source ≡ (interface h.old).most_of_source) }
     ensures same { KeepsSockets h.old h.new }
 {
     h.host().interface.set_syn_cookies(None);
+    OK
+}
+
+/// Sets how many TCP connections one source may have, from the next packet on: an address of IPv4, or 64 bits of one of
+/// IPv6 (in `::/64` each address); 0, as in a new host, allows any number. A SYN that would begin one more is dropped, and
+/// so is what a SYN cookie would open. Answers 0.
+#[unsafe(no_mangle)]
+pub extern "C" fn smoltcp_host_set_most_of_source_nonnull(h: &mut HostHandle, most: usize) -> i64
+    ensures answer { result ≡ pos 0 }
+    ensures most { (interface h.new).most_of_source ≡ most }
+    ensures interface { ((interface h.new).inner ≡ (interface h.old).inner)
+        × ((interface h.new).turn ≡ (interface h.old).turn) × ((interface h.new).resets ≡ (interface h.old).resets)
+        × ((interface h.new).errors ≡ (interface h.old).errors)
+        × ((interface h.new).counters ≡ (interface h.old).counters)
+        × ((interface h.new).guards ≡ (interface h.old).guards)
+        × ((interface h.new).cookies ≡ (interface h.old).cookies)
+        × ((interface h.new).groups ≡ (interface h.old).groups) }
+    ensures same { KeepsSockets h.old h.new }
+{
+    h.host().interface.set_most_of_source(most);
+    OK
+}
+
+/// Sets the key by which sources share the limits of RSTs and ICMP errors: a random number, which nobody can guess. In a
+/// new host it is a constant. Answers 0.
+#[unsafe(no_mangle)]
+pub extern "C" fn smoltcp_host_set_answer_key_nonnull(h: &mut HostHandle, key: u64) -> i64
+    ensures answer { result ≡ pos 0 }
+    ensures resets { (interface h.new).resets ≡ keyed key (interface h.old).resets }
+    ensures errors { (interface h.new).errors ≡ keyed key (interface h.old).errors }
+    ensures interface { ((interface h.new).inner ≡ (interface h.old).inner)
+        × ((interface h.new).turn ≡ (interface h.old).turn)
+        × ((interface h.new).counters ≡ (interface h.old).counters)
+        × ((interface h.new).guards ≡ (interface h.old).guards)
+        × ((interface h.new).cookies ≡ (interface h.old).cookies)
+        × ((interface h.new).groups ≡ (interface h.old).groups)
+        × ((interface h.new).most_of_source ≡ (interface h.old).most_of_source) }
+    ensures same { KeepsSockets h.old h.new }
+{
+    h.host().interface.set_answer_key(key);
     OK
 }
 
