@@ -29,7 +29,7 @@ use Rattle.sock_tcp.specs.declared.state.State.{State}
 use Rattle.sock_tcp.specs.declared.state.State.TheVariants as state
 use Rattle.sock_tcp.specs.declared.tuple.Tuple.{Tuple}
 pub use Rattle.sock_tcp.specs.Due.{window_field}
-pub use Rattle.sock_tcp.specs.Rfc.Pipe.{again_from}
+pub use Rattle.sock_tcp.specs.Rfc.Pipe.{again_from, hole_from}
 
 -- ---- the payload
 
@@ -50,7 +50,8 @@ is_probing v now =
 -- the next hole to be sent again (RFC 6675, section 4, NextSeg), or the segment that is sent again as a probe (RFC
 -- 8985, section 7.3)
 abbrev pub next_hole : Recovery → Scoreboard → TcpSeqNumber → Option Hole
-next_hole (recovery.Fast point high_rxt resent_at acked) k una = hole_behind k (again_from high_rxt una)
+next_hole (recovery.Fast point high_rxt resent_at acked trailed una_lost) k una =
+    hole_behind k (hole_from una_lost high_rxt una)
 next_hole (recovery.Probe start end again) k una = Some (record { start = seq_sub start una; end = seq_sub end una })
 next_hole r k una = None
 

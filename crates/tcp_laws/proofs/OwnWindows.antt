@@ -168,7 +168,7 @@ module _ (una nxt : TcpSeqNumber) (una_small : una.0 < 2 ^ 32) (nxt_small : nxt.
   highest_further : (r : Recovery) → IsNumbered r → seq_sub nxt una ≤ seq_sub (highest_of r nxt) una
   highest_further recovery.Open h = omega arith
   highest_further (recovery.Probe start end again) h = omega arith
-  highest_further (recovery.Fast point high_rxt resent_at acked) h = later_further point h
+  highest_further (recovery.Fast point high_rxt resent_at acked trailed una_lost) h = later_further point h
   highest_further (recovery.Timeout point) h = later_further point h
 
   not_behind : (m : ℕ) → seq_sub nxt una ≤ m → m ≤ 2 ^ 30 + 1 → is_before (seq_add una m) nxt ≡ false
