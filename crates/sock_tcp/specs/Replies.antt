@@ -1,6 +1,6 @@
 -- The segments that answer others.
 use Rattle.std.specs.Prelude.{ℕ, ◌≡◌, ⊤, [], ◌∷◌, ◌+◌, List, length, slice_get, Option, Some, None, option_map}
-use Rattle.std.specs.Prelude.{if◌then◌else◌}
+use Rattle.std.specs.Prelude.{Bool, false, ◌==◌, ◌||◌, if◌then◌else◌}
 use Rattle.ip_wire.specs.IpHeader.{ip_header, src_addr_of, dst_addr_of}
 use Rattle.ip_wire.specs.declared.protocol.IpProtocol.TheVariants as protocol
 use Rattle.ip_wire.specs.declared.repr.IpRepr.{IpRepr}
@@ -63,13 +63,35 @@ chosen_range rs next (Some number) = first_of (range_around rs (seq_sub number n
 abbrev pub wire_edges : TcpSeqNumber → ℕ × ℕ → ℕ × ℕ
 wire_edges next r = ((seq_add next r.0).0, (seq_add next r.1).0)
 
--- the range that tells a peer which permits it what is held
-unfoldable pub sack_range : View → Option (ℕ × ℕ)
-sack_range v =
+-- they begin at the same place
+abbrev pub is_same : Option (ℕ × ℕ) → Option (ℕ × ℕ) → Bool
+is_same (Some r) (Some s) = r.0 == s.0
+is_same r s = false
+
+-- the first range beside the chosen one, and the one behind that
+abbrev pub second_range : Option (ℕ × ℕ) → List (ℕ × ℕ) → Option (ℕ × ℕ)
+second_range c rs = if is_same c (slice_get rs 0) then slice_get rs 1 else slice_get rs 0
+
+abbrev pub third_range : Option (ℕ × ℕ) → List (ℕ × ℕ) → Option (ℕ × ℕ)
+third_range c rs =
+    if is_same c (slice_get rs 0) || is_same c (slice_get rs 1) then slice_get rs 2 else slice_get rs 1
+
+-- by smoltcp's rules the chosen one alone; by the RFCs' up to three, the chosen one first (RFC 2018, section 4)
+abbrev pub told_by : Rules → TcpSeqNumber → Option (ℕ × ℕ) → List (ℕ × ℕ) → List (Option (ℕ × ℕ))
+told_by rules.Smoltcp next c rs = option_map (wire_edges next) c ∷ None ∷ None ∷ []
+told_by rules.Rfc next c rs =
+    option_map (wire_edges next) c ∷ option_map (wire_edges next) (second_range c rs)
+    ∷ option_map (wire_edges next) (third_range c rs) ∷ []
+
+abbrev pub told_of : Rules → TcpSeqNumber → Option TcpSeqNumber → List (ℕ × ℕ) → List (Option (ℕ × ℕ))
+told_of r next last rs = told_by r next (chosen_range rs next last) rs
+
+-- the ranges that tell a peer which permits it what is held
+unfoldable pub sack_ranges : View → List (Option (ℕ × ℕ))
+sack_ranges v =
     if v.remote_has_sack
-    then option_map (wire_edges (next_ack v))
-    (chosen_range (edges (ranges_of v.rx_buffer.held)) (next_ack v) v.local_rx_last_seq)
-    else None
+    then told_of v.rules (next_ack v) v.local_rx_last_seq (edges (ranges_of v.rx_buffer.held))
+    else None ∷ None ∷ None ∷ []
 
 unfoldable pub ack_segment : View → Segment → Segment
 ack_segment v s =
@@ -77,7 +99,7 @@ ack_segment v s =
       seq_number = v.remote_last_seq;
       ack_number = Some (next_ack v);
       window_len = window_field v;
-      sack_ranges = sack_range v ∷ None ∷ None ∷ [];
+      sack_ranges = sack_ranges v;
     }
 
 -- its acknowledgement and window are the last sent

@@ -22,7 +22,7 @@ use Rattle.sock_tcp.specs.Begin.{before_emit, peer_of}
 use Rattle.sock_tcp.specs.Content.{Sending, content, emission_kind, filled, of_kind, plain_segment, sent_as}
 use Rattle.sock_tcp.specs.Closing.{closed_from}
 use Rattle.sock_tcp.specs.Process.{Outcome, ack_sent, after_advance, by_verdict, bytes_taken, challenged, close_restarted, cut_inside, gap_answered, has_window, outside, outside_by, processed_by, processed_inside, stopped, tested_by, tuple_of, without_place}
-use Rattle.sock_tcp.specs.Replies.{ack_kept, ack_segment, chosen_range, first_of, sack_range, wire_edges}
+use Rattle.sock_tcp.specs.Replies.{ack_kept, ack_segment, chosen_range, first_of, is_same, sack_ranges, second_range, third_range, told_by, told_of, wire_edges}
 use Rattle.sock_tcp.specs.Rfc.Checks.{verdict_by}
 use Rattle.sock_tcp.specs.Rfc.Recovery.{before_of, recovered, recovered_by}
 use Rattle.sock_tcp.specs.Rfc.Refused.{refused}
@@ -101,17 +101,40 @@ chosen_of hs rs nxt (Some n) a = first_of_them hs (range_around rs (seq_sub n nx
 abbrev Says : Outcome → Type 0
 Says o = TellsHeld o.view o.reply
 
+-- beside the chosen one: any two of them
+if_of : (hs : List (Option ℕ)) (b : Bool) (r s : Option (ℕ × ℕ)) → AnyOf hs r → AnyOf hs s → AnyOf hs (if b then r else s)
+if_of hs true r s a b = a
+if_of hs false r s a b = b
+
 module _ (s : Segment) where
   acknowledges_held : (v : View) → AllHeld v (ack_segment v s).sack_ranges
-  unfolding ack_segment sack_range
+  unfolding ack_segment sack_ranges
   acknowledges_held v = go v.remote_has_sack
     where
       hs : List (Option ℕ)
       hs = v.rx_buffer.held
 
-      told : (o : Option (ℕ × ℕ)) → AnyOf hs o → AllHeld v (option_map (wire_edges (next_ack v)) o ∷ None ∷ None ∷ [])
-      told None a = tt
-      told (Some r) a = (
+      rs : List (ℕ × ℕ)
+      rs = edges (ranges_of hs)
+
+      all : AllOf hs rs
+      all = let a = ranges_are hs in all_of hs 0 (ranges_of hs) a.0 (λ k e. sym (a.1 k) ∙ e)
+
+      c : Option (ℕ × ℕ)
+      c = chosen_range rs (next_ack v) v.local_rx_last_seq
+
+      chosen : AnyOf hs c
+      chosen = chosen_of hs rs (next_ack v) v.local_rx_last_seq all
+
+      second : AnyOf hs (second_range c rs)
+      second = if_of hs (is_same c (slice_get rs 0)) (slice_get rs 1) (slice_get rs 0) (got_of hs rs 1 all) (got_of hs rs 0 all)
+
+      third : AnyOf hs (third_range c rs)
+      third = if_of hs (is_same c (slice_get rs 0) || is_same c (slice_get rs 1)) (slice_get rs 2) (slice_get rs 1) (got_of hs rs 2 all) (got_of hs rs 1 all)
+
+      told : (o : Option (ℕ × ℕ)) (more : List (Option (ℕ × ℕ))) → AnyOf hs o → AllHeld v more → AllHeld v (option_map (wire_edges (next_ack v)) o ∷ more)
+      told None more a b = b
+      told (Some r) more a b = (
         record {
           start = r.0;
           len = r.1 - r.0;
@@ -120,11 +143,15 @@ module _ (s : Segment) where
           ends = ap (λ n. (seq_add (next_ack v) n).0) {x = r.1} {y = r.0 + (r.1 - r.0)} (omega (arith, a.some));
           all = λ k less. a.held (r.0 + k) (omega arith) (omega (arith, a.some, less));
         },
-        tt,
+        b,
       )
 
-      go : (b : Bool) → AllHeld v ((if b then option_map (wire_edges (next_ack v)) (chosen_range (edges (ranges_of hs)) (next_ack v) v.local_rx_last_seq) else None) ∷ None ∷ None ∷ [])
-      go true = let a = ranges_are hs in told _ (chosen_of hs (edges (ranges_of hs)) (next_ack v) v.local_rx_last_seq (all_of hs 0 (ranges_of hs) a.0 (λ k e. sym (a.1 k) ∙ e)))
+      by : (r : Rules) → AllHeld v (told_by r (next_ack v) c rs)
+      by rules.Smoltcp = told c (None ∷ None ∷ []) chosen tt
+      by rules.Rfc = told c _ chosen (told (second_range c rs) _ second (told (third_range c rs) [] third tt))
+
+      go : (b : Bool) → AllHeld v (if b then told_of v.rules (next_ack v) v.local_rx_last_seq rs else None ∷ None ∷ None ∷ [])
+      go true = by v.rules
       go false = tt
 
   acked_says : (w : View) → Says (ack_sent w s)
