@@ -13,6 +13,7 @@ use Rattle.control_wire.specs.declared.tcp.TcpControl.TheVariants as control
 use Rattle.control_wire.specs.declared.tcp.TcpTimestampRepr.{TcpTimestampRepr}
 use Rattle.sock_core.specs.Facts.{Facts}
 use Rattle.sock_tcp.specs.Due.{is_closing, own_mss, effective_mss, flight, congestion_left}
+use Rattle.sock_tcp.specs.Rfc.OwnWindow.{kept_field}
 use Rattle.sock_tcp.specs.Rfc.Scoreboard.{hole_behind, hole_number, hole_size, hole_start}
 use Rattle.sock_tcp.specs.Timers.{is_keep_alive_over, is_probe_over}
 use Rattle.sock_tcp.specs.View.{View, moment_of}
@@ -177,9 +178,20 @@ emission_kind v now s =
     if is_probing v now then kind.Probe
     else (if is_keep_alive_over v.timer now && is_empty_segment s then kind.KeepAlive else kind.Plain)
 
+-- the window of a keep-alive does not count as told: by the RFCs' rules it ends where the one does that was told last, so
+-- that no later segment tells less (RFC 9293, section 3.8.6)
+abbrev pub aside_field : Rules → View → ℕ → ℕ
+aside_field rules.Smoltcp v field = field
+aside_field rules.Rfc v field = kept_field v
+
 -- a keep-alive is one zero byte before SND.UNA (RFC 1122, section 4.2.3.6)
 abbrev pub of_kind : Kind → View → Segment → Segment
-of_kind kind.KeepAlive v s = record s { seq_number = seq_minus v.local_seq_no 1; payload = 0 ∷ [] }
+of_kind kind.KeepAlive v s =
+    record s {
+      seq_number = seq_minus v.local_seq_no 1;
+      window_len = aside_field v.rules v s.window_len;
+      payload = 0 ∷ [];
+    }
 of_kind _ v s = s
 
 -- ---- the whole

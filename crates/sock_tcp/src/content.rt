@@ -12,7 +12,7 @@ ghost use Rattle.sock_tcp.specs.Due.{flight};
 ghost use Rattle.sock_tcp.specs.Content.{window_left, is_probing, hole_of, hole_within, resent_size, size_of};
 ghost use Rattle.sock_tcp.specs.Content.{offset_of, number_of, asked};
 ghost use Rattle.sock_tcp.specs.Content.{timestamp_of, plain_segment, with_syn, syn, syn_ack, data_control, with_data};
-ghost use Rattle.sock_tcp.specs.Content.{filled, emission_kind, of_kind, hop_limit_of, sending, finished, content};
+ghost use Rattle.sock_tcp.specs.Content.{aside_field, filled, emission_kind, of_kind, hop_limit_of, sending, finished, content};
 
 use crate::control_block::ControlBlock;
 use crate::due::own_mss;
@@ -295,12 +295,23 @@ impl<'a> ControlBlock<'a> {
         }
     }
 
+    // The window of a keep-alive, which does not count as told: by the RFCs' rules no more than was told last.
+    fn aside_field(&self, field: u16) -> u16
+        ensures { result ≡ aside_field self.now.rules self.now field }
+    {
+        match self.rules {
+            Rules::Smoltcp => field,
+            Rules::Rfc => self.kept_field(),
+        }
+    }
+
     // One zero byte before SND.UNA.
     fn fill_keep_alive(&self, repr: &mut TcpRepr<'_>)
         ensures segment { segment_of repr.new ≡ of_kind Kind.KeepAlive self.now (segment_of repr.old) }
         ensures payload { length repr.new.payload.now ≡ 1 }
     {
         repr.seq_number = self.local_seq_no.minus(1);
+        repr.window_len = self.aside_field(repr.window_len);
         repr.payload = &[0];
     }
 
