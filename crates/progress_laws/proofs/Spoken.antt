@@ -41,7 +41,7 @@ use Rattle.tcp_laws.specs.Polling.{IsReached}
 use Rattle.progress_laws.specs.Delivery.{HasSaid, HearsOf, ProbesNext}
 use Rattle.progress_laws.specs.Speech.{FromUna, KeepsAlive, Probes, SendsOk, Speech}
 pub use Rattle.progress_laws.proofs.Hears.{IsSaid}
-use Rattle.progress_laws.proofs.Begins.{Alike, beginning, carries_runs, content_is, dispatch_reached, goes_out, readied_alike, segment_for}
+use Rattle.progress_laws.proofs.Begins.{Alike, beginning, carries_runs, content_is, dispatch_reached, goes_out, readied_alike, segment_for, told_for}
 use Rattle.progress_laws.proofs.Sends.{smoltcp_field}
 
 -- ---- what a dispatch leaves alone
@@ -164,7 +164,7 @@ module _ (t : Tuple) (f : Facts) (v : View) (out : Sending) (u : View) (h : HasS
   o = goes_out v t f h.on (carries_runs v.state v.synack_paused h.carries) out u h.dispatch
 
   abbrev g : Segment
-  g = segment_for b t o.stamp o.bytes
+  g = told_for b t f o.stamp o.bytes
 
   abbrev k : Kind
   k = emission_kind b now g

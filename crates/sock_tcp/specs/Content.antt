@@ -12,7 +12,7 @@ use Rattle.control_wire.specs.declared.tcp.TcpControl.{TcpControl}
 use Rattle.control_wire.specs.declared.tcp.TcpControl.TheVariants as control
 use Rattle.control_wire.specs.declared.tcp.TcpTimestampRepr.{TcpTimestampRepr}
 use Rattle.sock_core.specs.Facts.{Facts}
-use Rattle.sock_tcp.specs.Due.{is_closing, own_mss, effective_mss, flight, congestion_left}
+use Rattle.sock_tcp.specs.Due.{is_closing, own_mss, ranges_or, effective_mss, flight, congestion_left}
 use Rattle.sock_tcp.specs.Rfc.OwnWindow.{kept_field}
 use Rattle.sock_tcp.specs.Rfc.Scoreboard.{hole_behind, hole_number, hole_size, hole_start}
 use Rattle.sock_tcp.specs.Timers.{is_keep_alive_over, is_probe_over}
@@ -150,6 +150,10 @@ with_data v bytes s =
       payload = bytes;
     }
 
+-- what is held beside it, where it tells that
+abbrev pub with_ranges : View → Tuple → Facts → Segment → Segment
+with_ranges v t f s = record s { sack_ranges = ranges_or v t f s.sack_ranges }
+
 abbrev pub syn : View → Tuple → Facts → Segment → Segment
 syn v t f s =
     record (with_syn v t f s) { ack_number = None; window_scale = Some v.remote_win_shift; sack_permitted = true }
@@ -167,9 +171,9 @@ filled state.Closed v t f bytes s = Some (record s { control = control.Rst })
 filled state.Listen v t f bytes s = None
 filled state.SynSent v t f bytes s = Some (syn v t f s)
 filled state.SynReceived v t f bytes s = Some (syn_ack v t f s)
-filled state.FinWait2 v t f bytes s = Some s
+filled state.FinWait2 v t f bytes s = Some (with_ranges v t f s)
 filled state.TimeWait v t f bytes s = Some s
-filled _ v t f bytes s = Some (with_data v bytes s)
+filled _ v t f bytes s = Some (with_ranges v t f (with_data v bytes s))
 
 -- ---- probes and keep-alives
 

@@ -149,7 +149,7 @@ impl<'a> ControlBlock<'a> {
 
     // The ranges that tell a peer which permits it what is held (RFC 2018, section 4).
     #[tactic(auto, unfolding(crate::specs::Replies::sack_ranges))]
-    fn sack_ranges(&self) -> [Option<(u32, u32)>; 3]
+    pub(crate) fn sack_ranges(&self) -> [Option<(u32, u32)>; 3]
         ensures { result ≡ sack_ranges self.now }
     {
         if !self.remote_has_sack {
