@@ -21,7 +21,7 @@ use Rattle.sock_tcp.specs.Opening.{renewed}
 use Rattle.tcp_laws.proofs.Kept.{before_kept}
 use Rattle.ip_wire.specs.declared.address.IpAddress.{IpAddress}
 use Rattle.ip_wire.specs.declared.address.IpAddress.TheVariants as address
-use Rattle.sock_tcp.specs.Due.{congestion_left, effective_mss, ip_header_len, mtu_for, timestamp_room}
+use Rattle.sock_tcp.specs.Due.{congestion_left, effective_mss, ip_header_len, mtu_for, options_room}
 use Rattle.sock_tcp.proofs.Holes.{again_at_most}
 use Rattle.sock_tcp.specs.Content.{Sending, asked, offset_of, resent_size, is_probing, content, filled, emission_kind, of_kind, sent_as, carries_data, window_left, plain_segment}
 use Rattle.sock_core.specs.Emission.{Emits, EmitsAt}
@@ -67,7 +67,7 @@ content_len v t f stamp bytes n h one s e = go (filled v.state v t f bytes (plai
 mss_len : (v : View) (t : Tuple) (f : Facts) → 576 ≤ f.mtu → effective_mss v t f ≤ f.mtu
 mss_len v t f long = go t.local.addr
   where
-    go : (a : IpAddress) → min (mtu_for a f.mtu - ip_header_len a - 20) v.remote_mss - timestamp_room v.stamps ≤ f.mtu
+    go : (a : IpAddress) → min (mtu_for a f.mtu - ip_header_len a - 20) v.remote_mss - options_room v t f ≤ f.mtu
     go (address.Ipv4 a) = omega arith
     go (address.Ipv6 a) = omega (arith, long)
 

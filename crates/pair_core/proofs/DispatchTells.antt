@@ -15,7 +15,8 @@ use Rattle.sock_tcp.specs.declared.scoreboard.Scoreboard.{Scoreboard}
 use Rattle.sock_tcp.specs.declared.state.State.TheVariants as state
 use Rattle.sock_tcp.specs.declared.tuple.Tuple.{Tuple}
 use Rattle.tcp_laws.proofs.Kept.{KeptByBeginnings, KeptBySending, before_kept, left_kept}
-use Rattle.tcp_laws.proofs.Telling.{content_says, none_told}
+use Rattle.tcp_laws.proofs.Telling.{content_says, held_told, sending_holds}
+use Rattle.tcp_laws.specs.Telling.{AllHeld}
 use Rattle.pair_core.specs.Captures.{Records, SendsFrom, SocketDispatches}
 use Rattle.pair_core.specs.Holding.{segment_at}
 use Rattle.pair_core.specs.Moments.{facts_of}
@@ -94,51 +95,49 @@ dispatch_stays tells source v w f fail r d = then v (before_emit v f).view w (be
     from None u d = subst (Stays u) (sym d.1) (inl (same u))
     from (Some t) u d = subst (Stays u) (sym d.view) (left_kept (Stays u) (moment_of f) (sendings u (moment_of f)) (content u t f d.stamp d.bytes) (not fail) u (inl (same u)))
 
--- ---- what is recorded of it tells nothing
+-- ---- what is recorded of it tells what the socket holds then
 
-abbrev SentNothing : Sent → Type 0
-SentNothing (sent.Emitted h p) = (segment_at h p.items).sack_ranges ≡ none_told
-SentNothing _ = Unit {0}
+abbrev SentHeld : View → Sent → Type 0
+SentHeld w (sent.Emitted h p) = AllHeld w (segment_at h p.items).sack_ranges
+SentHeld w _ = Unit {0}
 
-recorded : (v : View) (fail : Bool) (o : Option Sending) (r : Sent) → ((c : Sending) → Some c ≡ o → c.segment.sack_ranges ≡ none_told) → Records fail (outgoing v o) r → SentNothing r
-recorded v fail None r says h = subst SentNothing (sym h) tt
-recorded v true (Some c) r says h = subst SentNothing (sym h) tt
-recorded v false (Some c) sent.Quiet says h = tt
-recorded v false (Some c) sent.Failed says h = tt
-recorded v false (Some c) (sent.Emitted x p) says h = ap (λ s. s.sack_ranges) h.0.fields ∙ says c refl
+recorded : (v w : View) (fail : Bool) (o : Option Sending) (r : Sent) → ((c : Sending) → Some c ≡ o → AllHeld w c.segment.sack_ranges) → Records fail (outgoing v o) r → SentHeld w r
+recorded v w fail None r says h = subst (SentHeld w) (sym h) tt
+recorded v w true (Some c) r says h = subst (SentHeld w) (sym h) tt
+recorded v w false (Some c) sent.Quiet says h = tt
+recorded v w false (Some c) sent.Failed says h = tt
+recorded v w false (Some c) (sent.Emitted x p) says h = subst (AllHeld w) (sym (ap (λ s. s.sack_ranges) h.0.fields)) (says c refl)
 
-dispatch_says : {G : Type 0} (tells : G → ℕ → Type 0) (source : Option G) (v w : View) (f : Facts) (fail : Bool) (r : Sent) → SocketDispatches tells source v f fail r w → SentNothing r
+dispatch_says : {G : Type 0} (tells : G → ℕ → Type 0) (source : Option G) (v w : View) (f : Facts) (fail : Bool) (r : Sent) → SocketDispatches tells source v f fail r w → SentHeld w r
 unfolding SocketDispatches
 dispatch_says tells source v w f fail r d = from (peer_of (before_emit v f)) (before_emit v f).view d
   where
-    from : (peer : Option Tuple) (u : View) → SendsFrom tells source peer u f fail r w → SentNothing r
-    from None u d = subst SentNothing (sym d.0) tt
-    from (Some t) u d = recorded u fail (content u t f d.stamp d.bytes) r (λ c e. content_says u t f d.bytes d.stamp c e) d.records
+    from : (peer : Option Tuple) (u : View) → SendsFrom tells source peer u f fail r w → SentHeld w r
+    from None u d = subst (SentHeld w) (sym d.0) tt
+    from (Some t) u d = recorded u w fail (content u t f d.stamp d.bytes) r (λ c e. subst (λ x. AllHeld x c.segment.sack_ranges) (sym d.view) (left_kept (λ x. AllHeld x c.segment.sack_ranges) (moment_of f) (sending_holds c.segment.sack_ranges (moment_of f)) (content u t f d.stamp d.bytes) (not fail) u (content_says (AllHeld u) u t f (held_told u t f) d.bytes d.stamp c e))) d.records
 
 -- ---- the event
 
--- segments of the side s that tell nothing
-abbrev pub TellNothing : Side → List StoredView → Type 0
-TellNothing s [] = Unit {0}
-TellNothing s (t ∷ ts) = (t.emitter ≡ s) × (t.segment.sack_ranges ≡ none_told) × TellNothing s ts
+-- segments of the side s, so much of whose stream was taken then, that tell what its socket holds
+abbrev pub TellHeld : Side → ℕ → View → List StoredView → Type 0
+TellHeld s taken w [] = Unit {0}
+TellHeld s taken w (t ∷ ts) = (t.emitter ≡ s) × (t.taken_at ≡ taken) × AllHeld w t.segment.sack_ranges × TellHeld s taken w ts
 
-pub record DispatchTells {G : Type 0} (s : Side) (h : HostView G) (ks : List StoredView) (k : HostView G) (ms : List StoredView) : Type 0 where
-  pub more : List StoredView
-  pub stored : ms ≡ ks ++ more
-  pub nothing : TellNothing s more
+pub record DispatchTells {G : Type 0} (h k : HostView G) : Type 0 where
   pub stays : Stays h.control_block k.control_block
   pub host : k ≡ record h { control_block = k.control_block }
 
-stored_nothing : (s : Side) (r : Sent) (released taken : ℕ) → SentNothing r → TellNothing s (stored_at s r released taken)
-stored_nothing s sent.Quiet released taken h = tt
-stored_nothing s sent.Failed released taken h = tt
-stored_nothing s (sent.Emitted x p) released taken h = (refl, h, tt)
+stored_held : (s : Side) (w : View) (r : Sent) (released taken : ℕ) → SentHeld w r → TellHeld s taken w (stored_at s r released taken)
+stored_held s w sent.Quiet released taken h = tt
+stored_held s w sent.Failed released taken h = tt
+stored_held s w (sent.Emitted x p) released taken h = (refl, refl, h, tt)
 
-pub dispatch_tells : {G : Type 0} (tells : G → ℕ → Type 0) (s : Side) (m : Moment) (fail : Bool) (o : Outcome) (h k : HostView G) (ks ms : List StoredView) → Dispatches tells s m fail o h ks k ms → DispatchTells s h ks k ms
+pub dispatch_tells : {G : Type 0} (tells : G → ℕ → Type 0) (s : Side) (m : Moment) (fail : Bool) (o : Outcome) (h k : HostView G) (ks ms : List StoredView) → Dispatches tells s m fail o h ks k ms → DispatchTells h k
 dispatch_tells tells s m fail o h k ks ms d = record {
-  more = stored_at s d.sent h.released h.taken;
-  stored = d.stored;
-  nothing = stored_nothing s d.sent h.released h.taken (dispatch_says tells h.source h.control_block k.control_block (facts_of m) fail d.sent d.does.socket);
   stays = dispatch_stays tells h.source h.control_block k.control_block (facts_of m) fail d.sent d.does.socket;
   host = d.does.same;
 }
+
+-- what it stores tells what the socket holds then
+pub dispatch_held : {G : Type 0} (tells : G → ℕ → Type 0) (s : Side) (m : Moment) (fail : Bool) (o : Outcome) (h k : HostView G) (ks ms : List StoredView) (d : Dispatches tells s m fail o h ks k ms) → TellHeld s h.taken k.control_block (stored_at s d.sent h.released h.taken)
+dispatch_held tells s m fail o h k ks ms d = stored_held s k.control_block d.sent h.released h.taken (dispatch_says tells h.source h.control_block k.control_block (facts_of m) fail d.sent d.does.socket)

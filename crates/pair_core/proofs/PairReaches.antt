@@ -215,7 +215,7 @@ module _ {G : Type 0} (s : Side) (h o : HostView G) (ks : List StoredView) (limi
       reach_then _ (at_view u ks) _ begins (sends_from tells source (peer_of (before_emit h.control_block f)) u w f fail r d (reach_keeps _ _ begins i))
 
 -- a dispatch of a socket without a peer stores nothing
-idle_stores : {G : Type 0} (tells : G → ℕ → Type 0) (source : Option G) (v w : View) (f : Facts) (fail : Bool) (r : Sent) → v.tuple ≡ None → SocketDispatches tells source v f fail r w → r ≡ sent.Quiet
+pub idle_stores : {G : Type 0} (tells : G → ℕ → Type 0) (source : Option G) (v w : View) (f : Facts) (fail : Bool) (r : Sent) → v.tuple ≡ None → SocketDispatches tells source v f fail r w → r ≡ sent.Quiet
 unfolding SocketDispatches
 idle_stores tells source v w f fail r e d = (subst (λ (b : Begun). SendsFrom tells source (peer_of b) b.view f fail r w) (no_peer_readies v f e) d).0
 

@@ -12,7 +12,7 @@ use Rattle.control_wire.specs.declared.tcp.TcpControl.{TcpControl}
 use Rattle.control_wire.specs.declared.tcp.TcpControl.TheVariants as control
 use Rattle.sock_core.specs.Facts.{Facts}
 use Rattle.sock_core.specs.Streams.{IsPrefix}
-use Rattle.sock_tcp.specs.Content.{Sending, asked, hole_of, number_of, offset_of, is_probing, plain_segment, with_data, data_control, syn, syn_ack, filled, emission_kind, of_kind, sent_as, content}
+use Rattle.sock_tcp.specs.Content.{Sending, asked, hole_of, number_of, offset_of, is_probing, plain_segment, with_data, with_ranges, data_control, syn, syn_ack, filled, emission_kind, of_kind, sent_as, content}
 use Rattle.sock_tcp.specs.Due.{flight, is_closing}
 use Rattle.sock_tcp.proofs.Holes.{number_at, start_within}
 use Rattle.sock_tcp.proofs.Lending.{lent_at_most, lent_beginning}
@@ -198,19 +198,28 @@ module _ (v : View) (released taken : ℕ) where
   Filled now None = Unit {0}
   Filled now (Some s) = GoesOut v released taken (of_kind (emission_kind v now s) v s)
 
+  -- what is held beside it is no matter
+  told_goes : (t : Tuple) (f : Facts) (s : Segment) → GoesOut v released taken s → GoesOut v released taken (with_ranges v t f s)
+  told_goes t f s g = record { sends = g.sends; reach = g.reach; le = g.le; ends = g.ends }
+
   module _ (b : HasSendingBounds (shown v)) (iss : HasIss (phase_of v.state)) where
     data_filled : KnowsPeer (phase_of v.state) → (is_closing v.state ≡ true → phase_of v.state ≡ FinQueued) → (t : Tuple) (f : Facts) (stamp : Option ℕ) (bytes : List ℕ) (now : Instant)
-        → IsLent v.tx_buffer (offset_of v) (asked v t f) bytes → Filled now (Some (with_data v bytes (plain_segment v t stamp)))
+        → IsLent v.tx_buffer (offset_of v) (asked v t f) bytes → Filled now (Some (with_ranges v t f (with_data v bytes (plain_segment v t stamp))))
     unfolding plain_segment
     data_filled knows closing t f stamp bytes now lent =
-        by_kinds v (λ s. GoesOut v released taken s) now (with_data v bytes (plain_segment v t stamp))
-        (data_goes v released taken b iss knows closing t f stamp bytes lent)
-        (alive_goes v released taken b iss knows (with_data v bytes (plain_segment v t stamp)) refl)
+        by_kinds v (λ s. GoesOut v released taken s) now (with_ranges v t f (with_data v bytes (plain_segment v t stamp)))
+        (told_goes t f (with_data v bytes (plain_segment v t stamp)) (data_goes v released taken b iss knows closing t f stamp bytes lent))
+        (alive_goes v released taken b iss knows (with_ranges v t f (with_data v bytes (plain_segment v t stamp))) refl)
 
     bare_filled : KnowsPeer (phase_of v.state) → (t : Tuple) (stamp : Option ℕ) (now : Instant) → Filled now (Some (plain_segment v t stamp))
     unfolding plain_segment
     bare_filled knows t stamp now =
         by_kinds v (λ s. GoesOut v released taken s) now (plain_segment v t stamp) (bare_goes v released taken b iss knows t stamp) (alive_goes v released taken b iss knows (plain_segment v t stamp) refl)
+
+    told_filled : KnowsPeer (phase_of v.state) → (t : Tuple) (f : Facts) (stamp : Option ℕ) (now : Instant) → Filled now (Some (with_ranges v t f (plain_segment v t stamp)))
+    unfolding plain_segment
+    told_filled knows t f stamp now =
+        by_kinds v (λ s. GoesOut v released taken s) now (with_ranges v t f (plain_segment v t stamp)) (told_goes t f (plain_segment v t stamp) (bare_goes v released taken b iss knows t stamp)) (alive_goes v released taken b iss knows (with_ranges v t f (plain_segment v t stamp)) refl)
 
     knows_in : (st : State) → v.state ≡ st → KnowsPeer (phase_of st) → KnowsPeer (phase_of v.state)
     knows_in st e m = subst (λ x. KnowsPeer (phase_of x)) (sym e) m
@@ -233,7 +242,7 @@ module _ (v : View) (released taken : ℕ) where
         by_kinds v (λ s. GoesOut v released taken s) now s
         (syn_goes v released taken b iss (inr (ap phase_of e)) s refl refl refl (acks_next v released taken b iss (knows_in state.SynReceived e tt) s refl))
         (λ h. let no : false ≡ true = h in absurd cc)
-    fills t f stamp bytes now lent state.FinWait2 e = bare_filled (knows_in state.FinWait2 e tt) t stamp now
+    fills t f stamp bytes now lent state.FinWait2 e = told_filled (knows_in state.FinWait2 e tt) t f stamp now
     fills t f stamp bytes now lent state.TimeWait e = bare_filled (knows_in state.TimeWait e tt) t stamp now
     fills t f stamp bytes now lent state.Established e = data_filled (knows_in state.Established e tt) (closing_in state.Established e (λ h. absurd cc)) t f stamp bytes now lent
     fills t f stamp bytes now lent state.CloseWait e = data_filled (knows_in state.CloseWait e tt) (closing_in state.CloseWait e (λ h. absurd cc)) t f stamp bytes now lent

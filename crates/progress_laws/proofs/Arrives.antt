@@ -20,7 +20,7 @@ use Rattle.sock_tcp.specs.Process.{Outcome, ack_sent, after_advance, challenged,
 use Rattle.progress_laws.specs.Smoltcp.{processed}
 use Rattle.sock_tcp.specs.Queue.{shortened}
 use Rattle.sock_tcp.specs.Queues.{can_recv, may_recv, receives, read_off, readable}
-use Rattle.sock_tcp.specs.Replies.{ack_segment, sack_range}
+use Rattle.sock_tcp.specs.Replies.{ack_segment, sack_ranges}
 use Rattle.sock_tcp.specs.Steps.{ack_counted, ack_heard, acknowledged, duplicate_counted, heard, is_duplicate, is_window_changed, released, timer_set, timestamp_taken, una_advanced, window_of, window_taken}
 use Rattle.sock_tcp.specs.Verdict.{fin_place, open_verdict, verdict_at, verdict_of}
 use Rattle.sock_tcp.specs.View.{View}
@@ -347,7 +347,7 @@ module _ (w : View) (k : TcpSeqNumber) (r : Faces w k) (now : Instant) (word : �
 
   -- and without one, a challenge: at most one a second
   pub away_empty : is_inside (receive_window w) s.seq_number (length s.payload) ≡ false → length s.payload ≡ 0 → int_lt now.micros w.challenge_ack_timer.micros ≡ false → (processed w now word ip s).reply ≡ Some (ack_segment w s)
-  unfolding processed_by outside challenged close_restarted ack_segment sack_range
+  unfolding processed_by outside challenged close_restarted ack_segment sack_ranges
   away_empty e none over = rw (passes, has, e) (by s.control bit)
     where
       later : View

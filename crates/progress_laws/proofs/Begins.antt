@@ -16,7 +16,7 @@ use Rattle.sock_core.specs.Estimator.{backed_off, retransmitted}
 use Rattle.sock_core.specs.Facts.{Facts}
 use Rattle.sock_tcp.specs.declared.rules.Rules.{Rules}
 use Rattle.sock_tcp.specs.Begin.{Begun, last_ts_set, last_ts_set_at, told_ready, readied, retransmission_begun, fast_retransmission_marked, after_timer, after_timers, is_paused, begun, begun_to, unless_paused, nothing_due, by_due, before_emit, before_emit_to, going_on, peer_of, probing_begun, timers_by}
-use Rattle.sock_tcp.specs.Content.{Sending, asked, carries_data, content, data_control, emission_kind, filled, offset_of, plain_segment, sent_as, with_data}
+use Rattle.sock_tcp.specs.Content.{Sending, asked, carries_data, content, data_control, emission_kind, filled, offset_of, plain_segment, sent_as, with_data, with_ranges}
 use Rattle.sock_tcp.specs.Due.{is_closing, is_due}
 use Rattle.sock_tcp.specs.Process.{Outcome}
 use Rattle.progress_laws.specs.Smoltcp.{processed}
@@ -318,7 +318,7 @@ module _ (v : View) (t : Tuple) (f : Facts) (h : GoesOn v t f) (c : is_paused v.
 abbrev pub lent_for : View → Tuple → Facts → List ℕ
 lent_for u t f = take (min (asked u t f) (in_one_piece u.tx_buffer.until_end (length u.tx_buffer.bytes) (offset_of u))) (drop (offset_of u) u.tx_buffer.bytes)
 
-carries : (st : State) (u : View) (p : Tuple) (f : Facts) (bytes : List ℕ) (s : Segment) → carries_data st ≡ true → filled st u p f bytes s ≡ Some (with_data u bytes s)
+carries : (st : State) (u : View) (p : Tuple) (f : Facts) (bytes : List ℕ) (s : Segment) → carries_data st ≡ true → filled st u p f bytes s ≡ Some (with_ranges u p f (with_data u bytes s))
 carries state.Established u p f bytes s c = refl
 carries state.CloseWait u p f bytes s c = refl
 carries state.FinWait1 u p f bytes s c = refl
@@ -330,7 +330,11 @@ carries _ u p f bytes s c = absurd cc
 abbrev pub segment_for : View → Tuple → Option ℕ → List ℕ → Segment
 segment_for u p stamp bytes = with_data u bytes (plain_segment u p stamp)
 
-pub content_is : (u : View) (p : Tuple) (f : Facts) (stamp : Option ℕ) (bytes : List ℕ) → carries_data u.state ≡ true → content u p f stamp bytes ≡ Some (sent_as u p (emission_kind u (moment_of f) (segment_for u p stamp bytes)) (segment_for u p stamp bytes))
+-- with what is held beside it
+abbrev pub told_for : View → Tuple → Facts → Option ℕ → List ℕ → Segment
+told_for u p f stamp bytes = with_ranges u p f (segment_for u p stamp bytes)
+
+pub content_is : (u : View) (p : Tuple) (f : Facts) (stamp : Option ℕ) (bytes : List ℕ) → carries_data u.state ≡ true → content u p f stamp bytes ≡ Some (sent_as u p (emission_kind u (moment_of f) (told_for u p f stamp bytes)) (told_for u p f stamp bytes))
 unfolding content
 content_is u p f stamp bytes c = ap (option_map (λ s. sent_as u p (emission_kind u (moment_of f) s) s)) (carries u.state u p f bytes (plain_segment u p stamp) c)
 
@@ -349,27 +353,27 @@ stamp_is u = by u.stamps
     by false = refl
 
 -- what goes out of u, with which the dispatch begins, and what is left
-pub sends_as : (v : View) (t : Tuple) (f : Facts) (on : GoesOn v t f) (runs : is_paused v.state v.synack_paused ≡ false) (u : View) → beginning v t f on runs ≡ u → carries_data u.state ≡ true → (k : Kind) → emission_kind u (moment_of f) (segment_for u t (stamp_for u) (lent_for u t f)) ≡ k → is_due u t f ≡ true
-    → DispatchesOk f v (Some (sent_as u t k (segment_for u t (stamp_for u) (lent_for u t f)))) (left_by (Some (sent_as u t k (segment_for u t (stamp_for u) (lent_for u t f)))) u (moment_of f) true)
+pub sends_as : (v : View) (t : Tuple) (f : Facts) (on : GoesOn v t f) (runs : is_paused v.state v.synack_paused ≡ false) (u : View) → beginning v t f on runs ≡ u → carries_data u.state ≡ true → (k : Kind) → emission_kind u (moment_of f) (told_for u t f (stamp_for u) (lent_for u t f)) ≡ k → is_due u t f ≡ true
+    → DispatchesOk f v (Some (sent_as u t k (told_for u t f (stamp_for u) (lent_for u t f)))) (left_by (Some (sent_as u t k (told_for u t f (stamp_for u) (lent_for u t f)))) u (moment_of f) true)
 sends_as v t f on runs u is c k e due = sends_so v t f on runs out after (ap (λ x. is_due x t f) is ∙ due) (subst (λ x. SendsOk f t x out after) (sym is) (record {
   stamp = stamp_for u;
   told = stamp_is u;
   bytes = lent_for u t f;
   lent = refl;
-  sends = sym (content_is u t f (stamp_for u) (lent_for u t f) c ∙ ap (λ k. Some (sent_as u t k (segment_for u t (stamp_for u) (lent_for u t f)))) e);
+  sends = sym (content_is u t f (stamp_for u) (lent_for u t f) c ∙ ap (λ k. Some (sent_as u t k (told_for u t f (stamp_for u) (lent_for u t f)))) e);
   view = refl;
 }))
   where
     out : Option Sending
-    out = Some (sent_as u t k (segment_for u t (stamp_for u) (lent_for u t f)))
+    out = Some (sent_as u t k (told_for u t f (stamp_for u) (lent_for u t f)))
 
     after : View
-    after = left_by (Some (sent_as u t k (segment_for u t (stamp_for u) (lent_for u t f)))) u (moment_of f) true
+    after = left_by (Some (sent_as u t k (told_for u t f (stamp_for u) (lent_for u t f)))) u (moment_of f) true
 
 -- and where it has no bytes to send any more
-pub content_waiting : (u : View) (p : Tuple) (f : Facts) (stamp : Option ℕ) (bytes : List ℕ) → u.state ≡ state.FinWait2 → segment_for u p stamp bytes ≡ plain_segment u p stamp → content u p f stamp bytes ≡ Some (sent_as u p (emission_kind u (moment_of f) (segment_for u p stamp bytes)) (segment_for u p stamp bytes))
+pub content_waiting : (u : View) (p : Tuple) (f : Facts) (stamp : Option ℕ) (bytes : List ℕ) → u.state ≡ state.FinWait2 → segment_for u p stamp bytes ≡ plain_segment u p stamp → content u p f stamp bytes ≡ Some (sent_as u p (emission_kind u (moment_of f) (told_for u p f stamp bytes)) (told_for u p f stamp bytes))
 unfolding content
-content_waiting u p f stamp bytes e same = ap (λ st. option_map (λ s. sent_as u p (emission_kind u (moment_of f) s) s) (filled st u p f bytes (plain_segment u p stamp))) e ∙ ap (λ s. Some (sent_as u p (emission_kind u (moment_of f) s) s)) (sym same)
+content_waiting u p f stamp bytes e same = ap (λ st. option_map (λ s. sent_as u p (emission_kind u (moment_of f) s) s) (filled st u p f bytes (plain_segment u p stamp))) e ∙ ap (λ s. Some (sent_as u p (emission_kind u (moment_of f) (with_ranges u p f s)) (with_ranges u p f s))) (sym same)
 
 -- its control bit is FIN, or takes no number
 fin_or_plain : (u : View) (n : ℕ) → (is_plain (data_control u n) ≡ true) ⊎ (control_len (data_control u n) ≡ 1)

@@ -34,7 +34,7 @@ use Rattle.tcp_laws.proofs.OrderedCalls.{reached_ordered}
 use Rattle.progress_laws.specs.AfterClose.{IsCloser}
 use Rattle.progress_laws.specs.InStep.{Completes, Finishes, ForAnswer, ForKeepAlive, ForNothing, ForProbe, IsReceiver, IsSender, OneWayFinishes, Rests, told}
 use Rattle.progress_laws.specs.Speech.{DispatchesOk, GoesOn}
-use Rattle.progress_laws.proofs.Begins.{carries_runs, later_moment, lent_for, segment_for, sends_as, step_reached, stamp_for}
+use Rattle.progress_laws.proofs.Begins.{carries_runs, later_moment, lent_for, segment_for, told_for, sends_as, step_reached, stamp_for}
 use Rattle.progress_laws.proofs.Rounds.{one_way_completes}
 use Rattle.progress_laws.proofs.Says.{no_probe}
 use Rattle.progress_laws.proofs.Arrives.{CountsIt, Faces, fin_counts, receives_so}
@@ -126,7 +126,7 @@ module _ (d : Option Duration) (t : Tuple) (c : View) (f : Facts) (now : Instant
   none = omega (arith, lent_at_most u.tx_buffer (offset_of u) (asked u t fa) bytes refl, no_queue)
 
   abbrev b : Segment
-  b = segment_for u t (stamp_for u) bytes
+  b = told_for u t fa (stamp_for u) bytes
 
   fin : b.control ≡ control.Fin
   fin = rw (at_end, closing) refl

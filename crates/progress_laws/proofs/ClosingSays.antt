@@ -25,7 +25,7 @@ use Rattle.tcp_laws.proofs.Sleeping.{congestion_leaves, never_waits, window_send
 use Rattle.progress_laws.specs.AfterClose.{IsCloser}
 use Rattle.progress_laws.specs.InStep.{ForAnswer, told}
 use Rattle.progress_laws.specs.Speech.{DispatchesOk, GoesOn}
-use Rattle.progress_laws.proofs.Begins.{and_no, carries_runs, dispatch_reached, lent_for, not_zero, segment_for, sends_as, stamp_for}
+use Rattle.progress_laws.proofs.Begins.{and_no, carries_runs, dispatch_reached, lent_for, not_zero, segment_for, told_for, sends_as, stamp_for}
 use Rattle.progress_laws.proofs.Hears.{IsData}
 use Rattle.progress_laws.proofs.Lends.{lent_some, mss_short, mss_some}
 use Rattle.progress_laws.proofs.Sends.{left, plain_sent, plain_timer, plain_told, smoltcp_field}
@@ -107,7 +107,7 @@ module _ (d : Option Duration) (t : Tuple) (v : View) (f : Facts) (now : Instant
   some = lent_some u.tx_buffer (offset_of u) (asked u t fa) bytes refl (omega (arith, asked_is, win_u, ft.no_flight, mss_some u t fa mtu.0 ft.mss, congestion_leaves u fr.ordered.congestion ft.no_flight)) (omega (arith, ft.start, queue, same))
 
   abbrev b : Segment
-  b = segment_for u t (stamp_for u) bytes
+  b = told_for u t fa (stamp_for u) bytes
 
   plain_kind : emission_kind u now b ≡ kind.Plain
   plain_kind = rw (ft.no_probing, no_bytes) (ap (λ c. if c then kind.KeepAlive else kind.Plain) (and_no (is_keep_alive_over u.timer now)))

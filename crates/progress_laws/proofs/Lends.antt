@@ -8,11 +8,12 @@ use Rattle.control_wire.specs.Segment.{segment_len}
 use Rattle.sock_core.specs.Facts.{Facts}
 use Rattle.sock_tcp.proofs.Lending.{lent_at_most}
 use Rattle.sock_tcp.specs.Content.{asked, carries_data, hole_of, is_probing, offset_of, resent_size}
-use Rattle.sock_tcp.specs.Due.{effective_mss, flight, ip_header_len, mtu_for, timestamp_room}
+use Rattle.sock_tcp.specs.Due.{effective_mss, flight, ip_header_len, mtu_for, options_room}
 use Rattle.sock_tcp.specs.Queue.{IsLent, Queue}
 use Rattle.sock_tcp.proofs.Holes.{again_some, start_within}
 use Rattle.sock_tcp.specs.View.{View, moment_of}
 use Rattle.sock_tcp.specs.declared.tuple.Tuple.{Tuple}
+use Rattle.tcp_laws.proofs.AckAlone.{mss_some as some_mss}
 use Rattle.tcp_laws.specs.Waking.{HasToSend}
 use Rattle.progress_laws.proofs.Begins.{fin_len, segment_for, some_or_none}
 
@@ -26,23 +27,15 @@ lent_some q o n bs lent some within = go (in_one_piece q.until_end (length q.byt
         omega (arith, long, z, some, within, length-drop o q.bytes)
 
 pub mss_some : (v : View) (t : Tuple) (f : Facts) → 68 ≤ f.mtu → 48 ≤ v.remote_mss → 0 < effective_mss v t f
-mss_some v t f mtu mss = go t.local.addr v.stamps
-  where
-    go : (a : IpAddress) (b : Bool) → 0 < min (mtu_for a f.mtu - ip_header_len a - 20) v.remote_mss - timestamp_room b
-    go (address.Ipv4 a) true = omega (arith, mtu, mss)
-    go (address.Ipv4 a) false = omega (arith, mtu, mss)
-    go (address.Ipv6 a) true = omega (arith, mtu, mss)
-    go (address.Ipv6 a) false = omega (arith, mtu, mss)
+mss_some = some_mss
 
 -- a payload is no longer than the longest packet
 pub mss_short : (v : View) (t : Tuple) (f : Facts) → f.mtu ≤ 65535 → effective_mss v t f ≤ 65535
-mss_short v t f mtu = go t.local.addr v.stamps
+mss_short v t f mtu = go t.local.addr (options_room v t f)
   where
-    go : (a : IpAddress) (b : Bool) → min (mtu_for a f.mtu - ip_header_len a - 20) v.remote_mss - timestamp_room b ≤ 65535
-    go (address.Ipv4 a) true = omega (arith, mtu)
-    go (address.Ipv4 a) false = omega (arith, mtu)
-    go (address.Ipv6 a) true = omega (arith, mtu)
-    go (address.Ipv6 a) false = omega (arith, mtu)
+    go : (a : IpAddress) (k : ℕ) → min (mtu_for a f.mtu - ip_header_len a - 20) v.remote_mss - k ≤ 65535
+    go (address.Ipv4 a) k = omega (arith, mtu)
+    go (address.Ipv6 a) k = omega (arith, mtu)
 
 module _ (u : View) (p : Tuple) (f : Facts) (stamp : Option ℕ) (bytes : List ℕ) (mtu : 68 ≤ f.mtu) (mss : 48 ≤ u.remote_mss) (carries : carries_data u.state ≡ true) (lent : IsLent u.tx_buffer (offset_of u) (asked u p f) bytes) where
   room : 0 < effective_mss u p f

@@ -32,7 +32,7 @@ use Rattle.sock_tcp.specs.declared.tuple.Tuple.{Tuple}
 use Rattle.tcp_laws.proofs.Sleeping.{smoltcp_held}
 use Rattle.progress_laws.specs.InStep.{takes_bytes, told}
 use Rattle.progress_laws.specs.Speech.{DispatchesOk, GoesOn, SendsOk}
-use Rattle.progress_laws.proofs.Begins.{smoltcp_begins, Alike, beginning, content_is, content_waiting, lent_for, readied_alike, segment_for, sends_so, stamp_for, stamp_is}
+use Rattle.progress_laws.proofs.Begins.{smoltcp_begins, Alike, beginning, content_is, content_waiting, lent_for, readied_alike, segment_for, told_for, sends_so, stamp_for, stamp_is}
 use Rattle.progress_laws.proofs.Edges.{is_earlier, is_not_before, later_stays}
 use Rattle.progress_laws.proofs.Hears.{idle_is, idle_moment}
 use Rattle.progress_laws.proofs.Says.{keep_alive_due, no_probe}
@@ -107,10 +107,10 @@ module _ (s : Tuple) (w : View) (room n : ℕ) (y : View) (f : Facts) (now : Ins
   nothing_marked = al.marked ∙ o.nothing_marked
 
   abbrev b : Segment
-  b = segment_for u s (stamp_for u) bytes
+  b = told_for u s fa (stamp_for u) bytes
 
   -- in FIN-WAIT-2 it is an acknowledgement alone
-  same_plain : b ≡ plain_segment u s (stamp_for u)
+  same_plain : segment_for u s (stamp_for u) bytes ≡ plain_segment u s (stamp_for u)
   unfolding plain_segment
   same_plain = (λ i. record (plain_segment u s (stamp_for u)) { seq_number = at i; control = no_control i; payload = no_bytes bytes none i })
     where

@@ -24,7 +24,7 @@ use Rattle.tcp_laws.proofs.OrderedCalls.{reached_ordered, readied_ordered}
 use Rattle.tcp_laws.proofs.Probing.{ProbesIn, reached_probing}
 use Rattle.progress_laws.specs.InStep.{IsSender, told}
 use Rattle.progress_laws.specs.Speech.{DispatchesOk, GoesOn, SendsOk}
-use Rattle.progress_laws.proofs.Begins.{Alike, beginning, carries_runs, content_is, dispatch_reached, lent_for, readied_alike, same_then, segment_for, sends_so, stamp_for, stamp_is, probe_alone, smoltcp_begins}
+use Rattle.progress_laws.proofs.Begins.{Alike, beginning, carries_runs, content_is, dispatch_reached, lent_for, readied_alike, same_then, segment_for, told_for, sends_so, stamp_for, stamp_is, probe_alone, smoltcp_begins}
 use Rattle.progress_laws.proofs.Edges.{same_seq}
 use Rattle.progress_laws.proofs.Hears.{IsOpenTimer}
 use Rattle.progress_laws.proofs.Lends.{probe_byte}
@@ -86,7 +86,7 @@ module _ (d : Option Duration) (t : Tuple) (v : View) (f : Facts) (now at : Inst
   one_byte = probe_byte p t (told f now) (stamp_for p) probe_bytes mtu.0 (subst (λ n. 48 ≤ n) (sym al.mss) (reached_probing v s.reached).mss) (sends_data p.state probe_may) refl unmarked probing (omega (arith, nothing_sent, queue, ap (λ (q : Queue). length q.bytes) al.same.tx))
 
   abbrev probe : Segment
-  probe = segment_for p t (stamp_for p) probe_bytes
+  probe = told_for p t (told f now) (stamp_for p) probe_bytes
 
   kind_is : emission_kind p now probe ≡ kind.Probe
   kind_is = rw probing refl

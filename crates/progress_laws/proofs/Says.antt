@@ -37,7 +37,7 @@ use Rattle.progress_laws.specs.Speech.{DispatchesOk, FromUna, IsPastTimer, Keeps
 use Rattle.progress_laws.proofs.Lends.{marked_some, probe_byte}
 use Rattle.progress_laws.proofs.Sends.{timed_rules}
 use Rattle.sock_tcp.specs.declared.rules.Rules.TheVariants as rules
-use Rattle.progress_laws.proofs.Begins.{Goes, Alike, and_no, beginning, begun_idle, carries_runs, content_is, dispatch_reached, goes, not_empty, not_zero, readied_alike, segment_for, probe_alone, marked_idle, smoltcp_begins}
+use Rattle.progress_laws.proofs.Begins.{Goes, Alike, and_no, beginning, begun_idle, carries_runs, content_is, dispatch_reached, goes, not_empty, not_zero, readied_alike, segment_for, told_for, probe_alone, marked_idle, smoltcp_begins}
 
 -- ---- a socket that has to say something
 
@@ -68,7 +68,7 @@ module _ (v u : View) (p : Tuple) (f : Facts) (stamp : Option ℕ) (bytes : List
   now = moment_of f
 
   abbrev b : Segment
-  b = segment_for u p stamp bytes
+  b = told_for u p f stamp bytes
 
   kept : Speech v (sent_as u p kind.KeepAlive b)
   kept = KeepsAlive refl (ap (λ (n : TcpSeqNumber). seq_minus n 1) una) refl
@@ -196,7 +196,7 @@ module _ (d : Duration) (t : Tuple) where
   -- what goes out of u, where v had to say something
   module _ (f : Facts) (v u : View) (out : Option Sending) (w : View) (s : HasToSay d v) (k : DispatchesOk f v out w) (o : SendsOk f t u out w) (state : u.state ≡ v.state) (tx : u.tx_buffer ≡ v.tx_buffer) (keep : u.keep_alive ≡ v.keep_alive) (ruled : u.rules ≡ v.rules) where
     abbrev g : Segment
-    g = segment_for u t o.stamp o.bytes
+    g = told_for u t f o.stamp o.bytes
 
     carries : carries_data u.state ≡ true
     carries = ap carries_data state ∙ s.carries
@@ -313,9 +313,9 @@ module _ (d : Duration) (t : Tuple) where
       quiet e = next w (still_says d f v out w s k (ap (λ (y : View). y.state) e ∙ still.same.state) (ap (λ (y : View). y.tx_buffer) e ∙ still.same.tx) (ap (λ (y : View). y.keep_alive) e ∙ still.same.keep_alive) (ap (λ (y : View). y.rules) e ∙ still.same.same_rules)) (ap (λ (y : View). y.timer) e ∙ kept) (inr (ap (λ (y : View). y.remote_last_seq) e ∙ ap (λ (y : View). y.local_seq_no) (sym e)))
 
       -- an acknowledgement alone leaves SND.NXT at SND.UNA
-      acked : (o : SendsOk f t u out w) → emission_kind u (moment_of f) (segment_for u t o.stamp o.bytes) ≡ kind.Plain → segment_len (segment_for u t o.stamp o.bytes) ≡ 0 → SpeaksWithin (suc n) w t
+      acked : (o : SendsOk f t u out w) → emission_kind u (moment_of f) (told_for u t f o.stamp o.bytes) ≡ kind.Plain → segment_len (told_for u t f o.stamp o.bytes) ≡ 0 → SpeaksWithin (suc n) w t
       acked o e none =
-          let b = segment_for u t o.stamp o.bytes in
+          let b = told_for u t f o.stamp o.bytes in
           let y : View = snd_nxt_moved (after_any u (moment_of f)) (emitted_as kind.Plain b) in
           let w_is : w ≡ y = left_plain f v u out w s k o still.same.state still.same.tx still.same.keep_alive still.same.same_rules e ∙ untimed u t (moment_of f) b none in
           let number : b.seq_number ≡ u.local_seq_no = number_again u (still.same.same_rules ∙ s.smoltcp) ∙ front_number u.pending_fast_retransmit u.local_seq_no u.remote_last_seq (inr refl) in
@@ -350,7 +350,7 @@ module _ (d : Duration) (t : Tuple) where
       sends : SendsOk f t u out w → Says v out ⊎ SpeaksWithin (suc (suc n)) w t
       sends o = elim (keeps_or_bytes v u t f o.stamp o.bytes still.same.una (still.same.same_rules ∙ s.smoltcp) (idle_quiet v at is f h) (idle_over v at is f h)) [
         | inl h ↦ inl (said f v u out w s k o still.same.state still.same.tx still.same.keep_alive still.same.same_rules h)
-        | inr q ↦ inr (again_says n w (after (moment_of f) (rto_of u.rtte)) (plain_says f v u out w s k o still.same.state still.same.tx still.same.keep_alive still.same.same_rules q.0) (ap (λ (z : View). z.timer) (left_plain f v u out w s k o still.same.state still.same.tx still.same.keep_alive still.same.same_rules q.0) ∙ timed u t (moment_of f) (segment_for u t o.stamp o.bytes) (still.same.same_rules ∙ s.smoltcp) q.1 ∙ ap (λ tm. retransmit_unless_set tm (moment_of f) u.rtte) waited_for))
+        | inr q ↦ inr (again_says n w (after (moment_of f) (rto_of u.rtte)) (plain_says f v u out w s k o still.same.state still.same.tx still.same.keep_alive still.same.same_rules q.0) (ap (λ (z : View). z.timer) (left_plain f v u out w s k o still.same.state still.same.tx still.same.keep_alive still.same.same_rules q.0) ∙ timed u t (moment_of f) (told_for u t f o.stamp o.bytes) (still.same.same_rules ∙ s.smoltcp) q.1 ∙ ap (λ tm. retransmit_unless_set tm (moment_of f) u.rtte) waited_for))
       ]
 
   -- a fast retransmission stands at SND.UNA, or its mark is left for the next segment
@@ -414,7 +414,7 @@ module _ (d : Duration) (t : Tuple) where
       same_flight : flight u ≡ flight v
       same_flight = ap₂ seq_sub still.nxt still.same.una
 
-      probed : (o : SendsOk f t u out w) → u.pending_fast_retransmit ≡ false → (flight u < length u.tx_buffer.bytes → length o.bytes ≡ 1) → Speech v (sent_as u t kind.Probe (segment_for u t o.stamp o.bytes))
+      probed : (o : SendsOk f t u out w) → u.pending_fast_retransmit ≡ false → (flight u < length u.tx_buffer.bytes → length o.bytes ≡ 1) → Speech v (sent_as u t kind.Probe (told_for u t f o.stamp o.bytes))
       probed o m byte = Probes refl (number_again u (still.same.same_rules ∙ s.smoltcp) ∙ ap (λ c. if c then u.local_seq_no else u.remote_last_seq) m ∙ still.nxt) (subst (λ q. q < length v.tx_buffer.bytes → length o.bytes ≡ 1) same_flight (subst (λ (q : Queue). flight u < length q.bytes → length o.bytes ≡ 1) still.same.tx byte))
 
       sends : (o : SendsOk f t u out w) → IsProbing u → Says v out
@@ -430,7 +430,7 @@ module _ (d : Duration) (t : Tuple) where
           ]
           marked false m =
               let probing : is_probing u (moment_of f) ≡ true = rw (carries_on, m, shut, over) refl in
-              let b = segment_for u t o.stamp o.bytes in
+              let b = told_for u t f o.stamp o.bytes in
               said f v u out w s k o still.same.state still.same.tx still.same.keep_alive still.same.same_rules (as_kind v u t f o.stamp o.bytes still.same.una (still.same.same_rules ∙ s.smoltcp) kind.Probe (rw probing refl) (probed o m (probe_byte u t f o.stamp o.bytes lawful.1.0 i.mss carries_on o.lent m probing)))
 
       by : Goes v t f h.on (carries_runs v.state v.synack_paused s.carries) out w → Says v out

@@ -34,7 +34,7 @@ use Rattle.tcp_laws.proofs.Sleeping.{congestion_leaves, never_waits, window_send
 use Rattle.tcp_laws.proofs.Probing.{reached_probing}
 use Rattle.progress_laws.specs.InStep.{ForAnswer, ForKeepAlive, ForNothing, ForProbe, IsSender, Rests, told}
 use Rattle.progress_laws.specs.Speech.{DispatchesOk, GoesOn}
-use Rattle.progress_laws.proofs.Begins.{smoltcp_begins, Same, beginning, begun_idle, carries_runs, dispatch_reached, lent_for, not_zero, quiet_so, readied_alike, same_again, same_then, segment_for, sends_as, stamp_for}
+use Rattle.progress_laws.proofs.Begins.{smoltcp_begins, Same, beginning, begun_idle, carries_runs, dispatch_reached, lent_for, not_zero, quiet_so, readied_alike, same_again, same_then, segment_for, told_for, sends_as, stamp_for}
 use Rattle.progress_laws.proofs.Edges.{is_earlier, is_not_before, later_is, later_stays}
 use Rattle.progress_laws.proofs.Hears.{IsData, IsOpenTimer, idle_is, idle_moment}
 use Rattle.progress_laws.proofs.Lends.{lent_some, mss_short, mss_some}
@@ -198,7 +198,7 @@ module _ (d : Option Duration) (t : Tuple) (v : View) (f : Facts) (now : Instant
   asked_is = asked_so u t f now ft (sends_data u.state may)
 
   abbrev b : Segment
-  b = segment_for u t (stamp_for u) bytes
+  b = told_for u t fa (stamp_for u) bytes
 
   bit : IsData b.control
   bit = segment_bit u t (stamp_for u) bytes sends ft.nothing_marked

@@ -18,7 +18,7 @@ use Rattle.sock_tcp.specs.declared.rules.Rules.TheVariants as rules
 use Rattle.sock_tcp.specs.declared.rules.Rules.{Rules}
 use Rattle.sock_tcp.specs.Begin.{after_timer, fast_retransmission_marked, readied, retransmission_begun, probing_begun, timers_by}
 use Rattle.sock_tcp.specs.Rfc.TailLoss.{probes_tail, probed_by, tail_probed}
-use Rattle.sock_tcp.specs.Content.{Sending, asked, carries_data, data_control, emission_kind, hole_of, offset_of, plain_segment, sent_as}
+use Rattle.sock_tcp.specs.Content.{Sending, aside_field, asked, carries_data, data_control, emission_kind, hole_of, offset_of, plain_segment, sent_as}
 use Rattle.sock_tcp.specs.Due.{flight, is_closing, window_field}
 use Rattle.sock_tcp.specs.Rfc.OwnWindow.{space_field}
 use Rattle.sock_tcp.specs.Queue.{Queue}
@@ -41,7 +41,7 @@ use Rattle.tcp_laws.specs.Polling.{IsReached}
 use Rattle.progress_laws.specs.Delivery.{HasSaid, HearsOf, ProbesNext}
 use Rattle.progress_laws.specs.Speech.{FromUna, KeepsAlive, Probes, SendsOk, Speech}
 pub use Rattle.progress_laws.proofs.Hears.{IsSaid}
-use Rattle.progress_laws.proofs.Begins.{Alike, beginning, carries_runs, content_is, dispatch_reached, goes_out, readied_alike, segment_for}
+use Rattle.progress_laws.proofs.Begins.{Alike, beginning, carries_runs, content_is, dispatch_reached, goes_out, readied_alike, segment_for, told_for}
 use Rattle.progress_laws.proofs.Sends.{smoltcp_field}
 
 -- ---- what a dispatch leaves alone
@@ -164,7 +164,7 @@ module _ (t : Tuple) (f : Facts) (v : View) (out : Sending) (u : View) (h : HasS
   o = goes_out v t f h.on (carries_runs v.state v.synack_paused h.carries) out u h.dispatch
 
   abbrev g : Segment
-  g = segment_for b t o.stamp o.bytes
+  g = told_for b t f o.stamp o.bytes
 
   abbrev k : Kind
   k = emission_kind b now g
@@ -187,15 +187,15 @@ module _ (t : Tuple) (f : Facts) (v : View) (out : Sending) (u : View) (h : HasS
   pub ack : out.segment.ack_number ≡ Some (next_ack v)
   ack = ap (λ (s : Sending). s.segment.ack_number) out_is ∙ said_ack k ∙ (λ i. Some (seq_add (begun_still.rcv i) (length ((begun_still.rx i).bytes))))
 
-  said_field : (k : Kind) → (sent_as b t k g).segment.window_len ≡ window_field b
+  said_field : b.rules ≡ rules.Smoltcp → (k : Kind) → (sent_as b t k g).segment.window_len ≡ window_field b
   unfolding plain_segment
-  said_field kind.KeepAlive = refl
-  said_field kind.Plain = refl
-  said_field kind.Probe = refl
+  said_field is kind.KeepAlive = ap (λ r. aside_field r b (window_field b)) is
+  said_field is kind.Plain = refl
+  said_field is kind.Probe = refl
 
   -- it tells the window that v tells now
   pub field : v.rules ≡ rules.Smoltcp → out.segment.window_len ≡ space_field v
-  field smoltcp = ap (λ (s : Sending). s.segment.window_len) out_is ∙ said_field k ∙ smoltcp_field b (begun_still.same_rules ∙ smoltcp) ∙ (λ i. min (length ((begun_still.rx i).held) / 2 ^ begun_still.shift i) 65535)
+  field smoltcp = ap (λ (s : Sending). s.segment.window_len) out_is ∙ said_field (begun_still.same_rules ∙ smoltcp) k ∙ smoltcp_field b (begun_still.same_rules ∙ smoltcp) ∙ (λ i. min (length ((begun_still.rx i).held) / 2 ^ begun_still.shift i) 65535)
 
   said_bit : (k : Kind) → IsSaid (sent_as b t k g).segment.control
   said_bit kind.KeepAlive = data_said b (length o.bytes)

@@ -34,7 +34,7 @@ use Rattle.sock_tcp.proofs.Holes.{again_at_most}
 use Rattle.progress_laws.specs.Agreement.{ForAnswer, ForKeepAlive, ForProbe, ForRepeat, IsSpeaker, Waits}
 use Rattle.progress_laws.specs.InStep.{told}
 use Rattle.progress_laws.specs.Speech.{DispatchesOk, GoesOn}
-use Rattle.progress_laws.proofs.Begins.{Alike, Same, and_no, beginning, begun_idle, carries_runs, fin_len, lent_for, not_empty, not_zero, quiet_so, readied_alike, same_again, same_then, segment_for, sends_as, some_or_none, timers_are, stamp_for, probe_alone, marked_idle, smoltcp_begins}
+use Rattle.progress_laws.proofs.Begins.{Alike, Same, and_no, beginning, begun_idle, carries_runs, fin_len, lent_for, not_empty, not_zero, quiet_so, readied_alike, same_again, same_then, segment_for, told_for, sends_as, some_or_none, timers_are, stamp_for, probe_alone, marked_idle, smoltcp_begins}
 use Rattle.progress_laws.proofs.Edges.{is_not_before, later_stays}
 use Rattle.progress_laws.proofs.Lends.{lent_some, marked_some, mss_short, mss_some, probe_byte}
 use Rattle.progress_laws.proofs.Says.{AtFront, front_number, keep_alive_due, no_probe, probe_due}
@@ -128,7 +128,7 @@ module _ (d : Duration) (t : Tuple) (v : View) (f : Facts) (now : Instant) (mtu 
   bytes = lent_for b t fa
 
   abbrev g : Segment
-  g = segment_for b t (stamp_for b) bytes
+  g = told_for b t fa (stamp_for b) bytes
 
   goes_out : (k : Kind) → emission_kind b now g ≡ k → is_due b t fa ≡ true → DispatchesOk fa v (Some (sent_as b t k g)) (left b t now g opens k)
   goes_out = sends_as v t fa on runs b b_is carries

@@ -20,12 +20,16 @@ use Rattle.sock_tcp.specs.declared.state.State.TheVariants as state
 use Rattle.sock_tcp.specs.declared.tuple.Tuple.{Tuple}
 use Rattle.tcp_laws.specs.Loss.{Tells}
 use Rattle.tcp_laws.proofs.LossFollows.{tells_nothing}
-use Rattle.tcp_laws.proofs.Telling.{none_told}
+use Rattle.tcp_laws.specs.Telling.{AllHeld}
 use Rattle.pair_core.specs.Network.{Endpoint}
 use Rattle.pair_core.specs.NetworkRuns.{unopened}
 use Rattle.pair_core.specs.PairCalls.{listening, connecting, OpensAs, is_over, sending, Sends, SendsIf, SendsUnder, receiving, Receives, ReceivesIf, closing, Closes, aborting, Aborts, setting, Sets}
-use Rattle.pair_core.specs.PairNetwork.{endpoint_of, phase_of, seen}
-use Rattle.pair_core.specs.PairSteps.{Dispatches, exchanged}
+use Rattle.pair_core.specs.NetworkInvariant.{IsInvariant}
+use Rattle.pair_core.specs.PairInvariant.{IsHost}
+use Rattle.pair_core.specs.PairNetwork.{endpoint_of, network_at, phase_of, seen, shown}
+use Rattle.pair_core.proofs.PairReaches.{idle_stores}
+use Rattle.sack_laws.proofs.Heard.{answer_true}
+use Rattle.pair_core.specs.PairSteps.{Dispatches, exchanged, stored_at}
 use Rattle.pair_core.specs.PairViews.{HostView, StoredView, PairView, host_of, with_host}
 use Rattle.pair_core.specs.Settings.{set_in}
 use Rattle.pair_core.specs.Sides.{other_side}
@@ -40,9 +44,10 @@ use Rattle.pair_core.specs.declared.side.Side.{Side}
 use Rattle.pair_core.specs.declared.side.Side.TheVariants.{A, B}
 use Rattle.pair_core.proofs.PairAmounts.{takes_some, hands_some}
 use Rattle.pair_core.proofs.ShownCalls.{read_shows}
-use Rattle.sack_laws.specs.Told.{AllToldBy, IsTold, NoRange, ScoreboardIsTrue, has_byte, keeps_scoreboard}
-use Rattle.pair_core.proofs.DispatchTells.{Same, Stays, TellNothing, dispatch_tells}
-use Rattle.sack_laws.proofs.Growing.{AllOf, Follows, Grows, SameBoard, acts_storing, nothing_in, same_scoreboard}
+use Rattle.sack_laws.specs.Told.{AllToldBy, IsTold, ScoreboardIsTrue, TrueIn, has_byte, keeps_scoreboard}
+use Rattle.pair_core.proofs.DispatchTells.{Same, Stays, TellHeld, dispatch_held, dispatch_tells}
+use Rattle.pair_core.specs.Moments.{facts_of}
+use Rattle.sack_laws.proofs.Growing.{AllOf, Follows, Grows, SameBoard, acts_storing, same_scoreboard}
 
 -- ---- what a side has stays
 
@@ -341,22 +346,51 @@ module _ {G : Type 0} (p : PairView G) (s : Side) (told : IsTold p) where
 
   -- ---- a dispatch
 
-  nothing_range : (rs : List (Option (ℕ × ℕ))) → rs ≡ none_told → NoRange rs
-  nothing_range rs is = subst NoRange (sym is) tt
+  held_of : (f : Endpoint) (w : View) → ((rs : List (Option (ℕ × ℕ))) → AllHeld w rs → TrueIn f.view.phase f f.taken rs) → (ts : List StoredView) → TellHeld s f.taken w ts → AllOf s ts × AllToldBy s f ts
+  held_of f w says [] n = (tt, tt)
+  held_of f w says (t ∷ ts) n =
+      let rest = held_of f w says ts n.3 in
+      ((n.0, rest.0), (λ own. subst (λ x. TrueIn f.view.phase f x t.segment.sack_ranges) (sym n.1) (says t.segment.sack_ranges n.2), rest.1))
 
-  nothing_of : (f : Endpoint) (ts : List StoredView) → TellNothing s ts → AllOf s ts × AllToldBy s f ts
-  nothing_of f [] n = (tt, tt)
-  nothing_of f (t ∷ ts) n =
-      let rest = nothing_of f ts n.2 in
-      ((n.0, rest.0), (λ own. nothing_in f.view.phase f t.taken_at t.segment.sack_ranges (nothing_range t.segment.sack_ranges n.1), rest.1))
+  -- an opened side is shown as it is
+  opened_as : (x : Opening) → (x ≡ opening.Unopened → ⊥) → (u : View) → seen x u ≡ shown u
+  opened_as opening.Unopened shut u = absurd (shut refl)
+  opened_as opening.Listener shut u = refl
+  opened_as opening.Connector shut u = refl
 
-  pub dispatches : (tells : G → ℕ → Type 0) (m : Moment) (fail : Bool) (o : Outcome) (k : HostView G) (ks : List StoredView) → Dispatches tells s m fail o h p.segments k ks → IsTold (exchanged s p k ks)
-  dispatches tells m fail o k ks d =
+  module _ (tells : G → ℕ → Type 0) (m : Moment) (fail : Bool) (o : Outcome) (k : HostView G) (ks : List StoredView) (host : IsHost h) (after : IsInvariant (network_at s k (host_of (other_side s) p) ks p.limit)) (d : Dispatches tells s m fail o h p.segments k ks) where
+    abbrev left : View
+    left = k.control_block
+
+    abbrev n : HostView G
+    n = record h { control_block = left }
+
+    abbrev more : List StoredView
+    more = stored_at s d.sent h.released h.taken
+
+    then_held : TellHeld s h.taken left more
+    then_held = dispatch_held tells s m fail o h k p.segments ks d
+
+    open_told : (h.opening ≡ opening.Unopened → ⊥) → AllOf s more × AllToldBy s (endpoint_of n) more
+    open_told shut =
+        let i : IsInvariant (network_at s n (host_of (other_side s) p) ks p.limit) = subst (λ z. IsInvariant (network_at s z (host_of (other_side s) p) ks p.limit)) d.does.same after in
+        let at_last : (endpoint_of n).view ≡ shown left = opened_as h.opening shut left in
+        held_of (endpoint_of n) left
+        (λ rs says. answer_true (endpoint_of n) (next_ack left) left.rx_buffer.held (ap (λ (y : SocketView). y.rcv_nxt) at_last) (ap (λ (y : SocketView). y.held) at_last) (endpoint_of (host_of (other_side s) p)) i.remote_origin i.incoming i.incoming_holds rs says)
+        more then_held
+
+    all_told : (x : Opening) → h.opening ≡ x → AllOf s more × AllToldBy s (endpoint_of n) more
+    all_told opening.Unopened e = subst (λ r. AllOf s (stored_at s r h.released h.taken) × AllToldBy s (endpoint_of n) (stored_at s r h.released h.taken)) (sym (idle_stores tells h.source h.control_block left (facts_of m) fail d.sent (host.idle e).tuple d.does.socket)) (tt, tt)
+    all_told opening.Listener e = open_told (λ u. let no : opening.Listener ≡ opening.Unopened = sym e ∙ u in cc)
+    all_told opening.Connector e = open_told (λ u. let no : opening.Connector ≡ opening.Unopened = sym e ∙ u in cc)
+
+  pub dispatches : (tells : G → ℕ → Type 0) (m : Moment) (fail : Bool) (o : Outcome) (k : HostView G) (ks : List StoredView) → IsHost h → IsInvariant (network_at s k (host_of (other_side s) p) ks p.limit) → Dispatches tells s m fail o h p.segments k ks → IsTold (exchanged s p k ks)
+  dispatches tells m fail o k ks host after d =
       let t = dispatch_tells tells s m fail o h k p.segments ks d in
       let w : View = k.control_block in
       let n : HostView G = record h { control_block = w } in
       subst (λ z. IsTold (exchanged s p z ks)) (sym t.host)
-      (subst (λ ts. IsTold (exchanged s p n ts)) (sym t.stored) (by n t.more t.nothing refl refl refl t.stays))
+      (subst (λ ts. IsTold (exchanged s p n ts)) (sym d.stored) (by n (stored_at s d.sent h.released h.taken) (all_told tells m fail o k ks host after d h.opening refl) refl refl refl t.stays))
     where
       same_quiet : (v w : View) → Same v w → Quietly v w
       same_quiet v w a = record {
@@ -374,12 +408,10 @@ module _ {G : Type 0} (p : PairView G) (s : Side) (told : IsTold p) where
           go (inl is) = subst (λ y. Tells y x) is t
           go (inr is) = absurd (tells_nothing x (subst (λ y. Tells y x) is t))
 
-      by : (n : HostView G) (more : List StoredView) → TellNothing s more → n.opening ≡ h.opening → n.taken ≡ h.taken → n.released ≡ h.released → Stays h.control_block n.control_block → IsTold (exchanged s p n (p.segments ++ more))
-      by n more nothing o t r (inl a) =
-          let all = nothing_of (endpoint_of n) more nothing in
+      by : (n : HostView G) (more : List StoredView) → AllOf s more × AllToldBy s (endpoint_of n) more → n.opening ≡ h.opening → n.taken ≡ h.taken → n.released ≡ h.released → Stays h.control_block n.control_block → IsTold (exchanged s p n (p.segments ++ more))
+      by n more all o t r (inl a) =
           acts_storing p n more s told (quietly_grows h n o t (same_quiet h.control_block n.control_block a)) all.0 all.1
           (same_scoreboard p n more s told (record { rules = λ y st. (sym a.rules ∙ y, ap keeps_scoreboard (sym a.state) ∙ st); sacked = kept h.control_block n.control_block a; released = r }))
-      by n more nothing o t r (inr c) =
-          let all = nothing_of (endpoint_of n) more nothing in
+      by n more all o t r (inr c) =
           acts_storing p n more s told (closes_grows h n o t c) all.0 all.1
           (inr (λ y st x z. absurd (true≢false (sym (ap keeps_scoreboard (sym c) ∙ st)))))

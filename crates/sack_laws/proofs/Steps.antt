@@ -17,7 +17,7 @@ use Rattle.pair_core.proofs.NetworkReaches.{reach_keeps}
 use Rattle.pair_core.proofs.PairHosts.{host_at}
 use Rattle.pair_core.proofs.PairReaches.{event_reaches}
 use Rattle.sack_laws.specs.Told.{IsTold}
-use Rattle.sack_laws.proofs.Deliveries.{delivers}
+use Rattle.sack_laws.proofs.Deliveries.{delivers, side_after}
 use Rattle.sack_laws.proofs.Events.{aborts, closes, connects, dispatches, listens, receives, sends, sets}
 
 same_pair : {G : Type 0} (q r : PairView G) → q ≡ r → IsTold r → IsTold q
@@ -48,5 +48,7 @@ step_keeps tells (event.Recv s size) p o q i z x h = same_pair q _ x.same (recei
 step_keeps tells (event.Close s) p o q i z x h = same_pair q _ x.same (closes p s h o x.host x.does)
 step_keeps tells (event.Abort s) p o q i z x h = same_pair q _ x.same (aborts p s h o x.host x.does)
 step_keeps tells (event.Set s y) p o q i z x h = same_pair q _ x.same (sets p s h y o x.host x.does)
-step_keeps tells (event.Dispatch s m fail) p o q i z x h = same_pair q _ x.same (dispatches p s h tells m fail o x.host x.segments x.does)
+step_keeps tells (event.Dispatch s m fail) p o q i z x h =
+    let after = reach_keeps (network_of p) (network_of q) (event_reaches tells (event.Dispatch s m fail) p o q i z x) i.network in
+    same_pair q _ x.same (dispatches p s h tells m fail o x.host x.segments (host_at s p i) (side_after s p x.host x.segments (subst (λ r. IsInvariant (network_of r)) x.same after)) x.does)
 step_keeps tells (event.Deliver j m) p o q i z x h = delivery_keeps tells j (slice_get p.segments j) m p q o i z refl (reach_keeps (network_of p) (network_of q) (event_reaches tells (event.Deliver j m) p o q i z x) i.network) x h

@@ -1,17 +1,24 @@
 -- What answers a segment fits a packet.
-use Rattle.std.proofs.Common.{◌≡◌, ℕ, ◌+◌, ◌*◌, ◌/◌, ◌≤◌, [], ◌∷◌, true, Option, Some, None, is_some, refl, sym, subst, ap, ◌∙◌, length, arith}
-use Rattle.std.specs.Prelude.{count_by, if◌then◌else◌}
+use Rattle.std.proofs.Common.{◌≡◌, ℕ, ◌+◌, ◌*◌, ◌/◌, ◌≤◌, [], ◌∷◌, Bool, true, false, ◌||◌, List, Option, Some, None, is_some, refl, sym, subst, ap, ◌∙◌, length, arith}
+use Rattle.std.specs.Prelude.{count_by, if◌then◌else◌, option_map, ◌==◌}
 use Rattle.std.specs.Option.{ForSome}
 use Rattle.std.proofs.lemmas.Option.{none-some}
 use Rattle.ip_wire.specs.declared.repr.IpRepr.{IpRepr}
 use Rattle.ip_wire.specs.declared.repr.IpRepr.TheVariants as header
 use Rattle.control_wire.specs.Fits.{is_packed, FitsHeader, FitsPacket}
 use Rattle.control_wire.specs.Segment.{Segment, options_len, sack_option_len}
+use Rattle.control_wire.specs.Seq.{seq_sub}
+use Rattle.control_wire.specs.declared.seq_number.TcpSeqNumber.{TcpSeqNumber}
 use Rattle.control_wire.specs.declared.tcp.TcpControl.{TcpControl}
 use Rattle.control_wire.specs.declared.tcp.TcpTimestampRepr.{TcpTimestampRepr}
-use Rattle.sock_tcp.specs.Replies.{reply_ip, bare_reply, rst_segment, with_header, sack_range, ack_segment, IsSentAs}
+use Rattle.sock_tcp.specs.Replies.{reply_ip, bare_reply, rst_segment, with_header, chosen_range, first_of, wire_edges, told_by, told_of, sack_ranges, ack_segment, IsSentAs}
+use Rattle.net_base.specs.Ranges.{edges}
+use Rattle.sock_core.specs.Received.{ranges_of, range_around}
 use Rattle.sock_tcp.specs.Rfc.Numbers.{renumbered}
 use Rattle.sock_tcp.specs.View.{View}
+use Rattle.sock_tcp.specs.Window.{next_ack}
+use Rattle.sock_tcp.specs.declared.rules.Rules.{Rules}
+use Rattle.sock_tcp.specs.declared.rules.Rules.TheVariants as rules
 
 -- ---- headers
 
@@ -25,17 +32,80 @@ stamp_len : (x : Option TcpTimestampRepr) → (if is_some x then 10 else 0) ≤ 
 stamp_len None = omega arith
 stamp_len (Some t) = omega arith
 
-one_range : (o : Option (ℕ × ℕ)) → is_packed (o ∷ None ∷ None ∷ []) ≡ true
-one_range None = refl
-one_range (Some r) = refl
+three_len : (a b c : Option (ℕ × ℕ)) → sack_option_len (count_by is_some (a ∷ b ∷ c ∷ [])) ≤ 26
+three_len None None None = omega arith
+three_len None None (Some c) = omega arith
+three_len None (Some b) None = omega arith
+three_len None (Some b) (Some c) = omega arith
+three_len (Some a) None None = omega arith
+three_len (Some a) None (Some c) = omega arith
+three_len (Some a) (Some b) None = omega arith
+three_len (Some a) (Some b) (Some c) = omega arith
 
-range_len : (o : Option (ℕ × ℕ)) → sack_option_len (count_by is_some (o ∷ None ∷ None ∷ [])) ≤ 10
-range_len None = omega arith
-range_len (Some r) = omega arith
+module _ (n : TcpSeqNumber) where
+  abbrev wired : Option (ℕ × ℕ) → Option (ℕ × ℕ)
+  wired o = option_map (wire_edges n) o
+
+  one_range : (o : Option (ℕ × ℕ)) → is_packed (wired o ∷ None ∷ None ∷ []) ≡ true
+  one_range None = refl
+  one_range (Some r) = refl
+
+  -- two ranges behind the chosen one, where that is the first or the second of them or neither
+  with_one : (c : ℕ × ℕ) (rs : List (ℕ × ℕ)) → is_packed (told_by rules.Rfc n (Some c) rs) ≡ true
+  with_one c [] = refl
+  with_one c (r ∷ []) = by (c.0 == r.0)
+    where
+      by : (a : Bool) → is_packed (wired (Some c) ∷ wired (if a then None else Some r) ∷ wired (if a || false then None else None) ∷ []) ≡ true
+      by true = refl
+      by false = refl
+  with_one c (r ∷ s ∷ []) = by (c.0 == r.0) (c.0 == s.0)
+    where
+      by : (a b : Bool) → is_packed (wired (Some c) ∷ wired (if a then Some s else Some r) ∷ wired (if a || b then None else Some s) ∷ []) ≡ true
+      by true b = refl
+      by false true = refl
+      by false false = refl
+  with_one c (r ∷ s ∷ t ∷ rs) = by (c.0 == r.0) (c.0 == s.0)
+    where
+      by : (a b : Bool) → is_packed (wired (Some c) ∷ wired (if a then Some s else Some r) ∷ wired (if a || b then Some t else Some s) ∷ []) ≡ true
+      by true b = refl
+      by false true = refl
+      by false false = refl
+
+  packed : (last : Option TcpSeqNumber) (rs : List (ℕ × ℕ)) → is_packed (told_of rules.Rfc n last rs) ≡ true
+  packed None [] = refl
+  packed (Some m) [] = refl
+  packed None (r ∷ rs) = with_one r (r ∷ rs)
+  packed (Some m) (r ∷ rs) = by (range_around (r ∷ rs) (seq_sub m n))
+    where
+      by : (o : Option (ℕ × ℕ)) → is_packed (told_by rules.Rfc n (first_of o (Some r)) (r ∷ rs)) ≡ true
+      by None = with_one r (r ∷ rs)
+      by (Some x) = with_one x (r ∷ rs)
+
+module _ (v : View) where
+  abbrev those : Bool → Rules → List (Option (ℕ × ℕ))
+  those b r = if b then told_of r (next_ack v) v.local_rx_last_seq (edges (ranges_of v.rx_buffer.held)) else None ∷ None ∷ None ∷ []
+
+  pub ranges_packed : is_packed (sack_ranges v) ≡ true
+  unfolding sack_ranges
+  ranges_packed = go v.remote_has_sack v.rules
+    where
+      go : (b : Bool) (r : Rules) → is_packed (those b r) ≡ true
+      go false r = refl
+      go true rules.Smoltcp = one_range (next_ack v) (chosen_range (edges (ranges_of v.rx_buffer.held)) (next_ack v) v.local_rx_last_seq)
+      go true rules.Rfc = packed (next_ack v) v.local_rx_last_seq (edges (ranges_of v.rx_buffer.held))
+
+  pub ranges_len : sack_option_len (count_by is_some (sack_ranges v)) ≤ 26
+  unfolding sack_ranges
+  ranges_len = go v.remote_has_sack v.rules
+    where
+      go : (b : Bool) (r : Rules) → sack_option_len (count_by is_some (those b r)) ≤ 26
+      go false r = omega arith
+      go true rules.Smoltcp = three_len _ None None
+      go true rules.Rfc = three_len _ _ _
 
 ack_fits : (w v : View) (s : Segment) (x : Option TcpTimestampRepr) → FitsHeader (record (renumbered w (ack_segment v s)) { timestamp = x })
 unfolding ack_segment
-ack_fits w v s x = record { scale = no_scale; permission = λ e. absurd cc; ranges = one_range (sack_range v); options = omega (arith, stamp_len x, range_len (sack_range v)) }
+ack_fits w v s x = record { scale = no_scale; permission = λ e. absurd cc; ranges = ranges_packed v; options = omega (arith, stamp_len x, ranges_len v) }
 
 rst_fits : (s : Segment) (x : Option TcpTimestampRepr) → FitsHeader (record (rst_segment s) { timestamp = x })
 rst_fits s x = record { scale = no_scale; permission = λ e. absurd cc; ranges = refl; options = omega (arith, stamp_len x) }

@@ -5,7 +5,7 @@ use Rattle.control_wire.specs.Segment.{Segment}
 use Rattle.sock_tcp.specs.Closing.{closed_from, closed_late, late_from}
 use Rattle.sock_tcp.specs.Due.{window_field}
 use Rattle.sock_tcp.specs.Process.{Outcome, answered, closed_then}
-use Rattle.sock_tcp.specs.Replies.{ack_kept, ack_segment, sack_range}
+use Rattle.sock_tcp.specs.Replies.{ack_kept, ack_segment, sack_ranges}
 use Rattle.sock_tcp.specs.View.{View}
 use Rattle.sock_tcp.specs.declared.process.Answer.{Answer}
 use Rattle.sock_tcp.specs.declared.process.Answer.TheVariants as answers
@@ -25,7 +25,7 @@ module _ (u : View) (s : Segment) where
   kept_view = λ i. record (closed_late (ack_kept u)) { remote_last_win = same_field i }
 
   kept_reply : ack_segment (closed_late u) s ≡ ack_segment u s
-  unfolding ack_segment sack_range
+  unfolding ack_segment sack_ranges
   kept_reply = λ i. record (ack_segment u s) { window_len = same_field i }
 
   said : (x : Answer) → answered x (closed_late u) s ≡ closed_then rules.Rfc (answered x u s)

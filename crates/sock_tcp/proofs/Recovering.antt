@@ -8,7 +8,7 @@ use Rattle.control_wire.specs.Segment.{Segment}
 use Rattle.ip_wire.specs.declared.repr.IpRepr.{IpRepr}
 use Rattle.sock_tcp.specs.Arrival.{arrival}
 use Rattle.sock_tcp.specs.Process.{Outcome, answered, by_verdict, processed_by, tuple_of}
-use Rattle.sock_tcp.specs.Replies.{ack_kept, ack_segment, sack_range}
+use Rattle.sock_tcp.specs.Replies.{ack_kept, ack_segment, sack_ranges}
 use Rattle.sock_tcp.specs.Rfc.Recovery.{before_of, begun_by, echo_known, gone_on_from, has_timer, heard_for, is_called, is_later_partial, is_news, kept_if, left_running, probe_from_last, probe_soonest, recovered, recovered_by, reordering_after, running, soonest, tells_controller, timer_after, waited_for, waits_late, marked_by, waits_tail}
 use Rattle.sock_tcp.specs.Due.{flight, window_field}
 use Rattle.sock_tcp.proofs.OwnWindow.{field_is}
@@ -43,7 +43,7 @@ module _ (b : Before) (u : View) (s : Segment) (now : Instant) where
   kept_view = λ i. record (recovered b (ack_kept u) now) { remote_last_win = same_field i }
 
   kept_reply : ack_segment (recovered b u now) s ≡ ack_segment u s
-  unfolding recovered ack_segment sack_range
+  unfolding recovered ack_segment sack_ranges
   kept_reply = λ i. record (ack_segment u s) { window_len = same_field i }
 
   said : (x : Answer) → answered x (recovered b u now) s ≡ behind (answered x u s)

@@ -12,7 +12,8 @@ use Rattle.control_wire.specs.declared.tcp.TcpControl.{TcpControl}
 use Rattle.control_wire.specs.declared.tcp.TcpControl.TheVariants as control
 use Rattle.control_wire.specs.declared.tcp.TcpTimestampRepr.{TcpTimestampRepr}
 use Rattle.sock_core.specs.Facts.{Facts}
-use Rattle.sock_tcp.specs.Due.{is_closing, own_mss, effective_mss, flight, congestion_left}
+use Rattle.sock_tcp.specs.Due.{is_closing, own_mss, ranges_or, effective_mss, flight, congestion_left}
+use Rattle.sock_tcp.specs.Rfc.OwnWindow.{kept_field}
 use Rattle.sock_tcp.specs.Rfc.Scoreboard.{hole_behind, hole_number, hole_size, hole_start}
 use Rattle.sock_tcp.specs.Timers.{is_keep_alive_over, is_probe_over}
 use Rattle.sock_tcp.specs.View.{View, moment_of}
@@ -29,7 +30,7 @@ use Rattle.sock_tcp.specs.declared.state.State.{State}
 use Rattle.sock_tcp.specs.declared.state.State.TheVariants as state
 use Rattle.sock_tcp.specs.declared.tuple.Tuple.{Tuple}
 pub use Rattle.sock_tcp.specs.Due.{window_field}
-pub use Rattle.sock_tcp.specs.Rfc.Pipe.{again_from}
+pub use Rattle.sock_tcp.specs.Rfc.Pipe.{again_from, hole_from}
 
 -- ---- the payload
 
@@ -50,7 +51,8 @@ is_probing v now =
 -- the next hole to be sent again (RFC 6675, section 4, NextSeg), or the segment that is sent again as a probe (RFC
 -- 8985, section 7.3)
 abbrev pub next_hole : Recovery → Scoreboard → TcpSeqNumber → Option Hole
-next_hole (recovery.Fast point high_rxt resent_at acked) k una = hole_behind k (again_from high_rxt una)
+next_hole (recovery.Fast point high_rxt resent_at acked trailed una_lost) k una =
+    hole_behind k (hole_from una_lost high_rxt una)
 next_hole (recovery.Probe start end again) k una = Some (record { start = seq_sub start una; end = seq_sub end una })
 next_hole r k una = None
 
@@ -148,6 +150,10 @@ with_data v bytes s =
       payload = bytes;
     }
 
+-- what is held beside it, where it tells that
+abbrev pub with_ranges : View → Tuple → Facts → Segment → Segment
+with_ranges v t f s = record s { sack_ranges = ranges_or v t f s.sack_ranges }
+
 abbrev pub syn : View → Tuple → Facts → Segment → Segment
 syn v t f s =
     record (with_syn v t f s) { ack_number = None; window_scale = Some v.remote_win_shift; sack_permitted = true }
@@ -165,9 +171,9 @@ filled state.Closed v t f bytes s = Some (record s { control = control.Rst })
 filled state.Listen v t f bytes s = None
 filled state.SynSent v t f bytes s = Some (syn v t f s)
 filled state.SynReceived v t f bytes s = Some (syn_ack v t f s)
-filled state.FinWait2 v t f bytes s = Some s
+filled state.FinWait2 v t f bytes s = Some (with_ranges v t f s)
 filled state.TimeWait v t f bytes s = Some s
-filled _ v t f bytes s = Some (with_data v bytes s)
+filled _ v t f bytes s = Some (with_ranges v t f (with_data v bytes s))
 
 -- ---- probes and keep-alives
 
@@ -176,9 +182,20 @@ emission_kind v now s =
     if is_probing v now then kind.Probe
     else (if is_keep_alive_over v.timer now && is_empty_segment s then kind.KeepAlive else kind.Plain)
 
+-- the window of a keep-alive does not count as told: by the RFCs' rules it ends where the one does that was told last, so
+-- that no later segment tells less (RFC 9293, section 3.8.6)
+abbrev pub aside_field : Rules → View → ℕ → ℕ
+aside_field rules.Smoltcp v field = field
+aside_field rules.Rfc v field = kept_field v
+
 -- a keep-alive is one zero byte before SND.UNA (RFC 1122, section 4.2.3.6)
 abbrev pub of_kind : Kind → View → Segment → Segment
-of_kind kind.KeepAlive v s = record s { seq_number = seq_minus v.local_seq_no 1; payload = 0 ∷ [] }
+of_kind kind.KeepAlive v s =
+    record s {
+      seq_number = seq_minus v.local_seq_no 1;
+      window_len = aside_field v.rules v s.window_len;
+      payload = 0 ∷ [];
+    }
 of_kind _ v s = s
 
 -- ---- the whole

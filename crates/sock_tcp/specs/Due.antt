@@ -1,8 +1,10 @@
 -- Whether a dispatch has anything to send.
-use Rattle.std.specs.Prelude.{ℕ, ◌-◌, ◌*◌, ◌/◌, ◌^◌, nat_lt, nat_le, length, max, min, Option, Some, None, Bool, true}
+use Rattle.std.specs.Prelude.{count_by, is_some, List, [], ◌∷◌}
+use Rattle.std.specs.Prelude.{ℕ, ◌+◌, ◌-◌, ◌*◌, ◌/◌, ◌^◌, nat_lt, nat_le, length, max, min, Option, Some, None, Bool, true}
 use Rattle.std.specs.Prelude.{false, not, ◌==◌, ◌&&◌, ◌||◌, if◌then◌else◌}
 use Rattle.ip_wire.specs.declared.address.IpAddress.{IpAddress}
 use Rattle.ip_wire.specs.declared.address.IpAddress.TheVariants as address
+use Rattle.control_wire.specs.Segment.{sack_option_len}
 use Rattle.control_wire.specs.Seq.{seq_add, seq_sub, seq_eq}
 use Rattle.control_wire.specs.declared.seq_number.TcpSeqNumber.{TcpSeqNumber}
 use Rattle.sock_core.specs.Congestion.{congestion_window, recovery_window}
@@ -14,6 +16,7 @@ use Rattle.sock_tcp.specs.Polls.{is_reached, delay_poll}
 use Rattle.sock_tcp.specs.Rfc.OwnWindow.{field_by, may_grow, space_field}
 use Rattle.sock_tcp.specs.Rfc.Pipe.{counts, room, told_late}
 use Rattle.sock_tcp.specs.Rfc.SmallSegments.{held_by, is_cut_by, small_poll, waits_alone}
+use Rattle.sock_tcp.specs.Sack.{sack_ranges, tells_by}
 use Rattle.sock_tcp.specs.Timers.{is_keep_alive_over, is_probe_over}
 use Rattle.sock_tcp.specs.View.{View, moment_of}
 use Rattle.sock_tcp.specs.Window.{next_ack}
@@ -71,9 +74,29 @@ own_mss f t = mtu_for t.local.addr f.mtu - ip_header_len t.local.addr - 20
 abbrev pub timestamp_room : Bool → ℕ
 timestamp_room stamps = if stamps then 12 else 0
 
--- how many bytes a segment carries
+-- and one that tells n ranges beside it more
+abbrev pub ranges_room : Bool → ℕ → ℕ
+ranges_room stamps n = ((if stamps then 10 else 0) + sack_option_len n + 3) / 4 * 4
+
+-- whether a segment that is no reply tells what is held: they leave room for data
+abbrev pub tells_ranges : View → Tuple → Facts → Bool
+tells_ranges v t f = tells_by v.rules v.remote_has_sack v.rx_buffer.held && nat_lt 36 (own_mss f t)
+
+abbrev pub ranges_or : View → Tuple → Facts → List (Option (ℕ × ℕ)) → List (Option (ℕ × ℕ))
+ranges_or v t f none = if tells_ranges v t f then sack_ranges v else none
+
+-- what it tells
+abbrev pub sent_ranges : View → Tuple → Facts → List (Option (ℕ × ℕ))
+sent_ranges v t f = ranges_or v t f (None ∷ None ∷ None ∷ [])
+
+-- how many octets the options of a segment with data take
+abbrev pub options_room : View → Tuple → Facts → ℕ
+options_room v t f =
+    if tells_ranges v t f then ranges_room v.stamps (count_by is_some (sack_ranges v)) else timestamp_room v.stamps
+
+-- how many bytes a segment carries: the MSS is of a segment without options (RFC 6691, section 2)
 abbrev pub effective_mss : View → Tuple → Facts → ℕ
-effective_mss v t f = min (own_mss f t) v.remote_mss - timestamp_room v.stamps
+effective_mss v t f = min (own_mss f t) v.remote_mss - options_room v t f
 
 -- how much was sent and is not acknowledged
 abbrev pub flight : View → ℕ

@@ -24,6 +24,7 @@ pub mod Draw
 pub mod Due
 pub mod Begin
 pub mod Content
+pub mod Sack
 pub mod Sent
 pub mod Dispatch
 pub mod Poll

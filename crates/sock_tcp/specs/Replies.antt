@@ -1,6 +1,6 @@
 -- The segments that answer others.
 use Rattle.std.specs.Prelude.{ℕ, ◌≡◌, ⊤, [], ◌∷◌, ◌+◌, List, length, slice_get, Option, Some, None, option_map}
-use Rattle.std.specs.Prelude.{if◌then◌else◌}
+use Rattle.std.specs.Prelude.{Bool, false, ◌==◌, ◌||◌, if◌then◌else◌}
 use Rattle.ip_wire.specs.IpHeader.{ip_header, src_addr_of, dst_addr_of}
 use Rattle.ip_wire.specs.declared.protocol.IpProtocol.TheVariants as protocol
 use Rattle.ip_wire.specs.declared.repr.IpRepr.{IpRepr}
@@ -10,9 +10,10 @@ use Rattle.control_wire.specs.declared.seq_number.TcpSeqNumber.{TcpSeqNumber}
 use Rattle.control_wire.specs.declared.tcp.TcpControl.{TcpControl}
 use Rattle.control_wire.specs.declared.tcp.TcpControl.TheVariants as control
 use Rattle.control_wire.specs.declared.tcp.TcpTimestampRepr.{TcpTimestampRepr}
-use Rattle.net_base.specs.Ranges.{edges}
-use Rattle.sock_core.specs.Received.{ranges_of, range_around}
 use Rattle.sock_tcp.specs.Content.{window_field}
+pub use Rattle.sock_tcp.specs.Sack.{chosen_range, first_of, is_same, second_range, third_range, told_by, told_of}
+pub use Rattle.sock_tcp.specs.Sack.{wire_edges}
+unfoldable pub use Rattle.sock_tcp.specs.Sack.{sack_ranges}
 use Rattle.sock_tcp.specs.View.{View}
 use Rattle.sock_tcp.specs.declared.rules.Rules.{Rules}
 use Rattle.sock_tcp.specs.declared.rules.Rules.TheVariants as rules
@@ -50,34 +51,13 @@ with_header ip s = (reply_ip ip s, s)
 
 -- ---- an acknowledgement
 
-abbrev pub first_of : Option (ℕ × ℕ) → Option (ℕ × ℕ) → Option (ℕ × ℕ)
-first_of None r = r
-first_of (Some r) s = Some r
-
--- of the ranges held behind a number, the first around the last number in the window, else the first
-abbrev pub chosen_range : List (ℕ × ℕ) → TcpSeqNumber → Option TcpSeqNumber → Option (ℕ × ℕ)
-chosen_range rs next None = slice_get rs 0
-chosen_range rs next (Some number) = first_of (range_around rs (seq_sub number next)) (slice_get rs 0)
-
--- a range's edges on the wire
-abbrev pub wire_edges : TcpSeqNumber → ℕ × ℕ → ℕ × ℕ
-wire_edges next r = ((seq_add next r.0).0, (seq_add next r.1).0)
-
--- the range that tells a peer which permits it what is held
-unfoldable pub sack_range : View → Option (ℕ × ℕ)
-sack_range v =
-    if v.remote_has_sack
-    then option_map (wire_edges (next_ack v))
-    (chosen_range (edges (ranges_of v.rx_buffer.held)) (next_ack v) v.local_rx_last_seq)
-    else None
-
 unfoldable pub ack_segment : View → Segment → Segment
 ack_segment v s =
     record (bare_reply s) {
       seq_number = v.remote_last_seq;
       ack_number = Some (next_ack v);
       window_len = window_field v;
-      sack_ranges = sack_range v ∷ None ∷ None ∷ [];
+      sack_ranges = sack_ranges v;
     }
 
 -- its acknowledgement and window are the last sent

@@ -2,7 +2,7 @@
 use Rattle.std.specs.Prelude.{Option, Some, None, is_some, max, nat_le, Bool, true, false, not, ◌==◌, ◌&&◌, ◌||◌}
 use Rattle.std.specs.Prelude.{if◌then◌else◌}
 use Rattle.net_base.specs.declared.time.Instant.{Instant}
-use Rattle.control_wire.specs.Seq.{seq_add}
+use Rattle.control_wire.specs.Seq.{seq_add, seq_eq}
 use Rattle.control_wire.specs.Segment.{Segment, segment_len}
 use Rattle.control_wire.specs.declared.seq_number.TcpSeqNumber.{TcpSeqNumber}
 use Rattle.sock_core.specs.Congestion.{post_transmitted}
@@ -48,11 +48,20 @@ after_any v now =
 unfoldable pub after_probe : View → Instant → View
 after_probe v now = record v { timer = probe_doubled v.timer now }
 
--- what begins before SND.NXT is sent again: HighRxt of a recovery moves behind it (RFC 6675, section 2)
+-- what begins before SND.NXT is sent again
+abbrev pub is_resent : TcpSeqNumber → Emitted → Bool
+is_resent nxt s = is_before s.seq_number nxt && not (s.len == 0)
+
+-- HighRxt of a recovery moves behind it (RFC 6675, section 2). Where the segment at SND.UNA was lost again, that is what
+-- went out, and what is told next is measured from now on; else it trails new bytes, where some went out since
 abbrev pub resent_by : Recovery → TcpSeqNumber → Emitted → Recovery
-resent_by (recovery.Fast point high_rxt resent_at acked) nxt s =
+resent_by (recovery.Fast point high_rxt resent_at acked trailed una_lost) nxt s =
     recovery.Fast point
-    (if is_before s.seq_number nxt && not (s.len == 0) then later_of high_rxt s.end else high_rxt) resent_at acked
+    (if is_resent nxt s then later_of high_rxt s.end else high_rxt)
+    (if is_resent nxt s && una_lost then later_of nxt point else resent_at)
+    acked
+    (if is_resent nxt s then not una_lost && (trailed || not (seq_eq nxt resent_at)) else trailed)
+    (not (is_resent nxt s) && una_lost)
 resent_by r nxt s = r
 
 -- SND.NXT moves behind the segment, its acknowledgement and window are the last sent, and the RST of a closed socket

@@ -141,9 +141,16 @@ timer_acked (timer.Retransmit at) v now a = retransmission_acked (timer.Retransm
 timer_acked timer.FastRetransmit v now a = retransmission_acked timer.FastRetransmit v now a
 timer_acked t v now a = t
 
+-- by the RFCs' rules the interval of probes goes on to double where the byte of one is acknowledged (RFC 9293, section
+-- 3.8.6.1)
+abbrev pub goes_on_probing : Rules → Timer → Bool
+goes_on_probing rules.Rfc (timer.ZeroWindowProbe at delay) = true
+goes_on_probing r t = false
+
 -- while the peer has no window, probes begin
 abbrev pub begins_probe : Timer → View → Acked → Bool
-begins_probe t v a = not (length v.tx_buffer.bytes == 0) && (is_idle t || not (a.len == 0))
+begins_probe t v a =
+    not (length v.tx_buffer.bytes == 0) && (is_idle t || (not (a.len == 0) && not (goes_on_probing v.rules t)))
 
 -- a window ends the probes
 abbrev pub probe_ended : Timer → View → Instant → Timer
@@ -183,11 +190,17 @@ abbrev pub is_ack_owed : Option TcpSeqNumber → ℕ → TcpSeqNumber → Bool
 is_ack_owed None n next = false
 is_ack_owed (Some ack) n next = is_before (seq_add ack n) next
 
+-- more than a segment is unacknowledged: by smoltcp's rules one of the largest that the peer takes; by the RFCs' any
+-- other than the first that came, as the peer's segments may be smaller (RFC 5681, section 4.2)
+abbrev pub is_second : Rules → View → Bool
+is_second rules.Smoltcp v = is_ack_owed v.remote_last_ack v.remote_mss (next_ack v)
+is_second rules.Rfc v = true
+
 -- an acknowledgement may wait so long, but not once more than a segment is unacknowledged
 abbrev pub next_delay : AckDelayTimer → View → Instant → Duration → AckDelayTimer
 next_delay ack_delay.Idle v now d = ack_delay.Waiting (after now d)
 next_delay (ack_delay.Waiting at) v now d =
-    if is_ack_owed v.remote_last_ack v.remote_mss (next_ack v) then ack_delay.Immediate else ack_delay.Waiting at
+    if is_second v.rules v then ack_delay.Immediate else ack_delay.Waiting at
 next_delay ack_delay.Immediate v now d = ack_delay.Immediate
 
 abbrev pub delay_of : Option Duration → View → Instant → AckDelayTimer

@@ -12,7 +12,7 @@ ghost use Rattle.sock_tcp.specs.Due.{flight};
 ghost use Rattle.sock_tcp.specs.Content.{window_left, is_probing, hole_of, hole_within, resent_size, size_of};
 ghost use Rattle.sock_tcp.specs.Content.{offset_of, number_of, asked};
 ghost use Rattle.sock_tcp.specs.Content.{timestamp_of, plain_segment, with_syn, syn, syn_ack, data_control, with_data};
-ghost use Rattle.sock_tcp.specs.Content.{filled, emission_kind, of_kind, hop_limit_of, sending, finished, content};
+ghost use Rattle.sock_tcp.specs.Content.{with_ranges, aside_field, filled, emission_kind, of_kind, hop_limit_of, sending, finished, content};
 
 use crate::control_block::ControlBlock;
 use crate::due::own_mss;
@@ -201,6 +201,31 @@ impl<'a> ControlBlock<'a> {
         }
     }
 
+    // What is held, where it tells that.
+    #[inline(never)]
+    fn fill_rfc_ranges<C: Context>(&self, cx: &C, tuple: &Tuple, repr: &mut TcpRepr<'_>)
+        ensures segment { segment_of repr.new
+            ≡ with_ranges self.now tuple.now (C.facts cx.now) (segment_of repr.old) }
+        ensures payload { repr.new.payload.now ≡ repr.old.payload.now }
+    {
+        if self.tells_ranges(cx, tuple) {
+            repr.sack_ranges = self.sack_ranges();
+        }
+    }
+
+    // The same, of which smoltcp's rules tell nothing.
+    #[inline(always)]
+    fn fill_ranges<C: Context>(&self, cx: &C, tuple: &Tuple, repr: &mut TcpRepr<'_>)
+        ensures segment { segment_of repr.new
+            ≡ with_ranges self.now tuple.now (C.facts cx.now) (segment_of repr.old) }
+        ensures payload { repr.new.payload.now ≡ repr.old.payload.now }
+    {
+        match self.rules {
+            Rules::Smoltcp => {}
+            Rules::Rfc => self.fill_rfc_ranges(cx, tuple, repr),
+        }
+    }
+
     // Data of the transmit queue.
     fn fill_data<'s>(&self, payload: &'s [u8], repr: &mut TcpRepr<'s>)
         requires { length payload.now ≤ 65535 }
@@ -274,9 +299,14 @@ impl<'a> ControlBlock<'a> {
                 self.fill_syn_ack(cx, tuple, repr);
                 true
             }
-            State::FinWait2 | State::TimeWait => true,
+            State::FinWait2 => {
+                self.fill_ranges(cx, tuple, repr);
+                true
+            }
+            State::TimeWait => true,
             _ => {
                 self.fill_data(payload, repr);
+                self.fill_ranges(cx, tuple, repr);
                 true
             }
         }
@@ -295,12 +325,23 @@ impl<'a> ControlBlock<'a> {
         }
     }
 
+    // The window of a keep-alive, which does not count as told: by the RFCs' rules no more than was told last.
+    fn aside_field(&self, field: u16) -> u16
+        ensures { result ≡ aside_field self.now.rules self.now field }
+    {
+        match self.rules {
+            Rules::Smoltcp => field,
+            Rules::Rfc => self.kept_field(),
+        }
+    }
+
     // One zero byte before SND.UNA.
     fn fill_keep_alive(&self, repr: &mut TcpRepr<'_>)
         ensures segment { segment_of repr.new ≡ of_kind Kind.KeepAlive self.now (segment_of repr.old) }
         ensures payload { length repr.new.payload.now ≡ 1 }
     {
         repr.seq_number = self.local_seq_no.minus(1);
+        repr.window_len = self.aside_field(repr.window_len);
         repr.payload = &[0];
     }
 

@@ -2,7 +2,10 @@
 ghost use Rattle.std.specs.Prelude.{◌≡◌, ◌≤◌, ◌<◌, ◌^◌};
 ghost use Rattle.sock_core.specs.Bounds.{IsMoment};
 ghost use Rattle.sock_tcp.specs.View.{moment_of};
-ghost use Rattle.sock_tcp.specs.Due.{control_due, own_mss, effective_mss, timestamp_room};
+ghost use Rattle.std.specs.Prelude.{count_by, is_some};
+ghost use Rattle.sock_tcp.specs.Due.{control_due, own_mss, effective_mss, options_room, ranges_room, timestamp_room};
+ghost use Rattle.sock_tcp.specs.Due.{tells_ranges};
+ghost use Rattle.sock_tcp.specs.Sack.{sack_ranges};
 ghost use Rattle.sock_tcp.specs.Due.{flight, limited, congestion_left, sendable, waits_by_nagle, is_held_back};
 ghost use Rattle.sock_tcp.specs.Due.{data_due, data_due_by, ack_due};
 ghost use Rattle.sock_tcp.specs.Due.{ack_poll};
@@ -14,6 +17,7 @@ use crate::recovery::Recovery;
 use crate::rules::Rules;
 use crate::tuple::Tuple;
 use control_wire::TcpSeqNumber;
+use control_wire::tcp::sack_count;
 use ip_wire::IpAddress;
 use sock_core::congestion::Controller;
 use sock_core::seq::before;
@@ -21,6 +25,9 @@ use sock_core::{Context, PollAt};
 
 // How much of each segment a timestamp takes.
 const TIMESTAMP_ROOM: usize = 12;
+
+// And three ranges with it.
+const MOST_OPTIONS: usize = 36;
 
 // Over IPv6 less counts as this: its links carry 1280 bytes (RFC 8200, section 5).
 const LEAST_IPV6_MTU: usize = 576;
@@ -46,11 +53,60 @@ impl<'a> ControlBlock<'a> {
         if self.stamps { TIMESTAMP_ROOM } else { 0 }
     }
 
+    // A segment that is no reply tells what is held.
+    #[inline(always)]
+    pub(crate) fn tells_ranges<C: Context>(&self, cx: &C, tuple: &Tuple) -> bool
+        ensures { result ≡ tells_ranges self.now tuple.now (C.facts cx.now) }
+    {
+        match self.rules {
+            Rules::Smoltcp => false,
+            Rules::Rfc => {
+                self.remote_has_sack
+                    && !self.rx_buffer.holds_nothing()
+                    && own_mss(cx, tuple) > MOST_OPTIONS
+            }
+        }
+    }
+
+    // How much of each segment the ranges take, with a timestamp.
+    #[inline(never)]
+    fn ranges_room(&self) -> usize
+        ensures { result ≡ ranges_room self.now.stamps (count_by is_some (sack_ranges self.now)) }
+    {
+        let stamp = if self.stamps { 10 } else { 0 };
+        let count = sack_count(&self.sack_ranges());
+        let ranges = if count == 0 { 0 } else { 2 + 8 * count };
+        (stamp + ranges + 3) / 4 * 4
+    }
+
+    // How much of each segment its options take, by the RFCs' rules.
+    #[inline(never)]
+    fn rfc_options_room<C: Context>(&self, cx: &C, tuple: &Tuple) -> usize
+        ensures { result ≡ options_room self.now tuple.now (C.facts cx.now) }
+    {
+        if self.tells_ranges(cx, tuple) {
+            self.ranges_room()
+        } else {
+            self.timestamp_room()
+        }
+    }
+
+    // How much of each segment its options take.
+    #[inline(always)]
+    fn options_room<C: Context>(&self, cx: &C, tuple: &Tuple) -> usize
+        ensures { result ≡ options_room self.now tuple.now (C.facts cx.now) }
+    {
+        match self.rules {
+            Rules::Smoltcp => self.timestamp_room(),
+            Rules::Rfc => self.rfc_options_room(cx, tuple),
+        }
+    }
+
     pub(crate) fn effective_mss<C: Context>(&self, cx: &C, tuple: &Tuple) -> usize
         ensures value { result ≡ effective_mss self.now tuple.now (C.facts cx.now) }
         ensures small { result ≤ 65535 }
     {
-        let room = self.timestamp_room();
+        let room = self.options_room(cx, tuple);
         own_mss(cx, tuple).min(self.remote_mss).saturating_sub(room)
     }
 

@@ -38,7 +38,7 @@ impl<'a> ControlBlock<'a> {
     }
 
     // The field that keeps the right edge.
-    fn kept_field(&self) -> u16
+    pub(crate) fn kept_field(&self) -> u16
         ensures { result ≡ kept_field self.now }
     {
         let unit = 1usize << self.remote_win_shift;

@@ -9,7 +9,8 @@ ghost use Rattle.sock_core.specs.Received.{ranges_of};
 ghost use Rattle.net_base.specs.Ranges.{edges};
 ghost use Rattle.sock_tcp.specs.Window.{next_ack};
 ghost use Rattle.sock_tcp.specs.Replies.{reply_ip, bare_reply, rst_ack, rst_number, rst_segment, with_header};
-ghost use Rattle.sock_tcp.specs.Replies.{chosen_range, wire_edges, sack_range, ack_segment, ack_kept};
+ghost use Rattle.sock_tcp.specs.Replies.{chosen_range, wire_edges, is_same, second_range, third_range, sack_ranges};
+ghost use Rattle.sock_tcp.specs.Replies.{ack_segment, ack_kept};
 ghost use Rattle.sock_tcp.specs.Replies.{Answers, IsReplyStamp, IsSentAs, echoed};
 ghost use Rattle.sock_tcp.specs.Rfc.Numbers.{reply_numbered};
 
@@ -86,6 +87,26 @@ fn wire_edges(next: TcpSeqNumber, range: (usize, usize)) -> (u32, u32)
     (wire_number(next, range.0), wire_number(next, range.1))
 }
 
+// The same of a range, if there is one.
+fn on_wire(next: TcpSeqNumber, range: Option<(usize, usize)>) -> Option<(u32, u32)>
+    ensures { result ≡ option_map (wire_edges next) range }
+{
+    match range {
+        None => None,
+        Some(range) => Some(wire_edges(next, range)),
+    }
+}
+
+// They begin at the same place.
+fn is_same(range: Option<(usize, usize)>, other: Option<(usize, usize)>) -> bool
+    ensures { result ≡ is_same range other }
+{
+    match (range, other) {
+        (Some(range), Some(other)) => range.0 == other.0,
+        _ => false,
+    }
+}
+
 impl<'a> ControlBlock<'a> {
     // The range around the last segment in the window, else the first.
     fn chosen_range(&self) -> Option<(usize, usize)>
@@ -102,17 +123,47 @@ impl<'a> ControlBlock<'a> {
         }
     }
 
-    // The range that tells a peer which permits it what is held (RFC 2018, section 4).
-    #[tactic(auto, unfolding(crate::specs::Replies::sack_range))]
-    fn sack_range(&self) -> Option<(u32, u32)>
-        ensures { result ≡ sack_range self.now }
+    // The first range beside the chosen one.
+    fn second_range(&self, chosen: Option<(usize, usize)>) -> Option<(usize, usize)>
+        ensures { result ≡ second_range chosen (edges (ranges_of self.now.rx_buffer.held)) }
+    {
+        let first = self.rx_buffer.range_at(0);
+        if is_same(chosen, first) {
+            self.rx_buffer.range_at(1)
+        } else {
+            first
+        }
+    }
+
+    // The one behind that.
+    fn third_range(&self, chosen: Option<(usize, usize)>) -> Option<(usize, usize)>
+        ensures { result ≡ third_range chosen (edges (ranges_of self.now.rx_buffer.held)) }
+    {
+        let second = self.rx_buffer.range_at(1);
+        if is_same(chosen, self.rx_buffer.range_at(0)) || is_same(chosen, second) {
+            self.rx_buffer.range_at(2)
+        } else {
+            second
+        }
+    }
+
+    // The ranges that tell a peer which permits it what is held (RFC 2018, section 4).
+    #[tactic(auto, unfolding(crate::specs::Replies::sack_ranges))]
+    pub(crate) fn sack_ranges(&self) -> [Option<(u32, u32)>; 3]
+        ensures { result ≡ sack_ranges self.now }
     {
         if !self.remote_has_sack {
-            return None;
+            return [None, None, None];
         }
-        match self.chosen_range() {
-            None => None,
-            Some(range) => Some(wire_edges(self.next_ack(), range)),
+        let next = self.next_ack();
+        let chosen = self.chosen_range();
+        let first = on_wire(next, chosen);
+        match self.rules {
+            Rules::Smoltcp => [first, None, None],
+            Rules::Rfc => {
+                let second = on_wire(next, self.second_range(chosen));
+                [first, second, on_wire(next, self.third_range(chosen))]
+            }
         }
     }
 
@@ -129,7 +180,7 @@ impl<'a> ControlBlock<'a> {
         reply.seq_number = self.remote_last_seq;
         reply.ack_number = Some(self.next_ack());
         reply.window_len = self.window_field();
-        reply.sack_ranges = [self.sack_range(), None, None];
+        reply.sack_ranges = self.sack_ranges();
         self.remote_last_ack = reply.ack_number;
         self.remote_last_win = reply.window_len;
         reply

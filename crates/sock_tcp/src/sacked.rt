@@ -1,7 +1,7 @@
 //! What the peer tells by SACK (RFC 2018, section 5), and which hole it lets out (RFC 6675, sections 4 and 5).
 ghost use Rattle.std.specs.Prelude.{◌≡◌, ◌≤◌, ◌<◌, ◌^◌, ◌&&◌, length};
 ghost use Rattle.control_wire.specs.Segment.{segment_of};
-ghost use Rattle.sock_tcp.specs.Content.{again_from, next_hole};
+ghost use Rattle.sock_tcp.specs.Content.{again_from, hole_from, next_hole};
 ghost use Rattle.sock_tcp.specs.Rfc.Recovery.{is_marked, is_partial, is_sent_again, is_telling, lets_out, sacked_after};
 ghost use Rattle.sock_tcp.specs.Rfc.Recovery.{sacked_by};
 ghost use Rattle.sock_tcp.specs.Rfc.Recovery.{again, again_by, has_hole, is_lost_again, is_lost_in, only_tells};
@@ -28,13 +28,29 @@ pub(crate) fn offset_from(number: TcpSeqNumber, una: TcpSeqNumber) -> usize
     }
 }
 
+// From where on holes go out again: from SND.UNA on, where the segment there was lost again.
+fn hole_from(una_lost: bool, high_rxt: TcpSeqNumber, una: TcpSeqNumber) -> usize
+    ensures value { result ≡ hole_from una_lost high_rxt una }
+    ensures small { result < 2 ^ 32 }
+{
+    if una_lost {
+        0
+    } else {
+        offset_from(high_rxt, una)
+    }
+}
+
 impl Recovery {
     // The next hole to be sent again, of what was told by SACK, with SND.UNA there.
     pub(crate) fn next_hole(self, sacked: &Scoreboard, una: TcpSeqNumber) -> Option<Hole>
         ensures { result ≡ next_hole self sacked.now una }
     {
         match self {
-            Recovery::Fast { high_rxt, .. } => { sacked.hole_behind(offset_from(high_rxt, una)) }
+            Recovery::Fast {
+                high_rxt,
+                una_lost,
+                ..
+            } => { sacked.hole_behind(hole_from(una_lost, high_rxt, una)) }
             Recovery::Probe { start, end, .. } => Some(Hole {
                 start: start.since(una) as u32,
                 end: end.since(una) as u32,
@@ -48,8 +64,14 @@ impl Recovery {
         ensures { result ≡ has_hole self sacked.now una }
     {
         match self {
-            Recovery::Fast { high_rxt, .. } => {
-                sacked.hole_behind(offset_from(high_rxt, una)).is_some()
+            Recovery::Fast {
+                high_rxt,
+                una_lost,
+                ..
+            } => {
+                sacked
+                    .hole_behind(hole_from(una_lost, high_rxt, una))
+                    .is_some()
             }
             _ => false,
         }
@@ -80,10 +102,12 @@ impl Recovery {
             Recovery::Fast {
                 high_rxt,
                 resent_at,
+                una_lost,
                 ..
             } => {
-                before(una, high_rxt)
-                    && offset_from(resent_at, una) < sacked.highest_told() as usize
+                !una_lost
+                    && (before(una, high_rxt)
+                        && offset_from(resent_at, una) < sacked.highest_told() as usize)
             }
             _ => false,
         }
@@ -93,7 +117,6 @@ impl Recovery {
     fn again(self, news: bool, lost: bool, una: TcpSeqNumber, next: TcpSeqNumber) -> Recovery
         ensures { result ≡ again_by news lost self una next }
     {
-        let resent_at = self.highest(next);
         match (news, lost, self) {
             (
                 true,
@@ -106,21 +129,36 @@ impl Recovery {
             ) => Recovery::Fast {
                 point,
                 high_rxt,
-                resent_at,
+                resent_at: later(next, point),
                 acked: true,
+                trailed: false,
+                una_lost: false,
             },
-            (false, true, Recovery::Fast { point, acked, .. }) => Recovery::Fast {
+            (
+                false,
+                true,
+                Recovery::Fast {
+                    point,
+                    high_rxt,
+                    acked,
+                    trailed,
+                    ..
+                },
+            ) => Recovery::Fast {
                 point,
-                high_rxt: una,
-                resent_at,
+                high_rxt: if trailed { high_rxt } else { una },
+                resent_at: later(next, point),
                 acked,
+                trailed: false,
+                una_lost: true,
             },
             (true, _, Recovery::Probe { end, .. }) if before(end, una) => Recovery::Open,
             _ => self,
         }
     }
 
-    // A segment went out, with SND.NXT there: one that begins before that was sent again.
+    // A segment went out, with SND.NXT there: one that begins before that was sent again. What is told next is measured
+    // from now on, where it was lost again; else it trails new bytes, where some went out since.
     pub(crate) fn resent(self, next: TcpSeqNumber, emitted: &Emitted) -> Recovery
         ensures { result ≡ resent_by self next emitted.now }
     {
@@ -130,11 +168,19 @@ impl Recovery {
                 high_rxt,
                 resent_at,
                 acked,
+                trailed,
+                una_lost,
             } if before(emitted.seq_number, next) && emitted.len != 0 => Recovery::Fast {
                 point,
                 high_rxt: later(high_rxt, emitted.end),
-                resent_at,
+                resent_at: if una_lost {
+                    later(next, point)
+                } else {
+                    resent_at
+                },
                 acked,
+                trailed: !una_lost && (trailed || next != resent_at),
+                una_lost: false,
             },
             _ => self,
         }
@@ -198,7 +244,8 @@ impl Before {
             return false;
         }
         let sacked = self.sacked_after(after);
-        self.again(after).has_hole(&sacked, after.local_seq_no) && self.has_room(after)
+        self.again(after).has_hole(&sacked, after.local_seq_no)
+            && (self.is_lost_again(after) || self.has_room(after))
     }
 
     // A partial acknowledgement shows a hole that was not sent again.

@@ -7,7 +7,8 @@ ghost use Rattle.sock_tcp.specs.Same.{SameQueues};
 ghost use Rattle.sock_tcp.specs.Window.{next_ack};
 ghost use Rattle.sock_tcp.specs.Steps.{window_taken, is_window_changed, released, is_duplicate, duplicate_counted};
 ghost use Rattle.sock_tcp.specs.Steps.{ack_counted, una_advanced, acknowledged, timestamp_taken};
-ghost use Rattle.sock_tcp.specs.Steps.{timer_acked, begins_probe, probe_set, timer_set, heard, joined, is_ack_owed};
+ghost use Rattle.sock_tcp.specs.Steps.{timer_acked, begins_probe, goes_on_probing, probe_set, timer_set, heard, joined};
+ghost use Rattle.sock_tcp.specs.Steps.{is_ack_owed, is_second};
 ghost use Rattle.sock_tcp.specs.Steps.{ack_delayed, moves_recent};
 ghost use Rattle.sock_tcp.specs.Timers.{IsTimer};
 
@@ -23,6 +24,16 @@ use sock_core::seq::{before, later, not_after};
 
 // As many duplicates of an acknowledgement call for a fast retransmission (RFC 5681, section 3.2).
 const DUPLICATES: u8 = 3;
+
+// The interval of probes goes on to double, by the RFCs' rules, where the byte of one is acknowledged.
+fn goes_on_probing(rules: Rules, timer: Timer) -> bool
+    ensures { result ≡ goes_on_probing rules timer }
+{
+    match (rules, timer) {
+        (Rules::Rfc, Timer::ZeroWindowProbe { .. }) => true,
+        _ => false,
+    }
+}
 
 impl<'a> ControlBlock<'a> {
     // The peer's window: whether it is another than before.
@@ -174,7 +185,8 @@ impl<'a> ControlBlock<'a> {
     fn begins_probe(&self, timer: Timer, acked: Acked) -> bool
         ensures { result ≡ begins_probe timer self.now acked }
     {
-        !self.tx_buffer.is_empty() && (timer.is_idle() || acked.len != 0)
+        let goes_on = goes_on_probing(self.rules, timer);
+        !self.tx_buffer.is_empty() && (timer.is_idle() || (acked.len != 0 && !goes_on))
     }
 
     // Probes begin while the peer has no window, and end when it has one.
@@ -240,6 +252,16 @@ impl<'a> ControlBlock<'a> {
         }
     }
 
+    // More than a segment is unacknowledged.
+    fn is_second(&self) -> bool
+        ensures { result ≡ is_second self.now.rules self.now }
+    {
+        match self.rules {
+            Rules::Smoltcp => self.is_ack_owed(self.remote_mss),
+            Rules::Rfc => true,
+        }
+    }
+
     #[tactic(auto, unfolding(crate::specs::Steps::ack_delayed))]
     pub(crate) fn delay_ack(&mut self, now: Instant)
         requires { IsMoment now.micros }
@@ -258,7 +280,7 @@ impl<'a> ControlBlock<'a> {
                 self.ack_delay_until = after(now, delay);
             }
             AckDelayTimer::Waiting(_) => {
-                if self.is_ack_owed(self.remote_mss) {
+                if self.is_second() {
                     self.ack_delay_kind = DelayKind::Immediate;
                 }
             }

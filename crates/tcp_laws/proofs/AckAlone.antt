@@ -1,7 +1,9 @@
 -- A segment that takes no sequence number, and the socket just before it goes out.
 use Rattle.std.proofs.Common.{◌≡◌, ℕ, zero, suc, ◌+◌, ◌-◌, ◌<◌, ◌≤◌, ◌%◌, ◌^◌, ◌⊎◌, inl, inr, Bool, true, false, true≢false, refl, sym, ap, subst, ◌∙◌, List, length, drop, min, Option, Some, None, is_none, arith, length-take, length-drop}
-use Rattle.std.specs.Prelude.{if◌then◌else◌, ◌==◌}
-use Rattle.std.proofs.lemmas.Bool.{eq-eqb}
+use Rattle.std.specs.Prelude.{count_by, if◌then◌else◌, is_some, nat_lt, ◌==◌}
+use Rattle.std.proofs.lemmas.Bool.{and_parts, eq-eqb, ltb-true}
+use Rattle.sock_tcp.proofs.Fitting.{room_small}
+use Rattle.sock_tcp.specs.Sack.{sack_ranges, tells_by}
 use Rattle.std.proofs.lemmas.Option.{none-some, same_Some}
 use Rattle.net_base.specs.Ring.{in_one_piece}
 use Rattle.net_base.proofs.Cells.{piece_none}
@@ -14,8 +16,8 @@ use Rattle.control_wire.specs.Segment.{Segment, control_len, segment_len}
 use Rattle.control_wire.specs.declared.tcp.TcpControl.TheVariants as control
 use Rattle.sock_core.specs.Facts.{Facts, IsLawful}
 use Rattle.sock_tcp.specs.Begin.{last_ts_set, last_ts_set_at, told_ready, readied, retransmission_begun, fast_retransmission_marked, after_timer, after_timers, begun, begun_to, unless_paused, ended, by_due, before_emit, before_emit_to, peer_of, probing_begun, timers_by}
-use Rattle.sock_tcp.specs.Content.{asked, carries_data, data_control, filled, hole_of, is_probing, offset_of, plain_segment, size_of, window_left, with_data, resent_size}
-use Rattle.sock_tcp.specs.Due.{congestion_left, effective_mss, flight, ip_header_len, mtu_for, is_closing, is_due, is_opening, sendable, timestamp_room, window_field}
+use Rattle.sock_tcp.specs.Content.{asked, carries_data, data_control, filled, hole_of, is_probing, offset_of, plain_segment, size_of, window_left, with_data, with_ranges, resent_size}
+use Rattle.sock_tcp.specs.Due.{congestion_left, effective_mss, flight, ip_header_len, mtu_for, is_closing, is_due, is_opening, own_mss, ranges_room, sendable, tells_ranges, timestamp_room, window_field}
 use Rattle.sock_tcp.specs.Opening.{renewed}
 use Rattle.sock_tcp.specs.Polls.{is_reached, timeout_poll}
 use Rattle.sock_tcp.specs.Queue.{IsLent, Queue}
@@ -172,14 +174,24 @@ pub record AckOf (u : View) (b : Segment) : Type 0 where
 abbrev pub RstOrAck : View → Segment → Type 0
 RstOrAck u b = ((u.state ≡ state.Closed) × (b.control ≡ control.Rst)) ⊎ AckOf u b
 
-mss_some : (v : View) (t : Tuple) (f : Facts) → 68 ≤ f.mtu → 48 ≤ v.remote_mss → 0 < effective_mss v t f
-mss_some v t f mtu mss = go t.local.addr v.stamps
+pub mss_some : (v : View) (t : Tuple) (f : Facts) → 68 ≤ f.mtu → 48 ≤ v.remote_mss → 0 < effective_mss v t f
+mss_some v t f mtu mss = by (tells_ranges v t f) refl
   where
     go : (a : IpAddress) (b : Bool) → 0 < min (mtu_for a f.mtu - ip_header_len a - 20) v.remote_mss - timestamp_room b
     go (address.Ipv4 a) true = omega (arith, mtu, mss)
     go (address.Ipv4 a) false = omega (arith, mtu, mss)
     go (address.Ipv6 a) true = omega (arith, mtu, mss)
     go (address.Ipv6 a) false = omega (arith, mtu, mss)
+
+    rest : ℕ
+    rest = ranges_room v.stamps (count_by is_some (sack_ranges v))
+
+    by : (b : Bool) → tells_ranges v t f ≡ b → 0 < min (own_mss f t) v.remote_mss - (if b then rest else timestamp_room v.stamps)
+    by false e = go t.local.addr v.stamps
+    by true e =
+        let wide : 36 < own_mss f t = ltb-true 36 (own_mss f t) (and_parts (tells_by v.rules v.remote_has_sack v.rx_buffer.held) (nat_lt 36 (own_mss f t)) e).1 in
+        let few : rest ≤ 36 = subst (λ c. (if c then rest else timestamp_room v.stamps) ≤ 36) e (room_small v t f) in
+        omega (arith, wide, few, mss)
 
 fin_len : (c : Bool) (m n : ℕ) → c ≡ true → m ≡ n → control_len (if m == n then (if c then control.Fin else control.None) else control.None) ≡ 1
 fin_len c m n e i = rw (e, i, eq_same n) refl
@@ -297,24 +309,32 @@ module _ (u : View) (p : Tuple) (f : Facts) (stamp : Option ℕ) (bytes : List �
       same : (x : Segment) → Some x ≡ Some b → x ≡ b
       same x e = same_Some x b e
 
-      idle : (st : State) → u.state ≡ st → Sends st → is_opening st ≡ false → is_closing st ≡ false → n ≡ 0 → flight u ≡ 0 → plain ≡ b → RstOrAck u b
-      idle st is at shut nc z y i = inr (record {
+      idle : (st : State) → u.state ≡ st → Sends st → is_opening st ≡ false → is_closing st ≡ false → n ≡ 0 → flight u ≡ 0 → (x : Segment) → TellsAck u x → x ≡ b → RstOrAck u b
+      idle st is at shut nc z y x a i = inr (record {
         quiet = record { sent = omega (arith, z); marked = λ e. z; again = λ e. z; opened = ap is_opening is ∙ shut; no_fin = λ e k. absurd (true≢false (sym e ∙ ap is_closing is ∙ nc)) };
-        tells = subst (TellsAck u) i (record { ack = refl; window = refl; number = inl refl; empty = refl });
+        tells = subst (TellsAck u) i a;
         sends = subst Sends (sym is) at;
         within = omega (arith, y);
       })
 
-      with_bytes : (st : State) → u.state ≡ st → carries_data st ≡ true → is_opening st ≡ false → flight u ≤ n + 1 → with_data u bytes plain ≡ b → RstOrAck u b
-      with_bytes st is c shut within i = inr (subst (AckOf u) i (data_ack (ap carries_data is ∙ c) (ap is_opening is ∙ shut) within (ap (λ (x : Segment). segment_len x) i ∙ none)))
+      beside : AckOf u (with_data u bytes plain) → AckOf u (with_ranges u p f (with_data u bytes plain))
+      beside a = record {
+        quiet = a.quiet;
+        tells = record { ack = a.tells.ack; window = a.tells.window; number = a.tells.number; empty = a.tells.empty };
+        sends = a.sends;
+        within = a.within;
+      }
+
+      with_bytes : (st : State) → u.state ≡ st → carries_data st ≡ true → is_opening st ≡ false → flight u ≤ n + 1 → with_ranges u p f (with_data u bytes plain) ≡ b → RstOrAck u b
+      with_bytes st is c shut within i = inr (subst (AckOf u) i (beside (data_ack (ap carries_data is ∙ c) (ap is_opening is ∙ shut) within (ap (λ (x : Segment). segment_len x) i ∙ none))))
 
       by : (st : State) → u.state ≡ st → Row st u.timer u.keep_alive (flight u) n → filled st u p f bytes plain ≡ Some b → RstOrAck u b
       by state.Closed is r e = inl (is, ap (λ (x : Segment). x.control) (sym (same _ e)))
       by state.Listen is r e = absurd (none-some b e)
       by state.SynSent is r e = let l : 1 ≡ segment_len b = ap (λ (x : Segment). segment_len x) (same _ e) in absurd (omega (arith, l, none))
       by state.SynReceived is r e = let l : 1 ≡ segment_len b = ap (λ (x : Segment). segment_len x) (same _ e) in absurd (omega (arith, l, none))
-      by state.FinWait2 is r e = idle state.FinWait2 is (inl refl) refl refl r.1 r.2 (same _ e)
-      by state.TimeWait is r e = idle state.TimeWait is (inr (inl refl)) refl refl r.1 r.2 (same _ e)
+      by state.FinWait2 is r e = idle state.FinWait2 is (inl refl) refl refl r.1 r.2 _ (record { ack = refl; window = refl; number = inl refl; empty = refl }) (same _ e)
+      by state.TimeWait is r e = idle state.TimeWait is (inr (inl refl)) refl refl r.1 r.2 _ (record { ack = refl; window = refl; number = inl refl; empty = refl }) (same _ e)
       by state.Established is r e = with_bytes state.Established is refl refl (omega (arith, r.1)) (same _ e)
       by state.CloseWait is r e = with_bytes state.CloseWait is refl refl (omega (arith, r.1)) (same _ e)
       by state.FinWait1 is r e = with_bytes state.FinWait1 is refl refl r.1 (same _ e)

@@ -12,6 +12,7 @@ use Rattle.sock_tcp.proofs.Lending.{first_within}
 use Rattle.sock_tcp.proofs.Windows.{accepted_end_small, accepted_start, accepted_start_small, not_far, window_width}
 use Rattle.sock_tcp.specs.Opening.{endpoints}
 use Rattle.sock_tcp.specs.Queues.{ReadsWithIf, fitting, may_recv, may_send, read_off, readable}
+use Rattle.sock_tcp.specs.Content.{aside_field}
 use Rattle.sock_tcp.specs.Rfc.OwnWindow.{field_by, is_grown, kept_field, space_field}
 use Rattle.sock_tcp.specs.View.{View}
 use Rattle.sock_tcp.specs.Window.{accepted_window, honored_window, next_ack, space_end, starts_inside}
@@ -143,10 +144,17 @@ field_within r v =
     less rules.Smoltcp = omega arith
     less rules.Rfc = either (is_grown v)
 
+aside_within : (r : Rules) (v : View) → aside_field r v (field_by r v) * 2 ^ v.remote_win_shift ≤ length v.rx_buffer.held
+aside_within rules.Smoltcp v = field_within rules.Smoltcp v
+aside_within rules.Rfc v =
+    let most = mul-le-mul_right {m = kept_field v} {n = length v.rx_buffer.held / 2 ^ v.remote_win_shift} (2 ^ v.remote_win_shift) (omega arith) in
+    omega (arith, most, div-mul-le_self (length v.rx_buffer.held) (2 ^ v.remote_win_shift))
+
 told_within : (v : View) (n : ℕ) → length v.rx_buffer.held ≤ 2 ^ 30 → HasTold v n → n ≤ length v.rx_buffer.held
 told_within v n room (inl e) = omega (arith, e, window_width v room)
 told_within v n room (inr (inl e)) = omega (arith, e, field_within v.rules v)
-told_within v n room (inr (inr e)) = omega (arith, e)
+told_within v n room (inr (inr (inl e))) = omega (arith, e, aside_within v.rules v)
+told_within v n room (inr (inr (inr e))) = omega (arith, e)
 
 pub told_windows_are_honored : ToldWindowsAreHonored
 told_windows_are_honored rx tx v w k j n ack size run has lasts is told = record { reaches = reaches; inside = inside }

@@ -114,7 +114,7 @@ over_again false true recovery.Open una nxt e = refl
 over_again false false recovery.Open una nxt e = refl
 over_again false true (recovery.Probe start end again) una nxt e = refl
 over_again false false (recovery.Probe start end again) una nxt e = refl
-over_again news lost (recovery.Fast point high_rxt resent_at acked) una nxt e = absurd cc
+over_again news lost (recovery.Fast point high_rxt resent_at acked trailed una_lost) una nxt e = absurd cc
 over_again news lost (recovery.Timeout point) una nxt e = absurd cc
 
 over_gone : (u : Bool) (r : Recovery) (una : TcpSeqNumber) → is_over r ≡ true → is_over (gone_on (spared u r) una) ≡ true
@@ -122,17 +122,17 @@ over_gone true recovery.Open una e = refl
 over_gone true (recovery.Probe start end again) una e = refl
 over_gone false recovery.Open una e = refl
 over_gone false (recovery.Probe start end again) una e = refl
-over_gone u (recovery.Fast point high_rxt resent_at acked) una e = absurd cc
+over_gone u (recovery.Fast point high_rxt resent_at acked trailed una_lost) una e = absurd cc
 over_gone u (recovery.Timeout point) una e = absurd cc
 
 over_after : (b : Before) (w : View) → is_over b.recovery ≡ true → begins b w ≡ false → is_over (recovery_after b w) ≡ true
 over_after b w over begun = carries (carries_data w.state)
   where
-    by : (t : Bool) → t ≡ false → is_over (if t then recovery.Fast w.remote_last_seq w.local_seq_no w.remote_last_seq false else gone_on (spared (is_undone b w) (again b w)) w.local_seq_no) ≡ true
+    by : (t : Bool) → t ≡ false → is_over (if t then recovery.Fast w.remote_last_seq w.local_seq_no w.remote_last_seq false false false else gone_on (spared (is_undone b w) (again b w)) w.local_seq_no) ≡ true
     by true e = absurd cc
     by false e = over_gone (is_undone b w) (again b w) w.local_seq_no (over_again (is_news b w) (is_lost_again b w) b.recovery w.local_seq_no w.remote_last_seq over)
 
-    carries : (c : Bool) → is_over (if c then (if begins b w then recovery.Fast w.remote_last_seq w.local_seq_no w.remote_last_seq false else gone_on (spared (is_undone b w) (again b w)) w.local_seq_no) else recovery.Open) ≡ true
+    carries : (c : Bool) → is_over (if c then (if begins b w then recovery.Fast w.remote_last_seq w.local_seq_no w.remote_last_seq false false false else gone_on (spared (is_undone b w) (again b w)) w.local_seq_no) else recovery.Open) ≡ true
     carries true = by (begins b w) begun
     carries false = refl
 
@@ -295,7 +295,7 @@ module _ (v : View) (t : Tuple) (f : Facts) (h : IsLateOver v t f) where
     marked = ap (λ (b : Begun). b.view.pending_fast_retransmit) begins_so;
     una = ap (λ (b : Begun). b.view.local_seq_no) begins_so ∙ still.una;
     nxt = ap (λ (b : Begun). b.view.remote_last_seq) begins_so ∙ still.nxt;
-    recovery = ap (λ (b : Begun). b.view.recovery) begins_so ∙ (λ i. recovery.Fast (still.nxt i) (still.una i) (still.nxt i) false);
+    recovery = ap (λ (b : Begun). b.view.recovery) begins_so ∙ (λ i. recovery.Fast (still.nxt i) (still.una i) (still.nxt i) false false false);
   }
 
 pub late_hole_goes_out : LateHoleGoesOut

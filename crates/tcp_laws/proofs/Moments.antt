@@ -21,7 +21,7 @@ use Rattle.sock_tcp.specs.Process.{timer_restarted}
 use Rattle.sock_tcp.specs.Rfc.Reordering.{late_wait}
 use Rattle.sock_tcp.specs.Rfc.TailLoss.{tail_wait, sooner}
 use Rattle.sock_tcp.specs.Rfc.Recovery.{soonest}
-use Rattle.sock_tcp.specs.Steps.{delay_of, next_delay, is_ack_owed, timer_acked, probe_ended, probe_set, begins_probe}
+use Rattle.sock_tcp.specs.Steps.{delay_of, next_delay, is_ack_owed, is_second, timer_acked, probe_ended, probe_set, begins_probe}
 use Rattle.sock_tcp.specs.Timers.{after, close_delay, close_from, retransmit_from, rto_of, twice, idle_from, is_over, keep_alive_renewed, probe_doubled, probe_from, retransmit_unless_set}
 use Rattle.sock_tcp.specs.View.{View}
 use Rattle.sock_tcp.specs.Window.{next_ack}
@@ -286,7 +286,7 @@ module _ (most : Duration) (minute : 60000000 ≤ most.micros) where
 
         next : (t : AckDelayTimer) → is_delay_by now most t ≡ true → is_delay_by now most (next_delay t v now d) ≡ true
         next ack_delay.Idle h = soon d (leb-true d.micros most.micros s)
-        next (ack_delay.Waiting at) h = more (is_ack_owed v.remote_last_ack v.remote_mss (next_ack v)) at h
+        next (ack_delay.Waiting at) h = more (is_second v.rules v) at h
         next ack_delay.Immediate h = refl
 
         go : (b : Bool) → is_delay_by now most (if b then next_delay v.ack_delay_timer v now d else v.ack_delay_timer) ≡ true

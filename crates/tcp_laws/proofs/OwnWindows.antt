@@ -12,6 +12,7 @@ use Rattle.sock_core.specs.Received.{room_of}
 use Rattle.sock_core.specs.Seq.{is_before, later_of}
 use Rattle.sock_tcp.proofs.OwnWindow.{up_covers}
 use Rattle.sock_tcp.proofs.Windows.{far, is_not_before, window_width}
+use Rattle.sock_tcp.specs.Content.{aside_field}
 use Rattle.sock_tcp.specs.Due.{edge_sent, field_left, flight, is_closed, is_doubled, tells_window, window_doubled, window_field}
 use Rattle.sock_tcp.specs.Rfc.Numbers.{highest_number, number_out_by, numbered}
 use Rattle.sock_tcp.specs.Rfc.OwnWindow.{field_by, field_up, is_grown, kept_field, may_grow, space_field, told_left}
@@ -27,7 +28,7 @@ use Rattle.sock_tcp.specs.declared.timer.Timer.{Timer}
 use Rattle.net_base.specs.declared.time.Duration.{Duration}
 use Rattle.std.specs.Prelude.{Option}
 use Rattle.tcp_laws.proofs.Pointed.{IsNumbered, numbered_of, reached_pointed}
-use Rattle.tcp_laws.specs.Windows.{IsSmallGrowth, NoWindowByBytes, NumberIsNotBehind, OpenedWindowIsTold, RightEdgeStays}
+use Rattle.tcp_laws.specs.Windows.{IsSmallGrowth, KeepAliveMovesNoEdge, NoWindowByBytes, NumberIsNotBehind, OpenedWindowIsTold, RightEdgeStays}
 use Rattle.tcp_laws.proofs.Ordered.{IsOrdered, Row}
 use Rattle.tcp_laws.proofs.OrderedCalls.{reached_ordered}
 use Rattle.tcp_laws.proofs.SocketSteps.{holds_after}
@@ -85,6 +86,19 @@ right_edge_stays v r is =
     let own = (holds_after r.rx r.tx v r.counts r.rx_size r.run).room in
     let room : length v.rx_buffer.held ≤ 2 ^ 30 = omega (arith, own) in
     subst (λ q. Reaches v (window_width v room) (field_by q v)) (sym is) (rfc_reaches v (window_width v room))
+
+-- what keeps the right edge moves it on by less than a unit
+kept_below : (v : View) → kept_field v * 2 ^ v.remote_win_shift < told_left v + 2 ^ v.remote_win_shift
+kept_below v =
+    let most = mul-le-mul_right {m = kept_field v} {n = field_up (told_left v) v.remote_win_shift} (2 ^ v.remote_win_shift) (omega arith) in
+    let up = div-mul-le_self (told_left v + (2 ^ v.remote_win_shift - 1)) (2 ^ v.remote_win_shift) in
+    omega (arith, most, up, pow_pos v.remote_win_shift)
+
+pub keep_alive_moves_no_edge : KeepAliveMovesNoEdge
+keep_alive_moves_no_edge v s r is =
+    let own = (holds_after r.rx r.tx v r.counts r.rx_size r.run).room in
+    let room : length v.rx_buffer.held ≤ 2 ^ 30 = omega (arith, own) in
+    subst (λ q. Reaches v (window_width v room) (aside_field q v s.window_len) × (aside_field q v s.window_len * 2 ^ v.remote_win_shift < told_left v + 2 ^ v.remote_win_shift)) (sym is) (kept_reaches v (window_width v room), kept_below v)
 
 -- ---- growth
 
@@ -168,7 +182,7 @@ module _ (una nxt : TcpSeqNumber) (una_small : una.0 < 2 ^ 32) (nxt_small : nxt.
   highest_further : (r : Recovery) → IsNumbered r → seq_sub nxt una ≤ seq_sub (highest_of r nxt) una
   highest_further recovery.Open h = omega arith
   highest_further (recovery.Probe start end again) h = omega arith
-  highest_further (recovery.Fast point high_rxt resent_at acked) h = later_further point h
+  highest_further (recovery.Fast point high_rxt resent_at acked trailed una_lost) h = later_further point h
   highest_further (recovery.Timeout point) h = later_further point h
 
   not_behind : (m : ℕ) → seq_sub nxt una ≤ m → m ≤ 2 ^ 30 + 1 → is_before (seq_add una m) nxt ≡ false

@@ -49,7 +49,7 @@ use Rattle.tcp_laws.proofs.OrderedCalls.{begins_ordered, fresh_ordered, kept_ord
 use Rattle.tcp_laws.proofs.SocketSteps.{setting_leaves}
 
 abbrev pub fits : Recovery → Bool
-fits (recovery.Fast point high_rxt resent_at acked) = nat_lt point.0 (2 ^ 32)
+fits (recovery.Fast point high_rxt resent_at acked trailed una_lost) = nat_lt point.0 (2 ^ 32)
 fits (recovery.Timeout point) = nat_lt point.0 (2 ^ 32)
 fits _ = true
 
@@ -58,14 +58,14 @@ IsPointed v = IsOrdered v × (fits v.recovery ≡ true)
 
 -- in other words
 abbrev pub IsNumbered : Recovery → Type 0
-IsNumbered (recovery.Fast point high_rxt resent_at acked) = point.0 < 2 ^ 32
+IsNumbered (recovery.Fast point high_rxt resent_at acked trailed una_lost) = point.0 < 2 ^ 32
 IsNumbered (recovery.Timeout point) = point.0 < 2 ^ 32
 IsNumbered _ = Unit {0}
 
 pub numbered_of : (r : Recovery) → fits r ≡ true → IsNumbered r
 numbered_of recovery.Open f = tt
 numbered_of (recovery.Probe start end again) f = tt
-numbered_of (recovery.Fast point high_rxt resent_at acked) f = ltb-true point.0 (2 ^ 32) f
+numbered_of (recovery.Fast point high_rxt resent_at acked trailed una_lost) f = ltb-true point.0 (2 ^ 32) f
 numbered_of (recovery.Timeout point) f = ltb-true point.0 (2 ^ 32) f
 
 is_small : (n : TcpSeqNumber) → n.0 < 2 ^ 32 → nat_lt n.0 (2 ^ 32) ≡ true
@@ -76,7 +76,7 @@ is_small n h = grind (arith, nat_tests, h)
 highest_small : (r : Recovery) (nxt : TcpSeqNumber) → fits r ≡ true → nxt.0 < 2 ^ 32 → (highest_of r nxt).0 < 2 ^ 32
 highest_small recovery.Open nxt f h = h
 highest_small (recovery.Probe start end again) nxt f h = h
-highest_small (recovery.Fast point high_rxt resent_at acked) nxt f h = later_small nxt point h (ltb-true point.0 (2 ^ 32) f)
+highest_small (recovery.Fast point high_rxt resent_at acked trailed una_lost) nxt f h = later_small nxt point h (ltb-true point.0 (2 ^ 32) f)
 highest_small (recovery.Timeout point) nxt f h = later_small nxt point h (ltb-true point.0 (2 ^ 32) f)
 
 later_near : (nxt point una : TcpSeqNumber) → nxt.0 < 2 ^ 32 → point.0 < 2 ^ 32 → una.0 < 2 ^ 32 → seq_sub nxt una ≤ 2 ^ 30 + 1 → seq_sub (later_of nxt point) una < 2 ^ 32 - 2 ^ 29
@@ -93,7 +93,7 @@ sent_near v h near = by v.recovery h.1
     by : (r : Recovery) → fits r ≡ true → seq_sub (highest_of r v.remote_last_seq) v.local_seq_no < 2 ^ 32 - 2 ^ 29
     by recovery.Open f = omega (arith, near)
     by (recovery.Probe start end again) f = omega (arith, near)
-    by (recovery.Fast point high_rxt resent_at acked) f = later_near v.remote_last_seq point v.local_seq_no h.0.nxt_small (ltb-true point.0 (2 ^ 32) f) h.0.una_small near
+    by (recovery.Fast point high_rxt resent_at acked trailed una_lost) f = later_near v.remote_last_seq point v.local_seq_no h.0.nxt_small (ltb-true point.0 (2 ^ 32) f) h.0.una_small near
     by (recovery.Timeout point) f = later_near v.remote_last_seq point v.local_seq_no h.0.nxt_small (ltb-true point.0 (2 ^ 32) f) h.0.una_small near
 
 -- ---- a segment, by smoltcp's rules: nothing is done of loss
@@ -155,9 +155,9 @@ beyond_fits r end una f = go (is_before end una)
     go false = f
 
 again_fits : (news lost : Bool) (r : Recovery) (una nxt : TcpSeqNumber) → fits r ≡ true → fits (again_by news lost r una nxt) ≡ true
-again_fits true lost (recovery.Fast point high_rxt resent_at acked) una nxt f = f
-again_fits false true (recovery.Fast point high_rxt resent_at acked) una nxt f = f
-again_fits false false (recovery.Fast point high_rxt resent_at acked) una nxt f = f
+again_fits true lost (recovery.Fast point high_rxt resent_at acked trailed una_lost) una nxt f = f
+again_fits false true (recovery.Fast point high_rxt resent_at acked trailed una_lost) una nxt f = f
+again_fits false false (recovery.Fast point high_rxt resent_at acked trailed una_lost) una nxt f = f
 again_fits true lost (recovery.Probe start end again) una nxt f = beyond_fits (recovery.Probe start end again) end una refl
 again_fits false true (recovery.Probe start end again) una nxt f = f
 again_fits false false (recovery.Probe start end again) una nxt f = f
@@ -173,7 +173,7 @@ again_fits false false (recovery.Timeout point) una nxt f = f
 spared_fits : (u : Bool) (r : Recovery) → fits r ≡ true → fits (spared u r) ≡ true
 spared_fits true recovery.Open f = f
 spared_fits true (recovery.Probe start end again) f = f
-spared_fits true (recovery.Fast point high_rxt resent_at acked) f = refl
+spared_fits true (recovery.Fast point high_rxt resent_at acked trailed una_lost) f = refl
 spared_fits true (recovery.Timeout point) f = f
 spared_fits false r f = f
 
@@ -187,12 +187,12 @@ reached_fits una r point f = go (is_before una point)
 gone_fits : (r : Recovery) (una : TcpSeqNumber) → fits r ≡ true → fits (gone_on r una) ≡ true
 gone_fits recovery.Open una f = refl
 gone_fits (recovery.Probe start end again) una f = refl
-gone_fits (recovery.Fast point high_rxt resent_at acked) una f = reached_fits una (recovery.Fast point high_rxt resent_at acked) point f
+gone_fits (recovery.Fast point high_rxt resent_at acked trailed una_lost) una f = reached_fits una (recovery.Fast point high_rxt resent_at acked trailed una_lost) point f
 gone_fits (recovery.Timeout point) una f = reached_fits una (recovery.Timeout point) point f
 
 twice_fits : (r : Recovery) (v : View) (s : Segment) → fits r ≡ true → fits (unless_twice r v s) ≡ true
 twice_fits recovery.Open v s f = refl
-twice_fits (recovery.Fast point high_rxt resent_at acked) v s f = f
+twice_fits (recovery.Fast point high_rxt resent_at acked trailed una_lost) v s f = f
 twice_fits (recovery.Timeout point) v s f = f
 twice_fits (recovery.Probe start end again) v s f = go (again && came_twice s.ack_number v s start end)
   where
@@ -203,11 +203,11 @@ twice_fits (recovery.Probe start end again) v s f = go (again && came_twice s.ac
 after_fits : (b : Before) (w : View) → fits b.recovery ≡ true → w.remote_last_seq.0 < 2 ^ 32 → fits (recovery_after b w) ≡ true
 after_fits b w f small = carries (carries_data w.state)
   where
-    begun : (t : Bool) → fits (if t then recovery.Fast w.remote_last_seq w.local_seq_no w.remote_last_seq false else gone_on (spared (is_undone b w) (again b w)) w.local_seq_no) ≡ true
+    begun : (t : Bool) → fits (if t then recovery.Fast w.remote_last_seq w.local_seq_no w.remote_last_seq false false false else gone_on (spared (is_undone b w) (again b w)) w.local_seq_no) ≡ true
     begun true = is_small w.remote_last_seq small
     begun false = gone_fits (spared (is_undone b w) (again b w)) w.local_seq_no (spared_fits (is_undone b w) (again b w) (again_fits _ _ b.recovery w.local_seq_no w.remote_last_seq f))
 
-    carries : (c : Bool) → fits (if c then (if begins b w then recovery.Fast w.remote_last_seq w.local_seq_no w.remote_last_seq false else gone_on (spared (is_undone b w) (again b w)) w.local_seq_no) else recovery.Open) ≡ true
+    carries : (c : Bool) → fits (if c then (if begins b w then recovery.Fast w.remote_last_seq w.local_seq_no w.remote_last_seq false false false else gone_on (spared (is_undone b w) (again b w)) w.local_seq_no) else recovery.Open) ≡ true
     carries true = begun (begins b w)
     carries false = refl
 
@@ -243,7 +243,7 @@ timed_fits rules.Rfc x nxt f h = is_small (highest_of x nxt) (highest_small x nx
 resent_fits : (r : Recovery) (nxt : TcpSeqNumber) (e : Emitted) → fits r ≡ true → fits (resent_by r nxt e) ≡ true
 resent_fits recovery.Open nxt e f = f
 resent_fits (recovery.Probe start end again) nxt e f = f
-resent_fits (recovery.Fast point high_rxt resent_at acked) nxt e f = f
+resent_fits (recovery.Fast point high_rxt resent_at acked trailed una_lost) nxt e f = f
 resent_fits (recovery.Timeout point) nxt e f = f
 
 probed_fits : (b : Bool) (v : View) → v.remote_last_seq.0 < 2 ^ 32 → fits (recovery_probed b v) ≡ true

@@ -283,13 +283,13 @@ module _ (u : View) (now : Instant) (b : Segment) (a : AckOf u b) (o : IsOrdered
       by (inl e) = let k : seq_add b.seq_number (segment_len b) ≡ nxt = ap (λ x. seq_add x (segment_len b)) e ∙ itself nxt o.nxt_small in rw k (at_nxt (is_before nxt nxt))
       by (inr e) = let k : seq_add b.seq_number (segment_len b) ≡ u.local_seq_no = ap (λ x. seq_add x (segment_len b)) e ∙ itself u.local_seq_no o.una_small in rw k (at_una (is_before nxt u.local_seq_no) refl)
 
-  no_move : (x : Bool) (k h : TcpSeqNumber) → (if x && not (segment_len b == 0) then k else h) ≡ h
-  no_move true k h = rw a.tells.empty refl
-  no_move false k h = refl
+  no_move : (x : Bool) → (x && not (segment_len b == 0)) ≡ false
+  no_move true = rw a.tells.empty refl
+  no_move false = refl
 
   recovery_stays : (c : Recovery) → resent_by c u.remote_last_seq (emitted_as kind.Plain b) ≡ c
   recovery_stays recovery.Open = refl
-  recovery_stays (recovery.Fast point high_rxt resent_at acked) = ap (λ k. recovery.Fast point k resent_at acked) (no_move (is_before b.seq_number u.remote_last_seq) _ high_rxt)
+  recovery_stays (recovery.Fast point high_rxt resent_at acked trailed una_lost) = ap (λ t. recovery.Fast point (if t then later_of high_rxt (emitted_as kind.Plain b).end else high_rxt) (if t && una_lost then later_of u.remote_last_seq point else resent_at) acked (if t then not una_lost && (trailed || not (seq_eq u.remote_last_seq resent_at)) else trailed) (not t && una_lost)) (no_move (is_before b.seq_number u.remote_last_seq))
   recovery_stays (recovery.Probe start end again) = refl
   recovery_stays (recovery.Timeout point) = refl
 

@@ -91,6 +91,9 @@ module _ (r : Rules) where
   unfolding after_any snd_nxt_moved after_probe
   sending_ruled now = record { renews = λ u h. h; moves = λ u e h. h; times = λ u e h. h; probes = λ u h. h; arms = λ u at e h. h }
 
+  pub before_ruled : (f : Facts) (v : View) → IsRuled v → IsRuled (before_emit v f).view
+  before_ruled f v i = before_kept IsRuled f (begins_ruled (moment_of f)) renewed_ruled v i
+
   pub dispatch_ruled : (f : Facts) (v w : View) (out : Option Sending) → SendsTo (peer_of (before_emit v f)) f (before_emit v f).view out w → IsRuled v → IsRuled w
   dispatch_ruled f v w out h i = sends_kept IsRuled f (sending_ruled (moment_of f)) (peer_of (before_emit v f)) (before_emit v f).view w out h (before_kept IsRuled f (begins_ruled (moment_of f)) renewed_ruled v i)
 

@@ -1,6 +1,6 @@
 -- What a socket tells by SACK is what it holds.
-use Rattle.std.proofs.Common.{◌≡◌, ℕ, ◌+◌, ◌-◌, ◌<◌, ◌≤◌, Bool, true, false, refl, sym, ap, ◌∙◌, arith, List, [], ◌∷◌, length, Option, Some, None, is_some, ◌||◌, ◌&&◌}
-use Rattle.std.specs.Prelude.{int_lt, ◌==◌, if◌then◌else◌, slice_get, option_map, zero, suc}
+use Rattle.std.proofs.Common.{◌≡◌, ℕ, ◌+◌, ◌-◌, ◌<◌, ◌≤◌, Bool, true, false, refl, sym, ap, subst, ◌∙◌, arith, List, [], ◌∷◌, length, Option, Some, None, is_some, ◌||◌, ◌&&◌}
+use Rattle.std.specs.Prelude.{int_lt, nat_lt, ◌==◌, if◌then◌else◌, slice_get, option_map, zero, suc}
 use Rattle.std.proofs.lemmas.Bool.Decides.{nat_tests}
 use Rattle.std.proofs.lemmas.Option.{none-some}
 use Rattle.ip_wire.specs.declared.repr.IpRepr.{IpRepr}
@@ -22,7 +22,7 @@ use Rattle.sock_tcp.specs.Begin.{before_emit, peer_of}
 use Rattle.sock_tcp.specs.Content.{Sending, content, emission_kind, filled, of_kind, plain_segment, sent_as}
 use Rattle.sock_tcp.specs.Closing.{closed_from}
 use Rattle.sock_tcp.specs.Process.{Outcome, ack_sent, after_advance, by_verdict, bytes_taken, challenged, close_restarted, cut_inside, gap_answered, has_window, outside, outside_by, processed_by, processed_inside, stopped, tested_by, tuple_of, without_place}
-use Rattle.sock_tcp.specs.Replies.{ack_kept, ack_segment, chosen_range, first_of, sack_range, wire_edges}
+use Rattle.sock_tcp.specs.Replies.{ack_kept, ack_segment, chosen_range, first_of, is_same, sack_ranges, second_range, third_range, told_by, told_of, wire_edges}
 use Rattle.sock_tcp.specs.Rfc.Checks.{verdict_by}
 use Rattle.sock_tcp.specs.Rfc.Recovery.{before_of, recovered, recovered_by}
 use Rattle.sock_tcp.specs.Rfc.Refused.{refused}
@@ -46,6 +46,11 @@ use Rattle.sock_tcp.specs.declared.verdict.Verdict.TheVariants as verdicts
 use Rattle.sock_tcp.proofs.Late.{closed_as}
 use Rattle.sock_tcp.proofs.Recovering.{recovered_as}
 use Rattle.sock_tcp.proofs.Refusing.{heard_alone, refused_as}
+use Rattle.sock_tcp.specs.Due.{own_mss, ranges_or, sent_ranges, tells_ranges}
+use Rattle.sock_tcp.specs.Sack.{tells_by}
+use Rattle.sock_tcp.specs.Sent.{after_any, after_probe, snd_nxt_moved}
+use Rattle.tcp_laws.proofs.Kept.{KeptBySending, sends_kept}
+use Rattle.tcp_laws.proofs.Ruled.{before_ruled}
 use Rattle.tcp_laws.specs.SocketRun.{Dispatched, SendsTo}
 use Rattle.tcp_laws.specs.Telling.{AllHeld, TellsHeld}
 
@@ -101,17 +106,40 @@ chosen_of hs rs nxt (Some n) a = first_of_them hs (range_around rs (seq_sub n nx
 abbrev Says : Outcome → Type 0
 Says o = TellsHeld o.view o.reply
 
-module _ (s : Segment) where
-  acknowledges_held : (v : View) → AllHeld v (ack_segment v s).sack_ranges
-  unfolding ack_segment sack_range
-  acknowledges_held v = go v.remote_has_sack
+-- beside the chosen one: any two of them
+if_of : (hs : List (Option ℕ)) (b : Bool) (r s : Option (ℕ × ℕ)) → AnyOf hs r → AnyOf hs s → AnyOf hs (if b then r else s)
+if_of hs true r s a b = a
+if_of hs false r s a b = b
+
+module _ (v : View) where
+  ranges_held : AllHeld v (sack_ranges v)
+  unfolding sack_ranges
+  ranges_held = go v.remote_has_sack
     where
       hs : List (Option ℕ)
       hs = v.rx_buffer.held
 
-      told : (o : Option (ℕ × ℕ)) → AnyOf hs o → AllHeld v (option_map (wire_edges (next_ack v)) o ∷ None ∷ None ∷ [])
-      told None a = tt
-      told (Some r) a = (
+      rs : List (ℕ × ℕ)
+      rs = edges (ranges_of hs)
+
+      all : AllOf hs rs
+      all = let a = ranges_are hs in all_of hs 0 (ranges_of hs) a.0 (λ k e. sym (a.1 k) ∙ e)
+
+      c : Option (ℕ × ℕ)
+      c = chosen_range rs (next_ack v) v.local_rx_last_seq
+
+      chosen : AnyOf hs c
+      chosen = chosen_of hs rs (next_ack v) v.local_rx_last_seq all
+
+      second : AnyOf hs (second_range c rs)
+      second = if_of hs (is_same c (slice_get rs 0)) (slice_get rs 1) (slice_get rs 0) (got_of hs rs 1 all) (got_of hs rs 0 all)
+
+      third : AnyOf hs (third_range c rs)
+      third = if_of hs (is_same c (slice_get rs 0) || is_same c (slice_get rs 1)) (slice_get rs 2) (slice_get rs 1) (got_of hs rs 2 all) (got_of hs rs 1 all)
+
+      told : (o : Option (ℕ × ℕ)) (more : List (Option (ℕ × ℕ))) → AnyOf hs o → AllHeld v more → AllHeld v (option_map (wire_edges (next_ack v)) o ∷ more)
+      told None more a b = b
+      told (Some r) more a b = (
         record {
           start = r.0;
           len = r.1 - r.0;
@@ -120,12 +148,21 @@ module _ (s : Segment) where
           ends = ap (λ n. (seq_add (next_ack v) n).0) {x = r.1} {y = r.0 + (r.1 - r.0)} (omega (arith, a.some));
           all = λ k less. a.held (r.0 + k) (omega arith) (omega (arith, a.some, less));
         },
-        tt,
+        b,
       )
 
-      go : (b : Bool) → AllHeld v ((if b then option_map (wire_edges (next_ack v)) (chosen_range (edges (ranges_of hs)) (next_ack v) v.local_rx_last_seq) else None) ∷ None ∷ None ∷ [])
-      go true = let a = ranges_are hs in told _ (chosen_of hs (edges (ranges_of hs)) (next_ack v) v.local_rx_last_seq (all_of hs 0 (ranges_of hs) a.0 (λ k e. sym (a.1 k) ∙ e)))
+      by : (r : Rules) → AllHeld v (told_by r (next_ack v) c rs)
+      by rules.Smoltcp = told c (None ∷ None ∷ []) chosen tt
+      by rules.Rfc = told c _ chosen (told (second_range c rs) _ second (told (third_range c rs) [] third tt))
+
+      go : (b : Bool) → AllHeld v (if b then told_of v.rules (next_ack v) v.local_rx_last_seq rs else None ∷ None ∷ None ∷ [])
+      go true = by v.rules
       go false = tt
+
+module _ (s : Segment) where
+  acknowledges_held : (v : View) → AllHeld v (ack_segment v s).sack_ranges
+  unfolding ack_segment
+  acknowledges_held v = ranges_held v
 
   acked_says : (w : View) → Says (ack_sent w s)
   unfolding ack_kept
@@ -245,46 +282,92 @@ process_says r v now word ip s = verdict_says now word ip (windowed r v s) r v (
 abbrev pub none_told : List (Option (ℕ × ℕ))
 none_told = None ∷ None ∷ None ∷ []
 
-abbrev SaysNothing : Option Segment → Type 0
-SaysNothing None = Unit {0}
-SaysNothing (Some s) = s.sack_ranges ≡ none_told
-
 the_sending : {a b : Sending} → Some a ≡ Some b → a ≡ b
 the_sending e = cc
 
-module _ (v : View) (t : Tuple) (f : Facts) (bytes : List ℕ) where
-  filled_says : (st : State) (s : Segment) → s.sack_ranges ≡ none_told → SaysNothing (filled st v t f bytes s)
-  filled_says state.Closed s e = e
+-- what is held, or these
+or_held : (v : View) (t : Tuple) (f : Facts) (rs : List (Option (ℕ × ℕ))) → AllHeld v rs → AllHeld v (ranges_or v t f rs)
+or_held v t f rs h = go (tells_ranges v t f)
+  where
+    go : (b : Bool) → AllHeld v (if b then sack_ranges v else rs)
+    go true = ranges_held v
+    go false = h
+
+-- a property of the ranges of a segment, which the plain one has, and what is held beside it
+pub record Told (v : View) (t : Tuple) (f : Facts) (P : List (Option (ℕ × ℕ)) → Type 0) : Type 0 where
+  pub none : P none_told
+  pub held : P (sent_ranges v t f)
+
+module _ (P : List (Option (ℕ × ℕ)) → Type 0) (v : View) (t : Tuple) (f : Facts) (k : Told v t f P) (bytes : List ℕ) where
+  abbrev Says_or_not : Option Segment → Type 0
+  Says_or_not None = Unit {0}
+  Says_or_not (Some s) = P s.sack_ranges
+
+  beside : (s : Segment) → s.sack_ranges ≡ none_told → P (ranges_or v t f s.sack_ranges)
+  beside s e = subst (λ rs. P (ranges_or v t f rs)) (sym e) k.held
+
+  filled_says : (st : State) (s : Segment) → s.sack_ranges ≡ none_told → Says_or_not (filled st v t f bytes s)
+  filled_says state.Closed s e = subst P (sym e) k.none
   filled_says state.Listen s e = tt
-  filled_says state.SynSent s e = e
-  filled_says state.SynReceived s e = e
-  filled_says state.Established s e = e
-  filled_says state.FinWait1 s e = e
-  filled_says state.FinWait2 s e = e
-  filled_says state.CloseWait s e = e
-  filled_says state.Closing s e = e
-  filled_says state.LastAck s e = e
-  filled_says state.TimeWait s e = e
+  filled_says state.SynSent s e = subst P (sym e) k.none
+  filled_says state.SynReceived s e = subst P (sym e) k.none
+  filled_says state.Established s e = beside s e
+  filled_says state.FinWait1 s e = beside s e
+  filled_says state.FinWait2 s e = beside s e
+  filled_says state.CloseWait s e = beside s e
+  filled_says state.Closing s e = beside s e
+  filled_says state.LastAck s e = beside s e
+  filled_says state.TimeWait s e = subst P (sym e) k.none
 
-  kind_says : (k : Kind) (s : Segment) → s.sack_ranges ≡ none_told → (of_kind k v s).sack_ranges ≡ none_told
-  kind_says kind.KeepAlive s e = e
-  kind_says kind.Probe s e = e
-  kind_says kind.Plain s e = e
+  kind_says : (x : Kind) (s : Segment) → P s.sack_ranges → P (of_kind x v s).sack_ranges
+  kind_says kind.KeepAlive s h = h
+  kind_says kind.Probe s h = h
+  kind_says kind.Plain s h = h
 
-  pub content_says : (stamp : Option ℕ) (c : Sending) → Some c ≡ content v t f stamp bytes → c.segment.sack_ranges ≡ none_told
+  pub content_says : (stamp : Option ℕ) (c : Sending) → Some c ≡ content v t f stamp bytes → P c.segment.sack_ranges
   unfolding content plain_segment
   content_says stamp c e = go (filled v.state v t f bytes (plain_segment v t stamp)) (filled_says v.state (plain_segment v t stamp) refl) e
     where
       sent : Segment → Sending
       sent s = sent_as v t (emission_kind v (moment_of f) s) s
 
-      go : (o : Option Segment) → SaysNothing o → Some c ≡ option_map sent o → c.segment.sack_ranges ≡ none_told
+      go : (o : Option Segment) → Says_or_not o → Some c ≡ option_map sent o → P c.segment.sack_ranges
       go None h e = absurd (none-some c (sym e))
-      go (Some s) h e = ap (λ (x : Sending). x.segment.sack_ranges) (the_sending e) ∙ kind_says (emission_kind v (moment_of f) s) s h
+      go (Some s) h e = subst (λ (x : Sending). P x.segment.sack_ranges) (sym (the_sending e)) (kind_says (emission_kind v (moment_of f) s) s h)
 
-pub dispatch_tells_nothing : (v w : View) (f : Facts) (out : Sending) → Dispatched f v (Some out) w → out.segment.sack_ranges ≡ none_told
-dispatch_tells_nothing v w f out h = go (peer_of (before_emit v f)) h
+pub held_told : (v : View) (t : Tuple) (f : Facts) → Told v t f (AllHeld v)
+held_told v t f = record { none = tt; held = or_held v t f none_told tt }
+
+pub nothing_told_by : (v : View) (t : Tuple) (f : Facts) → v.rules ≡ rules.Smoltcp → Told v t f (λ rs. rs ≡ none_told)
+nothing_told_by v t f is = record { none = refl; held = ap (λ r. if tells_by r v.remote_has_sack v.rx_buffer.held && nat_lt 36 (own_mss f t) then sack_ranges v else none_told) is }
+
+-- what goes out leaves what is held
+pub sending_holds : (rs : List (Option (ℕ × ℕ))) (now : Instant) → KeptBySending (λ x. AllHeld x rs) now
+unfolding after_any snd_nxt_moved after_probe
+sending_holds rs now = record {
+  renews = λ u h. h;
+  moves = λ u e h. h;
+  times = λ u e h. h;
+  probes = λ u h. h;
+  arms = λ u at e h. h;
+}
+
+pub dispatch_tells_held : (v w : View) (f : Facts) (out : Sending) → Dispatched f v (Some out) w → AllHeld w out.segment.sack_ranges
+dispatch_tells_held v w f out h = go (peer_of (before_emit v f)) h
   where
-    go : (o : Option Tuple) → SendsTo o f (before_emit v f).view (Some out) w → out.segment.sack_ranges ≡ none_told
+    u : View
+    u = (before_emit v f).view
+
+    go : (o : Option Tuple) → SendsTo o f u (Some out) w → AllHeld w out.segment.sack_ranges
     go None d = absurd (none-some out (sym d.0))
-    go (Some t) d = content_says (before_emit v f).view t f d.bytes d.stamp out d.sends
+    go (Some t) d = sends_kept (λ x. AllHeld x out.segment.sack_ranges) f (sending_holds out.segment.sack_ranges (moment_of f)) (Some t) u w (Some out) d (content_says (AllHeld u) u t f (held_told u t f) d.bytes d.stamp out d.sends)
+
+pub dispatch_tells_nothing : (v w : View) (f : Facts) (out : Sending) → v.rules ≡ rules.Smoltcp → Dispatched f v (Some out) w → out.segment.sack_ranges ≡ none_told
+dispatch_tells_nothing v w f out is h = go (peer_of (before_emit v f)) h
+  where
+    u : View
+    u = (before_emit v f).view
+
+    go : (o : Option Tuple) → SendsTo o f u (Some out) w → out.segment.sack_ranges ≡ none_told
+    go None d = absurd (none-some out (sym d.0))
+    go (Some t) d = content_says (λ rs. rs ≡ none_told) u t f (nothing_told_by u t f (before_ruled rules.Smoltcp f v is)) d.bytes d.stamp out d.sends

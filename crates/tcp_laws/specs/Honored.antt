@@ -4,6 +4,7 @@ use Rattle.net_base.specs.Ring.{Ring}
 use Rattle.control_wire.specs.Seq.{seq_add, seq_sub}
 use Rattle.control_wire.specs.declared.seq_number.TcpSeqNumber.{TcpSeqNumber}
 use Rattle.sock_core.specs.Received.{receiving}
+use Rattle.sock_tcp.specs.Content.{aside_field}
 use Rattle.sock_tcp.specs.Due.{window_field}
 use Rattle.sock_tcp.specs.Queue.{queue_of}
 use Rattle.sock_tcp.specs.Rfc.OwnWindow.{told_left}
@@ -25,10 +26,12 @@ abbrev pub width : Window → ℕ
 width w = seq_sub w.end w.start
 
 -- The socket v has told its peer a window of n bytes from RCV.NXT on: it is what is left of the one that was told last;
--- or its segments tell it, a keep-alive and a probe too; or its SYN does, whose window field is not shifted
+-- or its segments tell it, a probe too, or a keep-alive does; or its SYN, whose window field is not shifted
 abbrev pub HasTold : View → ℕ → Type 0
 HasTold v n =
-    (n ≡ told_left v) ⊎ (n ≡ window_field v * 2 ^ v.remote_win_shift) ⊎ (n ≡ min (length v.rx_buffer.held) 65535)
+    (n ≡ told_left v) ⊎ (n ≡ window_field v * 2 ^ v.remote_win_shift)
+    ⊎ (n ≡ aside_field v.rules v (window_field v) * 2 ^ v.remote_win_shift)
+    ⊎ (n ≡ min (length v.rx_buffer.held) 65535)
 
 -- A right edge, by its place in the peer's stream, does not lie behind that of the window in which the socket w takes a
 -- segment, with RCV.NXT behind the bytes that have joined; and each place from RCV.NXT on, and before that edge, lies

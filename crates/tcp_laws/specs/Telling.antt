@@ -12,6 +12,7 @@ use Rattle.sock_tcp.specs.Process.{processed_by}
 use Rattle.sock_tcp.specs.View.{View}
 use Rattle.sock_tcp.specs.Window.{next_ack}
 use Rattle.sock_tcp.specs.declared.rules.Rules.{Rules}
+use Rattle.sock_tcp.specs.declared.rules.Rules.TheVariants as rules
 use Rattle.tcp_laws.specs.SocketRun.{Dispatched}
 
 -- The numbers from r.0 on and before r.1 are those of bytes that are held, some behind RCV.NXT, which is nxt
@@ -43,9 +44,17 @@ AnswersTellWhatIsHeld =
     (r : Rules) (v : View) (now : Instant) (word : ℕ) (ip : IpRepr) (s : Segment)
     → TellsHeld (processed_by r v now word ip s).view (processed_by r v now word ip s).reply
 
--- and what a dispatch sends tells nothing
+-- and so does what a dispatch sends
+abbrev pub DispatchesTellWhatIsHeld : Type 0
+DispatchesTellWhatIsHeld =
+    (v w : View) (f : Facts) (out : Sending)
+    → Dispatched f v (Some out) w
+    → AllHeld w out.segment.sack_ranges
+
+-- which is nothing, by smoltcp's rules
 abbrev pub DispatchesTellNothing : Type 0
 DispatchesTellNothing =
     (v w : View) (f : Facts) (out : Sending)
+    → v.rules ≡ rules.Smoltcp
     → Dispatched f v (Some out) w
     → out.segment.sack_ranges ≡ None ∷ None ∷ None ∷ []

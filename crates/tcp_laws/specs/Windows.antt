@@ -7,6 +7,7 @@ use Rattle.control_wire.specs.declared.seq_number.TcpSeqNumber.{TcpSeqNumber}
 use Rattle.sock_core.specs.Received.{room_of}
 use Rattle.sock_core.specs.Seq.{is_before}
 use Rattle.sock_tcp.specs.Acked.{acked_of}
+use Rattle.sock_tcp.specs.Content.{of_kind}
 use Rattle.sock_tcp.specs.Due.{edge_sent, field_left, is_closed, tells_window, window_doubled, window_field}
 use Rattle.sock_tcp.specs.Process.{processed}
 use Rattle.sock_tcp.specs.Rfc.Numbers.{numbered}
@@ -18,6 +19,7 @@ use Rattle.sock_tcp.specs.View.{View}
 use Rattle.sock_tcp.specs.Window.{has_window}
 use Rattle.sock_tcp.specs.declared.acked.Acked.{Acked}
 use Rattle.sock_tcp.specs.declared.advance.Next.TheVariants as next
+use Rattle.sock_tcp.specs.declared.emission.Kind.TheVariants as kind
 use Rattle.sock_tcp.specs.declared.rules.Rules.TheVariants as rules
 use Rattle.sock_tcp.specs.declared.verdict.Verdict.TheVariants as verdicts
 use Rattle.tcp_laws.specs.Polling.{IsReached}
@@ -30,6 +32,15 @@ RightEdgeStays = (v : View)
     → v.rules ≡ rules.Rfc
     → min (told_left v) (65535 * 2 ^ v.remote_win_shift)
     < window_field v * 2 ^ v.remote_win_shift + 2 ^ v.remote_win_shift
+
+-- The window of a keep-alive, which does not count as told, ends there too, but for less than such a unit
+abbrev pub KeepAliveMovesNoEdge : Type 0
+KeepAliveMovesNoEdge = (v : View) (s : Segment)
+    → IsReached v
+    → v.rules ≡ rules.Rfc
+    → (min (told_left v) (65535 * 2 ^ v.remote_win_shift)
+    < (of_kind kind.KeepAlive v s).window_len * 2 ^ v.remote_win_shift + 2 ^ v.remote_win_shift)
+    × ((of_kind kind.KeepAlive v s).window_len * 2 ^ v.remote_win_shift < told_left v + 2 ^ v.remote_win_shift)
 
 -- Less space is free behind it than half of the receive buffer, and than a segment of the connection
 abbrev pub IsSmallGrowth : View → Type 0

@@ -2,7 +2,7 @@
 ghost use Rattle.tcp_laws.specs.Loss.{ScoreboardFollowsSegments, TellsOnlyWhatCame, TellsTheNewest};
 ghost use Rattle.tcp_laws.specs.Late.{LateHoleGoesOut, NoLossIsForgotten, NothingSeenNothingIsLate};
 ghost use Rattle.tcp_laws.specs.Late.{NothingSeenNothingWaits, WaitsForARoundTripAtMost};
-ghost use Rattle.tcp_laws.specs.Telling.{AnswersTellWhatIsHeld, DispatchesTellNothing};
+ghost use Rattle.tcp_laws.specs.Telling.{AnswersTellWhatIsHeld, DispatchesTellNothing, DispatchesTellWhatIsHeld};
 ghost use Rattle.tcp_laws.specs.Undoing.{FirstEchoDecides, NothingIsUndoneTwice, UndoesWhatWasForNothing};
 
 /// A scoreboard tells only what was told before, or stands in a block that is believed: of bytes that were sent and are
@@ -24,12 +24,13 @@ pub fn scoreboard_follows_segments()
 {}
 
 /// Whatever segment comes, each range that the answer tells by SACK is one of bytes that the socket holds behind a gap
-/// when the call returns, at their numbers; and what a dispatch sends tells no range. A byte that is held stays until
-/// it joins the receive queue (`streams::bytes_stay_at_their_places`), so what was told is never taken back while the
-/// connection lasts (RFC 2018, section 8).
+/// when the call returns, at their numbers; and so does what a dispatch sends, which by smoltcp's rules tells no range.
+/// A byte that is held stays until it joins the receive queue (`streams::bytes_stay_at_their_places`), so what was told
+/// is never taken back while the connection lasts (RFC 2018, section 8).
 pub fn answers_tell_what_is_held()
     ensures answers { AnswersTellWhatIsHeld }
-    ensures dispatches { DispatchesTellNothing }
+    ensures dispatches { DispatchesTellWhatIsHeld }
+    ensures nothing { DispatchesTellNothing }
 {}
 
 /// Where a segment shows that a recovery was for nothing, Reno's congestion window and threshold are at least what was

@@ -16,6 +16,10 @@ use Rattle.sock_tcp.specs.declared.scoreboard.Scoreboard.{Scoreboard}
 abbrev pub again_from : TcpSeqNumber → TcpSeqNumber → ℕ
 again_from high_rxt una = if is_before una high_rxt then seq_sub high_rxt una else 0
 
+-- from where on holes go out again: from SND.UNA on, where the segment there was lost again
+abbrev pub hole_from : Bool → TcpSeqNumber → TcpSeqNumber → ℕ
+hole_from una_lost high_rxt una = if una_lost then 0 else again_from high_rxt una
+
 -- ---- what was told
 
 -- how many bytes of a block lie before a place
@@ -34,12 +38,13 @@ told_late n k = if n == 0 then 0 else told_before k (2 ^ 32)
 
 -- it is counted in a recovery, where the peer said that it tells
 abbrev pub counts : Rules → Recovery → Bool → Bool
-counts rules.Rfc (recovery.Fast point high_rxt resent_at acked) tells = tells
+counts rules.Rfc (recovery.Fast point high_rxt resent_at acked trailed una_lost) tells = tells
 counts _ r tells = false
 
 -- how far holes were sent again, at most up to the highest byte that was told
 abbrev pub resent_to : Recovery → Scoreboard → TcpSeqNumber → ℕ
-resent_to (recovery.Fast point high_rxt resent_at acked) k una = min (again_from high_rxt una) (highest_told k)
+resent_to (recovery.Fast point high_rxt resent_at acked trailed una_lost) k una =
+    min (again_from high_rxt una) (highest_told k)
 resent_to r k una = 0
 
 -- how many bytes of the holes that is
@@ -57,10 +62,10 @@ pipe r k una sent = min sent (sent - highest_told k + holes_sent r k una)
 -- round trip, and something follows what was sent again (RFC 6937, section 3): less the holes and the new bytes that
 -- went out in this recovery
 unfoldable pub exchanged : Recovery → Scoreboard → TcpSeqNumber → ℕ → ℕ → ℕ
-exchanged (recovery.Fast point high_rxt resent_at acked) k una sent mss =
+exchanged (recovery.Fast point high_rxt resent_at acked trailed una_lost) k una sent mss =
     if seq_eq resent_at point
     then told_before k (2 ^ 32) / (2 * max mss 1) * mss
-    - (holes_sent (recovery.Fast point high_rxt resent_at acked) k una + (sent - seq_sub point una))
+    - (holes_sent (recovery.Fast point high_rxt resent_at acked trailed una_lost) k una + (sent - seq_sub point una))
     else 0
 exchanged r k una sent mss = 0
 

@@ -17,7 +17,7 @@ use Rattle.sock_core.specs.Congestion.{recovery_window, undone, with_remote_wind
 use Rattle.sock_core.specs.Estimator.{Estimator, begun_anew, is_backed_off, retransmitted}
 use Rattle.sock_core.specs.Seq.{is_before, later_of}
 use Rattle.sock_core.specs.declared.congestion.AnyController.{AnyController}
-use Rattle.sock_tcp.specs.Content.{again_from, carries_data}
+use Rattle.sock_tcp.specs.Content.{again_from, carries_data, hole_from}
 use Rattle.sock_tcp.specs.Due.{flight, is_opening}
 use Rattle.sock_tcp.specs.Inside.{Outcome}
 use Rattle.sock_tcp.specs.Rfc.Scoreboard.{all_told, any_news, highest_told, hole_behind, is_blank, moved, nothing_told}
@@ -61,7 +61,7 @@ repeats_by (Some ack) v c n = is_bare_control c && is_duplicate v ack n false
 abbrev pub highest_of : Recovery → TcpSeqNumber → TcpSeqNumber
 highest_of recovery.Open nxt = nxt
 highest_of (recovery.Probe start end again) nxt = nxt
-highest_of (recovery.Fast point high_rxt resent_at acked) nxt = later_of nxt point
+highest_of (recovery.Fast point high_rxt resent_at acked trailed una_lost) nxt = later_of nxt point
 highest_of (recovery.Timeout point) nxt = later_of nxt point
 
 -- how many bytes behind SND.UNA were sent, whether SND.NXT went back or not
@@ -228,7 +228,7 @@ duplicates_after b w =
 
 -- the first echo of something new tells whether it was
 abbrev pub is_decided_by : Recovery → Bool
-is_decided_by (recovery.Fast point high_rxt resent_at acked) = true
+is_decided_by (recovery.Fast point high_rxt resent_at acked trailed una_lost) = true
 is_decided_by (recovery.Timeout point) = true
 is_decided_by _ = false
 
@@ -262,7 +262,7 @@ is_waited b w = is_told (reordering_after b w) (duplicates_after b w) (sacked_af
 
 -- of new bytes, but not of all that was sent before a fast retransmission
 abbrev pub is_partial_in : Recovery → Bool → TcpSeqNumber → Bool
-is_partial_in (recovery.Fast point high_rxt resent_at acked) news una = news && is_before una point
+is_partial_in (recovery.Fast point high_rxt resent_at acked trailed una_lost) news una = news && is_before una point
 is_partial_in _ news una = false
 
 abbrev pub is_partial : Before → View → Bool
@@ -274,12 +274,13 @@ begins b w = may_resend w && (tells_loss b w && (is_over b.recovery && not (is_w
 
 -- there is a hole that was not sent again in this recovery
 abbrev pub has_hole : Recovery → Scoreboard → TcpSeqNumber → Bool
-has_hole (recovery.Fast point high_rxt resent_at acked) k una = is_some (hole_behind k (again_from high_rxt una))
+has_hole (recovery.Fast point high_rxt resent_at acked trailed una_lost) k una =
+    is_some (hole_behind k (hole_from una_lost high_rxt una))
 has_hole _ k una = false
 
 -- the segment at SND.UNA was sent again in this recovery
 abbrev pub is_sent_again : Recovery → TcpSeqNumber → Bool
-is_sent_again (recovery.Fast point high_rxt resent_at acked) una = is_before una high_rxt
+is_sent_again (recovery.Fast point high_rxt resent_at acked trailed una_lost) una = is_before una high_rxt
 is_sent_again _ una = false
 
 -- a partial acknowledgement shows the next hole, which may be at SND.UNA; without a word of SACK it is there
@@ -289,8 +290,8 @@ shows_hole r k una = has_hole r k una || (is_blank k || not (is_sent_again r una
 -- the segment at SND.UNA was sent again, and lost again: something that was sent behind it was told (RFC 8985, section
 -- 6.2: in a recovery nothing is waited for beyond that)
 abbrev pub is_lost_in : Recovery → Scoreboard → TcpSeqNumber → Bool
-is_lost_in (recovery.Fast point high_rxt resent_at acked) k una =
-    is_before una high_rxt && nat_lt (again_from resent_at una) (highest_told k)
+is_lost_in (recovery.Fast point high_rxt resent_at acked trailed una_lost) k una =
+    not una_lost && (is_before una high_rxt && nat_lt (again_from resent_at una) (highest_told k))
 is_lost_in _ k una = false
 
 abbrev pub is_lost_again : Before → View → Bool
@@ -302,13 +303,14 @@ is_lost_again b w = only_tells b w && is_lost_in b.recovery (sacked_after b w) w
 abbrev pub unless_beyond : Recovery → TcpSeqNumber → TcpSeqNumber → Recovery
 unless_beyond r end una = if is_before end una then recovery.Open else r
 
--- where SND.UNA has moved, what is told next is measured from now on; where a segment was lost again, holes go out
--- again from SND.UNA on
+-- where SND.UNA has moved, what is told next is measured from now on. Where a segment was lost again, so were all holes
+-- that went out again, and they go out once more from SND.UNA on; but where some did so behind new bytes, what is told
+-- may be from before that, and the segment at SND.UNA goes alone (RFC 8985, section 6.2)
 abbrev pub again_by : Bool → Bool → Recovery → TcpSeqNumber → TcpSeqNumber → Recovery
-again_by true lost (recovery.Fast point high_rxt resent_at acked) una nxt =
-    recovery.Fast point high_rxt (highest_of (recovery.Fast point high_rxt resent_at acked) nxt) true
-again_by false true (recovery.Fast point high_rxt resent_at acked) una nxt =
-    recovery.Fast point una (highest_of (recovery.Fast point high_rxt resent_at acked) nxt) acked
+again_by true lost (recovery.Fast point high_rxt resent_at acked trailed una_lost) una nxt =
+    recovery.Fast point high_rxt (later_of nxt point) true false false
+again_by false true (recovery.Fast point high_rxt resent_at acked trailed una_lost) una nxt =
+    recovery.Fast point (if trailed then high_rxt else una) (later_of nxt point) acked false true
 again_by true lost (recovery.Probe start end again) una nxt =
     unless_beyond (recovery.Probe start end again) end una
 again_by _ _ r una nxt = r
@@ -326,11 +328,11 @@ abbrev pub is_marked : Before → View → Bool
 is_marked b w = is_fast b.timer || w.pending_fast_retransmit
 
 -- what is told anew, and acknowledges nothing, lets out the next hole, where there is room, unless one is still to go
--- out
+-- out. What was lost again has left the network, and needs no room
 abbrev pub lets_out : Before → View → Bool
 lets_out b w =
     only_tells b w && (not (is_marked b w)
-    && (has_hole (again b w) (sacked_after b w) w.local_seq_no && has_room_after b w))
+    && (has_hole (again b w) (sacked_after b w) w.local_seq_no && (is_lost_again b w || has_room_after b w)))
 
 -- a hole goes out again, or the segment at SND.UNA: a recovery begins, or goes on
 abbrev pub resends : Before → View → Bool
@@ -345,7 +347,7 @@ tells_controller b w = begins b w || (is_fast b.timer && resends b w)
 
 -- holes go out again
 abbrev pub is_recovering : Recovery → Bool
-is_recovering (recovery.Fast point high_rxt resent_at acked) = true
+is_recovering (recovery.Fast point high_rxt resent_at acked trailed una_lost) = true
 is_recovering _ = false
 
 -- what goes out again in a recovery that goes on, of which the controller was told, is marked at once
@@ -361,8 +363,8 @@ reached_by una r point = if is_before una point then r else recovery.Open
 abbrev pub gone_on : Recovery → TcpSeqNumber → Recovery
 gone_on recovery.Open una = recovery.Open
 gone_on (recovery.Probe start end again) una = recovery.Probe start end again
-gone_on (recovery.Fast point high_rxt resent_at acked) una =
-    reached_by una (recovery.Fast point high_rxt resent_at acked) point
+gone_on (recovery.Fast point high_rxt resent_at acked trailed una_lost) una =
+    reached_by una (recovery.Fast point high_rxt resent_at acked trailed una_lost) point
 gone_on (recovery.Timeout point) una = reached_by una (recovery.Timeout point) point
 
 -- ---- what is kept of the time before
@@ -372,13 +374,14 @@ undo_after b w = if is_undone b w || is_decided b w then nothing_to_undo else co
 
 -- a fast recovery is over then. After a timeout what was sent before it goes out again until it is acknowledged
 abbrev pub spared : Bool → Recovery → Recovery
-spared true (recovery.Fast point high_rxt resent_at acked) = recovery.Open
+spared true (recovery.Fast point high_rxt resent_at acked trailed una_lost) = recovery.Open
 spared u r = r
 
 abbrev pub recovery_after : Before → View → Recovery
 recovery_after b w =
     if carries_data w.state
-    then (if begins b w then recovery.Fast w.remote_last_seq w.local_seq_no w.remote_last_seq false
+    then (if begins b w
+    then recovery.Fast w.remote_last_seq w.local_seq_no w.remote_last_seq false false false
     else gone_on (spared (is_undone b w) (again b w)) w.local_seq_no)
     else recovery.Open
 
@@ -487,7 +490,7 @@ waits_tail b w = is_news b w && may_probe (recovery_after b w) w
 
 -- of the partial acknowledgements the first alone begins the retransmission timer anew (RFC 6582, section 3.2, step 3)
 abbrev pub is_acked : Recovery → Bool
-is_acked (recovery.Fast point high_rxt resent_at acked) = acked
+is_acked (recovery.Fast point high_rxt resent_at acked trailed una_lost) = acked
 is_acked _ = false
 
 abbrev pub is_later_partial : Before → View → Bool

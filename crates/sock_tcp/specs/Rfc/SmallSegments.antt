@@ -14,7 +14,7 @@ use Rattle.sock_tcp.specs.declared.rules.Rules.TheVariants as rules
 
 -- after a fast retransmission or a timeout, what goes out at SND.UNA may have been sent before
 abbrev pub sends_again : Recovery → Bool
-sends_again (recovery.Fast point high_rxt resent_at acked) = true
+sends_again (recovery.Fast point high_rxt resent_at acked trailed una_lost) = true
 sends_again (recovery.Timeout point) = true
 sends_again _ = false
 

@@ -98,7 +98,7 @@ repeats_tail v = v.pending_fast_retransmit || nat_lt (sendable (tail_marked v)) 
 
 -- a fast recovery begins, with the segment at SND.UNA
 abbrev pub recovery_of : View → Recovery
-recovery_of v = recovery.Fast v.remote_last_seq v.local_seq_no v.remote_last_seq false
+recovery_of v = recovery.Fast v.remote_last_seq v.local_seq_no v.remote_last_seq false false false
 
 abbrev pub recovery_probed : Bool → View → Recovery
 recovery_probed true v = recovery_of v

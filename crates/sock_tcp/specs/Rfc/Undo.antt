@@ -34,7 +34,7 @@ undo_marked rules.Rfc u c = saved (congestion_window c) (threshold_of c)
 abbrev pub undo_timed_out : Rules → Recovery → Undo → AnyController → Undo
 undo_timed_out rules.Smoltcp r u c = u
 undo_timed_out rules.Rfc (recovery.Timeout point) u c = u
-undo_timed_out rules.Rfc (recovery.Fast point high_rxt resent_at acked) u c = nothing_to_undo
+undo_timed_out rules.Rfc (recovery.Fast point high_rxt resent_at acked trailed una_lost) u c = nothing_to_undo
 undo_timed_out rules.Rfc r u c = saved 0 (max (congestion_window c) (threshold_of c))
 
 -- ---- a segment went out in it
@@ -55,7 +55,7 @@ sent_again u s =
 
 -- with SND.NXT there: what begins before it, and all after a timeout
 abbrev pub undo_sent : Recovery → Undo → TcpSeqNumber → Emitted → Undo
-undo_sent (recovery.Fast point high_rxt resent_at acked) u nxt s =
+undo_sent (recovery.Fast point high_rxt resent_at acked trailed una_lost) u nxt s =
     if is_before s.seq_number nxt && not (s.len == 0) then sent_again u s else u
 undo_sent (recovery.Timeout point) u nxt s = if s.len == 0 then u else sent_again u s
 undo_sent r u nxt s = u
