@@ -25,6 +25,8 @@ pub enum Course {
     Answered(usize, u32),
     /// An acknowledgement of this number: the SYN before it, which told this class, goes to its taker, and then itself.
     Believed(u8, u32),
+    /// Nothing, as its source has too many connections.
+    Dropped,
 }
 
 /// A context whose next word is a number that was told.

@@ -24,6 +24,8 @@ pub enum Reason {
     Nobody,
     /// It carries a UDP datagram whose socket has no room for it.
     Full,
+    /// It would begin a connection of a source that has as many as are allowed.
+    TooMany,
 }
 
 /// How many packets were dropped, by their reasons. A number that is full begins anew.
@@ -39,6 +41,7 @@ pub struct Counters {
     pub busy: u64,
     pub nobody: u64,
     pub full: u64,
+    pub too_many: u64,
     /// SYNs that were answered without a socket; no packet of these three kinds counts as dropped for that.
     pub cookies_sent: u64,
     /// Acknowledgements of such answers that took a socket.
@@ -91,6 +94,7 @@ impl Counters {
             Reason::Busy => self.busy = next(self.busy),
             Reason::Nobody => self.nobody = next(self.nobody),
             Reason::Full => self.full = next(self.full),
+            Reason::TooMany => self.too_many = next(self.too_many),
         }
     }
 }

@@ -6,10 +6,11 @@ use crate::proved::net_host::answered::hear_out_there;
 use crate::proved::net_host::cookies::{
     Course, Told, answer_of, class_if, course_of, opening_of, room_at, syn_before,
 };
+use crate::proved::net_host::crowding::{dropped_if, is_limited};
 use crate::proved::net_host::filing::connection_key;
 use crate::proved::net_host::limit::Limit;
 use crate::proved::net_host::replies::put_reply;
-use crate::proved::net_host::segments::{Taker, hear_anew_at, hear_at, take_segment, who_takes};
+use crate::proved::net_host::segments::{Taker, hear_anew_at, hear_at, keep_within, take_segment, who_takes};
 use crate::proved::net_host::set::SocketSet;
 use crate::proved::net_host::slot::Slot;
 use crate::proved::net_host::unsent::pass_at;
@@ -24,6 +25,8 @@ pub struct Heard {
     pub taker: Taker,
     /// Who takes the SYN before an acknowledgement that may be believed.
     pub again: Taker,
+    /// Whether it is dropped, as its source has too many connections.
+    pub dropped: bool,
 }
 
 fn who_again<C: Context, G: TsvalSource>(
@@ -163,7 +166,6 @@ fn believe<C: Context, G: TsvalSource>(
 fn take_heard<C: Context, G: TsvalSource>(
     sockets: &mut SocketSet<'_, G>,
     cx: &mut C,
-    limit: &mut Limit,
     heard: &Heard,
     ip: &IpRepr,
     repr: &TcpRepr<'_>,
@@ -171,7 +173,7 @@ fn take_heard<C: Context, G: TsvalSource>(
 ) {
     match heard.course {
         Course::Plain | Course::Doubted => {
-            take_segment(sockets, cx, limit, heard.taker, ip, repr, reply);
+            take_segment(sockets, cx, heard.taker, ip, repr, reply);
         }
         Course::Answered(place, number) => {
             let room = room_at(&sockets.slots, place);
@@ -181,6 +183,7 @@ fn take_heard<C: Context, G: TsvalSource>(
             let opening = opening_of(repr);
             *reply = believe(sockets, cx, heard.again, class, number, ip, &opening);
         }
+        Course::Dropped => *reply = None,
     }
 }
 
@@ -189,6 +192,7 @@ fn heard_by<C: Context, G: TsvalSource>(
     sockets: &SocketSet<'_, G>,
     cx: &C,
     cookies: &Option<SynCookies>,
+    most: usize,
     ip: &IpRepr,
     repr: &TcpRepr<'_>,
 ) -> Heard {
@@ -196,7 +200,8 @@ fn heard_by<C: Context, G: TsvalSource>(
     let class = class_if(cookies, taker, cx, repr);
     let again = who_again(sockets, cx, class, ip, repr);
     let course = course_of(cookies, taker, again, cx, ip, repr);
-    Heard { course, taker, again }
+    let dropped = is_limited(sockets, most, taker, course, ip, repr);
+    Heard { course: dropped_if(dropped, course), taker, again, dropped }
 }
 
 /// The connection at this place, which takes the segment, hears it: the length of the packet that answers it, at the
@@ -206,12 +211,13 @@ pub(crate) fn hear_known<C: Context, G: TsvalSource>(
     sockets: &mut SocketSet<'_, G>,
     i: usize,
     cx: &mut C,
+    limit: &mut Limit,
     ip: &IpRepr,
     repr: &TcpRepr<'_>,
     out: &mut [u8],
 ) -> usize {
     sockets.lend(i);
-    hear_out_there(&mut sockets.slots, i, cx, ip, repr, out)
+    hear_out_there(&mut sockets.slots, i, cx, limit, ip, repr, out)
 }
 
 /// A segment arrives, and who takes it is looked for: who took it, and the length of the packet that answers it, at the
@@ -221,15 +227,18 @@ pub(crate) fn hear_sought<C: Context, G: TsvalSource>(
     cx: &mut C,
     limit: &mut Limit,
     cookies: &Option<SynCookies>,
+    most: usize,
     ip: &IpRepr,
     repr: &TcpRepr<'_>,
     out: &mut [u8],
 ) -> (Heard, usize) {
     let caps = cx.checksum_caps();
+    let now = cx.now();
     sockets.settle_for(connection_key(&ip.src_addr(), repr.dst_port, repr.src_port));
-    let heard = heard_by(sockets, cx, cookies, ip, repr);
+    let heard = heard_by(sockets, cx, cookies, most, ip, repr);
     let mut reply = None;
-    take_heard(sockets, cx, limit, &heard, ip, repr, &mut reply);
+    take_heard(sockets, cx, &heard, ip, repr, &mut reply);
+    keep_within(limit, now, ip, &mut reply);
     let len = put_reply(&reply, out, &caps);
     (heard, len)
 }

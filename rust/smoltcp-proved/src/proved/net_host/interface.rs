@@ -37,6 +37,8 @@ pub struct Interface<W> {
     // where SYNs may be answered without a socket
     pub(crate) cookies: Option<SynCookies>,
     pub(crate) groups: Groups,
+    // how many connections a source may have; 0 where any number
+    pub(crate) most_of_source: usize,
 }
 
 impl<W: Words> Interface<W> {
@@ -55,12 +57,15 @@ impl<W: Words> Interface<W> {
     /// no socket takes it; the acknowledgement of that answer, within 64 seconds, takes a socket, which hears the SYN
     /// as it was told again, dispatches its SYN|ACK into nothing, as that has gone out, and then hears the
     /// acknowledgement, without the octet of a keep-alive (RFC 9293, section 3.8.4). None is believed once no SYN was
-    /// answered so for 128 seconds. One for no socket is answered by an RST (RFC 9293, section 3.10.7.1), unless it is
-    /// one, at most `ANSWERS_A_SECOND` times a second. A datagram goes to the first UDP socket that accepts it; of one
-    /// that none does the sender is told by an ICMP error (RFC 1122, section 4.1.3.1; RFC 4443, section 3.1). Errors go
-    /// out for packets to an own address that no raw socket takes, at most `ANSWERS_A_SECOND` times a second, and fit
-    /// the MTU. Of an ICMP message each ICMP socket that accepts it takes a copy, and an echo request is answered (RFC
-    /// 792; RFC 4443, section 4.2), by at most as many bytes as the MTU. No other socket changes.
+    /// answered so for 128 seconds. A SYN of a source that has as many connections as `set_most_of_source` allows is
+    /// dropped, and so is what a cookie would open. A segment for no socket is answered by an RST (RFC 9293, section
+    /// 3.10.7.1), unless it is one. Of RSTs at most `ANSWERS_A_SECOND` go out to a source in a second, with those of
+    /// sockets whose handshake is not over (section 3.10.7.4). A datagram goes to the first UDP socket that accepts
+    /// it; of one that none does the sender is told by an ICMP error (RFC 1122, section 4.1.3.1; RFC 4443, section
+    /// 3.1). Errors go out for packets to an own address that no raw socket takes, at most `ANSWERS_A_SECOND` to a
+    /// source in a second, and fit the MTU. Some sources share a limit, by a key (`set_answer_key`). Of an ICMP
+    /// message each ICMP socket that accepts it takes a copy, and an echo request is answered (RFC 792; RFC 4443,
+    /// section 4.2), by at most as many bytes as the MTU. No other socket changes.
     ///
     /// A TCP socket whose place is not `touched` afterwards is as it was, and was not touched before.
     ///
@@ -159,6 +164,7 @@ impl<W> Interface<W> {
             guards: Limits::of(&GuardSettings::new()),
             cookies: None,
             groups: Groups::none(),
+            most_of_source: 0,
         }
     }
 
@@ -198,6 +204,22 @@ impl<W> Interface<W> {
     /// Of answers that went out before none is believed.
     pub fn set_syn_cookies(&mut self, cookies: Option<SynCookies>) {
         self.cookies = cookies;
+    }
+
+    /// Sets how many TCP connections a source may have: an address of IPv4, or 64 bits of one of IPv6 (in `::/64` each
+    /// address); 0, as in a new interface, allows any number. Those in TIME-WAIT and those that were opened here count,
+    /// too. A SYN that would begin one more is dropped and counted as `too_many`, and so is what a SYN cookie would open.
+    ///
+    /// It costs a search of the index, however many there are.
+    pub fn set_most_of_source(&mut self, most: usize) {
+        self.most_of_source = most;
+    }
+
+    /// Sets the key by which sources have buckets of what is answered by RSTs and ICMP errors. In a new interface it is
+    /// a constant: set a random one, which nobody can guess.
+    pub fn set_answer_key(&mut self, key: u64) {
+        self.resets.set_key(key);
+        self.errors.set_key(key);
     }
 
     /// Sets the largest IP packet, in bytes: 68 to 65535, and the nearest of these for any other. Over IPv6 less than

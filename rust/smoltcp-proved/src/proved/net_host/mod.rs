@@ -10,6 +10,7 @@ pub mod cidr;
 pub mod cookies;
 pub mod copies;
 pub mod counters;
+pub mod crowding;
 pub mod datagrams;
 pub mod device;
 pub mod emission;

@@ -236,7 +236,7 @@ impl<W: Words> Interface<W> {
         out: &mut [u8],
     ) -> usize {
         match known_taker(sockets, &self.inner, ip, repr) {
-            Some(i) => hear_known(sockets, i, &mut self.inner, ip, repr, out),
+            Some(i) => hear_known(sockets, i, &mut self.inner, &mut self.resets, ip, repr, out),
             None => self.seek_taker(sockets, ip, repr, out),
         }
     }
@@ -251,8 +251,16 @@ impl<W: Words> Interface<W> {
         out: &mut [u8],
     ) -> usize {
         let now = self.inner.environment.now;
-        let (heard, len) =
-            hear_sought(sockets, &mut self.inner, &mut self.resets, &self.cookies, ip, repr, out);
+        let (heard, len) = hear_sought(
+            sockets,
+            &mut self.inner,
+            &mut self.resets,
+            &self.cookies,
+            self.most_of_source,
+            ip,
+            repr,
+            out,
+        );
         count_heard(&mut self.counters, &heard);
         note_on(&mut self.cookies, heard.course, now);
         len
@@ -301,6 +309,7 @@ fn count_heard(counters: &mut Counters, heard: &Heard) {
         }
         Course::Answered(..) => counters.count_sent(),
         Course::Believed(..) => count_again(counters, heard.again),
+        Course::Dropped => counters.count(Reason::TooMany),
     }
 }
 

@@ -2,7 +2,7 @@
 //! Which socket takes a TCP segment, and what becomes of it.
 
 use crate::kit::Vec;
-use crate::proved::net_host::filing::{connection_key, listener_key};
+use crate::proved::net_host::filing::{connection_key, listener_key, number_of};
 use crate::proved::net_host::find::{Sought, first_if_any, first_sought};
 use crate::proved::net_host::limit::Limit;
 use crate::proved::net_host::rest::{any_server, oldest, opens};
@@ -285,21 +285,35 @@ pub(crate) fn hear_anew_at<C: Context, G: TsvalSource>(
     hear_anew_there(&mut sockets.slots, i, cx, ip, repr, reply);
 }
 
-/// The RST that answers a segment for no socket, unless it is one itself, where the limit allows it.
+/// The RST that answers a segment for no socket, unless it is one itself.
 // Not inlined, as few segments come here.
 #[inline(never)]
-fn refuse(limit: &mut Limit, now: Instant, ip: &IpRepr, repr: &TcpRepr<'_>) -> Option<Reply> {
-    if repr.control == TcpControl::Rst || !limit.take(now) {
+fn refuse(ip: &IpRepr, repr: &TcpRepr<'_>) -> Option<Reply> {
+    if repr.control == TcpControl::Rst {
         return None;
     }
     Some(tcp::Socket::rst_reply(ip, repr))
 }
 
-/// The segment goes to its taker, or is refused; the reply is written where it is wanted, as `hear_at` does.
+fn is_rst(reply: &Option<Reply>) -> bool {
+    match reply {
+        None => false,
+        Some((_, repr)) => repr.control == TcpControl::Rst,
+    }
+}
+
+/// What goes out of what answers a segment: an RST only where the limit allows its sender one more.
+pub(crate) fn keep_within(limit: &mut Limit, now: Instant, ip: &IpRepr, reply: &mut Option<Reply>) {
+    if is_rst(reply) && !limit.take(number_of(&ip.src_addr()), now) {
+        *reply = None;
+    }
+}
+
+/// The segment goes to its taker, or is refused; the reply is written where it is wanted, as `hear_at` does. Of the
+/// limit on RSTs nothing is taken yet.
 pub(crate) fn take_segment<C: Context, G: TsvalSource>(
     sockets: &mut SocketSet<'_, G>,
     cx: &mut C,
-    limit: &mut Limit,
     taker: Taker,
     ip: &IpRepr,
     repr: &TcpRepr<'_>,
@@ -310,6 +324,6 @@ pub(crate) fn take_segment<C: Context, G: TsvalSource>(
         Taker::Listener(i) => hear_at(sockets, i, cx, true, ip, repr, reply),
         Taker::Reopened(i) | Taker::Reused(i) => hear_anew_at(sockets, i, cx, ip, repr, reply),
         Taker::Busy => *reply = None,
-        Taker::Nobody => *reply = refuse(limit, cx.now(), ip, repr),
+        Taker::Nobody => *reply = refuse(ip, repr),
     }
 }

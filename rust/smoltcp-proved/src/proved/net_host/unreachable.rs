@@ -2,7 +2,7 @@
 //! What tells a sender that nobody takes its packet.
 
 use crate::proved::host_index::Index;
-use crate::proved::net_host::filing::raw_key;
+use crate::proved::net_host::filing::{number_of, raw_key};
 use crate::proved::net_host::find::next_under;
 use crate::proved::net_host::limit::Limit;
 use crate::proved::net_host::messages::{Mail, put_answer};
@@ -156,11 +156,16 @@ fn wanted<'p>(own: bool, raw: bool, error: Option<Mail<'p>>) -> Option<Mail<'p>>
 }
 
 // The error, where the limit allows it.
-fn within_limit<'p>(limit: &mut Limit, now: Instant, error: Option<Mail<'p>>) -> Option<Mail<'p>> {
+fn within_limit<'p>(
+    limit: &mut Limit,
+    ip: &IpRepr,
+    now: Instant,
+    error: Option<Mail<'p>>,
+) -> Option<Mail<'p>> {
     match error {
         None => None,
         Some(mail) => {
-            if limit.take(now) {
+            if limit.take(number_of(&ip.src_addr()), now) {
                 Some(mail)
             } else {
                 None
@@ -170,8 +175,8 @@ fn within_limit<'p>(limit: &mut Limit, now: Instant, error: Option<Mail<'p>>) ->
 }
 
 // Whether the sender is told, where no raw socket takes the packet.
-fn may_tell(own: bool, error: &Option<Mail<'_>>, limit: &Limit, now: Instant) -> bool {
-    own && error.is_some() && limit.allows(now)
+fn may_tell(own: bool, error: &Option<Mail<'_>>, limit: &Limit, ip: &IpRepr, now: Instant) -> bool {
+    own && error.is_some() && limit.allows(number_of(&ip.src_addr()), now)
 }
 
 /// Tells the sender of a packet that nobody takes: writes the error at the beginning of `out`, and answers its length.
@@ -190,11 +195,11 @@ pub(crate) fn tell_sender<C: Context, G: TsvalSource>(
     let mtu = cx.ip_mtu();
     let own = cx.has_ip_addr(ip.dst_addr());
     let error = error_of(unmet, ip, bytes, mtu);
-    if !may_tell(own, &error, limit, cx.now()) {
+    if !may_tell(own, &error, limit, ip, cx.now()) {
         return 0;
     }
     let raw = first_raw(sockets, ip);
     let error = wanted(own, raw.is_some(), error);
-    let answer = within_limit(limit, cx.now(), error);
+    let answer = within_limit(limit, ip, cx.now(), error);
     put_answer(&answer, mtu, out, &cx.checksum_caps())
 }

@@ -147,6 +147,23 @@ impl<'a> ControlBlock<'a> {
         }
     }
 
+    // What is held, where it tells that.
+    #[inline(never)]
+    fn fill_rfc_ranges<C: Context>(&self, cx: &C, tuple: &Tuple, repr: &mut TcpRepr<'_>) {
+        if self.tells_ranges(cx, tuple) {
+            repr.sack_ranges = self.sack_ranges();
+        }
+    }
+
+    // The same, of which smoltcp's rules tell nothing.
+    #[inline(always)]
+    fn fill_ranges<C: Context>(&self, cx: &C, tuple: &Tuple, repr: &mut TcpRepr<'_>) {
+        match crate::kit::in_force(self.rules) {
+            Rules::Smoltcp => {}
+            Rules::Rfc => self.fill_rfc_ranges(cx, tuple, repr),
+        }
+    }
+
     // Data of the transmit queue.
     fn fill_data<'s>(&self, payload: &'s [u8], repr: &mut TcpRepr<'s>) {
         repr.control = self.data_control(payload.len());
@@ -193,9 +210,14 @@ impl<'a> ControlBlock<'a> {
                 self.fill_syn_ack(cx, tuple, repr);
                 true
             }
-            State::FinWait2 | State::TimeWait => true,
+            State::FinWait2 => {
+                self.fill_ranges(cx, tuple, repr);
+                true
+            }
+            State::TimeWait => true,
             _ => {
                 self.fill_data(payload, repr);
+                self.fill_ranges(cx, tuple, repr);
                 true
             }
         }
@@ -212,9 +234,18 @@ impl<'a> ControlBlock<'a> {
         }
     }
 
+    // The window of a keep-alive, which does not count as told: by the RFCs' rules no more than was told last.
+    fn aside_field(&self, field: u16) -> u16 {
+        match crate::kit::in_force(self.rules) {
+            Rules::Smoltcp => field,
+            Rules::Rfc => self.kept_field(),
+        }
+    }
+
     // One zero byte before SND.UNA.
     fn fill_keep_alive(&self, repr: &mut TcpRepr<'_>) {
         repr.seq_number = self.local_seq_no.minus(1);
+        repr.window_len = self.aside_field(repr.window_len);
         repr.payload = &[0];
     }
 

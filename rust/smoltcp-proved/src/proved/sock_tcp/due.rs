@@ -2,6 +2,7 @@
 //! Whether a dispatch has anything to send (RFC 9293, section 3.8).
 
 use crate::proved::control_wire::TcpSeqNumber;
+use crate::proved::control_wire::tcp::sack_count;
 use crate::proved::ip_wire::IpAddress;
 use crate::proved::sock_core::congestion::Controller;
 use crate::proved::sock_core::seq::before;
@@ -14,6 +15,9 @@ use crate::proved::sock_tcp::tuple::Tuple;
 
 // How much of each segment a timestamp takes.
 const TIMESTAMP_ROOM: usize = 12;
+
+// And three ranges with it.
+const MOST_OPTIONS: usize = 36;
 
 // Over IPv6 less counts as this: its links carry 1280 bytes (RFC 8200, section 5).
 const LEAST_IPV6_MTU: usize = 576;
@@ -34,8 +38,43 @@ impl<'a> ControlBlock<'a> {
         if self.stamps { TIMESTAMP_ROOM } else { 0 }
     }
 
+    // A segment that is no reply tells what is held.
+    #[inline(always)]
+    pub(crate) fn tells_ranges<C: Context>(&self, cx: &C, tuple: &Tuple) -> bool {
+        match crate::kit::in_force(self.rules) {
+            Rules::Smoltcp => false,
+            Rules::Rfc => {
+                self.remote_has_sack && !self.rx_buffer.holds_nothing() && own_mss(cx, tuple) > MOST_OPTIONS
+            }
+        }
+    }
+
+    // How much of each segment the ranges take, with a timestamp.
+    #[inline(never)]
+    fn ranges_room(&self) -> usize {
+        let stamp = if self.stamps { 10 } else { 0 };
+        let count = sack_count(&self.sack_ranges());
+        let ranges = if count == 0 { 0 } else { 2 + 8 * count };
+        (stamp + ranges + 3) / 4 * 4
+    }
+
+    // How much of each segment its options take, by the RFCs' rules.
+    #[inline(never)]
+    fn rfc_options_room<C: Context>(&self, cx: &C, tuple: &Tuple) -> usize {
+        if self.tells_ranges(cx, tuple) { self.ranges_room() } else { self.timestamp_room() }
+    }
+
+    // How much of each segment its options take.
+    #[inline(always)]
+    fn options_room<C: Context>(&self, cx: &C, tuple: &Tuple) -> usize {
+        match crate::kit::in_force(self.rules) {
+            Rules::Smoltcp => self.timestamp_room(),
+            Rules::Rfc => self.rfc_options_room(cx, tuple),
+        }
+    }
+
     pub(crate) fn effective_mss<C: Context>(&self, cx: &C, tuple: &Tuple) -> usize {
-        let room = self.timestamp_room();
+        let room = self.options_room(cx, tuple);
         own_mss(cx, tuple).min(self.remote_mss).saturating_sub(room)
     }
 

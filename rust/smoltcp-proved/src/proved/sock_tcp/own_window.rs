@@ -27,7 +27,7 @@ impl<'a> ControlBlock<'a> {
     }
 
     // The field that keeps the right edge.
-    fn kept_field(&self) -> u16 {
+    pub(crate) fn kept_field(&self) -> u16 {
         let unit = 1usize << self.remote_win_shift;
         let up = (self.told_left() + (unit - 1)) >> self.remote_win_shift;
         up.min(self.space_field() as usize) as u16

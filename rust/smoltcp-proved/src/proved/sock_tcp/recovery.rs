@@ -28,6 +28,10 @@ pub enum Recovery {
         resent_at: TcpSeqNumber,
         /// Whether something new was acknowledged since it began.
         acked: bool,
+        /// Whether something was sent again behind new bytes that went out since then.
+        trailed: bool,
+        /// Whether the segment at SND.UNA was lost again, and is still to go out.
+        una_lost: bool,
     },
     /// A tail-loss probe went out, and nothing behind what was sent before it is acknowledged (RFC 8985, section 7).
     Probe {
@@ -222,6 +226,8 @@ impl Before {
                 high_rxt: after.local_seq_no,
                 resent_at: after.remote_last_seq,
                 acked: false,
+                trailed: false,
+                una_lost: false,
             };
         }
         let recovery = self.again(after).spared(self.is_undone(after));

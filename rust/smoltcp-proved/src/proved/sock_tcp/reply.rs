@@ -54,6 +54,22 @@ fn wire_edges(next: TcpSeqNumber, range: (usize, usize)) -> (u32, u32) {
     (wire_number(next, range.0), wire_number(next, range.1))
 }
 
+// The same of a range, if there is one.
+fn on_wire(next: TcpSeqNumber, range: Option<(usize, usize)>) -> Option<(u32, u32)> {
+    match range {
+        None => None,
+        Some(range) => Some(wire_edges(next, range)),
+    }
+}
+
+// They begin at the same place.
+fn is_same(range: Option<(usize, usize)>, other: Option<(usize, usize)>) -> bool {
+    match (range, other) {
+        (Some(range), Some(other)) => range.0 == other.0,
+        _ => false,
+    }
+}
+
 impl<'a> ControlBlock<'a> {
     // The range around the last segment in the window, else the first.
     fn chosen_range(&self) -> Option<(usize, usize)> {
@@ -67,14 +83,36 @@ impl<'a> ControlBlock<'a> {
         }
     }
 
-    // The range that tells a peer which permits it what is held (RFC 2018, section 4).
-    fn sack_range(&self) -> Option<(u32, u32)> {
-        if !self.remote_has_sack {
-            return None;
+    // The first range beside the chosen one.
+    fn second_range(&self, chosen: Option<(usize, usize)>) -> Option<(usize, usize)> {
+        let first = self.rx_buffer.range_at(0);
+        if is_same(chosen, first) { self.rx_buffer.range_at(1) } else { first }
+    }
+
+    // The one behind that.
+    fn third_range(&self, chosen: Option<(usize, usize)>) -> Option<(usize, usize)> {
+        let second = self.rx_buffer.range_at(1);
+        if is_same(chosen, self.rx_buffer.range_at(0)) || is_same(chosen, second) {
+            self.rx_buffer.range_at(2)
+        } else {
+            second
         }
-        match self.chosen_range() {
-            None => None,
-            Some(range) => Some(wire_edges(self.next_ack(), range)),
+    }
+
+    // The ranges that tell a peer which permits it what is held (RFC 2018, section 4).
+    pub(crate) fn sack_ranges(&self) -> [Option<(u32, u32)>; 3] {
+        if !self.remote_has_sack {
+            return [None, None, None];
+        }
+        let next = self.next_ack();
+        let chosen = self.chosen_range();
+        let first = on_wire(next, chosen);
+        match crate::kit::in_force(self.rules) {
+            Rules::Smoltcp => [first, None, None],
+            Rules::Rfc => {
+                let second = on_wire(next, self.second_range(chosen));
+                [first, second, on_wire(next, self.third_range(chosen))]
+            }
         }
     }
 
@@ -84,7 +122,7 @@ impl<'a> ControlBlock<'a> {
         reply.seq_number = self.remote_last_seq;
         reply.ack_number = Some(self.next_ack());
         reply.window_len = self.window_field();
-        reply.sack_ranges = [self.sack_range(), None, None];
+        reply.sack_ranges = self.sack_ranges();
         self.remote_last_ack = reply.ack_number;
         self.remote_last_win = reply.window_len;
         reply

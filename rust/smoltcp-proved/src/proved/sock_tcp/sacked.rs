@@ -13,11 +13,18 @@ pub(crate) fn offset_from(number: TcpSeqNumber, una: TcpSeqNumber) -> usize {
     if before(una, number) { number.since(una) } else { 0 }
 }
 
+// From where on holes go out again: from SND.UNA on, where the segment there was lost again.
+fn hole_from(una_lost: bool, high_rxt: TcpSeqNumber, una: TcpSeqNumber) -> usize {
+    if una_lost { 0 } else { offset_from(high_rxt, una) }
+}
+
 impl Recovery {
     // The next hole to be sent again, of what was told by SACK, with SND.UNA there.
     pub(crate) fn next_hole(self, sacked: &Scoreboard, una: TcpSeqNumber) -> Option<Hole> {
         match self {
-            Recovery::Fast { high_rxt, .. } => sacked.hole_behind(offset_from(high_rxt, una)),
+            Recovery::Fast { high_rxt, una_lost, .. } => {
+                sacked.hole_behind(hole_from(una_lost, high_rxt, una))
+            }
             Recovery::Probe { start, end, .. } => {
                 Some(Hole { start: start.since(una) as u32, end: end.since(una) as u32 })
             }
@@ -28,7 +35,9 @@ impl Recovery {
     // Whether there is a hole that was not sent again in this recovery.
     fn has_hole(self, sacked: &Scoreboard, una: TcpSeqNumber) -> bool {
         match self {
-            Recovery::Fast { high_rxt, .. } => sacked.hole_behind(offset_from(high_rxt, una)).is_some(),
+            Recovery::Fast { high_rxt, una_lost, .. } => {
+                sacked.hole_behind(hole_from(una_lost, high_rxt, una)).is_some()
+            }
             _ => false,
         }
     }
@@ -49,8 +58,9 @@ impl Recovery {
     // Whether the segment at SND.UNA was sent again, and lost again.
     fn is_lost(self, sacked: &Scoreboard, una: TcpSeqNumber) -> bool {
         match self {
-            Recovery::Fast { high_rxt, resent_at, .. } => {
-                before(una, high_rxt) && offset_from(resent_at, una) < sacked.highest_told() as usize
+            Recovery::Fast { high_rxt, resent_at, una_lost, .. } => {
+                !una_lost
+                    && (before(una, high_rxt) && offset_from(resent_at, una) < sacked.highest_told() as usize)
             }
             _ => false,
         }
@@ -58,26 +68,43 @@ impl Recovery {
 
     // SND.UNA has moved, or a segment was lost again, or neither, with SND.UNA and SND.NXT there.
     fn again(self, news: bool, lost: bool, una: TcpSeqNumber, next: TcpSeqNumber) -> Recovery {
-        let resent_at = self.highest(next);
         match (news, lost, self) {
-            (true, _, Recovery::Fast { point, high_rxt, .. }) => {
-                Recovery::Fast { point, high_rxt, resent_at, acked: true }
-            }
-            (false, true, Recovery::Fast { point, acked, .. }) => {
-                Recovery::Fast { point, high_rxt: una, resent_at, acked }
-            }
+            (true, _, Recovery::Fast { point, high_rxt, .. }) => Recovery::Fast {
+                point,
+                high_rxt,
+                resent_at: later(next, point),
+                acked: true,
+                trailed: false,
+                una_lost: false,
+            },
+            (false, true, Recovery::Fast { point, high_rxt, acked, trailed, .. }) => Recovery::Fast {
+                point,
+                high_rxt: if trailed { high_rxt } else { una },
+                resent_at: later(next, point),
+                acked,
+                trailed: false,
+                una_lost: true,
+            },
             (true, _, Recovery::Probe { end, .. }) if before(end, una) => Recovery::Open,
             _ => self,
         }
     }
 
-    // A segment went out, with SND.NXT there: one that begins before that was sent again.
+    // A segment went out, with SND.NXT there: one that begins before that was sent again. What is told next is measured
+    // from now on, where it was lost again; else it trails new bytes, where some went out since.
     pub(crate) fn resent(self, next: TcpSeqNumber, emitted: &Emitted) -> Recovery {
         match self {
-            Recovery::Fast { point, high_rxt, resent_at, acked }
+            Recovery::Fast { point, high_rxt, resent_at, acked, trailed, una_lost }
                 if before(emitted.seq_number, next) && emitted.len != 0 =>
             {
-                Recovery::Fast { point, high_rxt: later(high_rxt, emitted.end), resent_at, acked }
+                Recovery::Fast {
+                    point,
+                    high_rxt: later(high_rxt, emitted.end),
+                    resent_at: if una_lost { later(next, point) } else { resent_at },
+                    acked,
+                    trailed: !una_lost && (trailed || next != resent_at),
+                    una_lost: false,
+                }
             }
             _ => self,
         }
@@ -129,7 +156,8 @@ impl Before {
             return false;
         }
         let sacked = self.sacked_after(after);
-        self.again(after).has_hole(&sacked, after.local_seq_no) && self.has_room(after)
+        self.again(after).has_hole(&sacked, after.local_seq_no)
+            && (self.is_lost_again(after) || self.has_room(after))
     }
 
     // A partial acknowledgement shows a hole that was not sent again.

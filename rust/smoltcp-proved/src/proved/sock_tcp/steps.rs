@@ -14,6 +14,14 @@ use crate::proved::sock_tcp::timer::{AckDelayTimer, Timer, after};
 // As many duplicates of an acknowledgement call for a fast retransmission (RFC 5681, section 3.2).
 const DUPLICATES: u8 = 3;
 
+// The interval of probes goes on to double, by the RFCs' rules, where the byte of one is acknowledged.
+fn goes_on_probing(rules: Rules, timer: Timer) -> bool {
+    match (rules, timer) {
+        (Rules::Rfc, Timer::ZeroWindowProbe { .. }) => true,
+        _ => false,
+    }
+}
+
 impl<'a> ControlBlock<'a> {
     // The peer's window: whether it is another than before.
     fn take_window(&mut self, now: Instant, control: TcpControl, field: u16) -> bool {
@@ -121,7 +129,8 @@ impl<'a> ControlBlock<'a> {
     }
 
     fn begins_probe(&self, timer: Timer, acked: Acked) -> bool {
-        !self.tx_buffer.is_empty() && (timer.is_idle() || acked.len != 0)
+        let goes_on = goes_on_probing(crate::kit::in_force(self.rules), timer);
+        !self.tx_buffer.is_empty() && (timer.is_idle() || (acked.len != 0 && !goes_on))
     }
 
     // Probes begin while the peer has no window, and end when it has one.
@@ -161,6 +170,14 @@ impl<'a> ControlBlock<'a> {
         }
     }
 
+    // More than a segment is unacknowledged.
+    fn is_second(&self) -> bool {
+        match crate::kit::in_force(self.rules) {
+            Rules::Smoltcp => self.is_ack_owed(self.remote_mss),
+            Rules::Rfc => true,
+        }
+    }
+
     pub(crate) fn delay_ack(&mut self, now: Instant) {
         let delay = match self.ack_delay() {
             None => return,
@@ -175,7 +192,7 @@ impl<'a> ControlBlock<'a> {
                 self.ack_delay_until = after(now, delay);
             }
             AckDelayTimer::Waiting(_) => {
-                if self.is_ack_owed(self.remote_mss) {
+                if self.is_second() {
                     self.ack_delay_kind = DelayKind::Immediate;
                 }
             }

@@ -153,6 +153,8 @@ impl<'a> ControlBlock<'a> {
             high_rxt: self.local_seq_no,
             resent_at: self.remote_last_seq,
             acked: false,
+            trailed: false,
+            una_lost: false,
         };
         self.pending_fast_retransmit = true;
         self.rtte.on_retransmit();

@@ -14,9 +14,9 @@ pub fn scoreboard_tells_the_newest() {}
 pub fn scoreboard_follows_segments() {}
 
 /// Whatever segment comes, each range that the answer tells by SACK is one of bytes that the socket holds behind a gap
-/// when the call returns, at their numbers; and what a dispatch sends tells no range. A byte that is held stays until
-/// it joins the receive queue (`streams::bytes_stay_at_their_places`), so what was told is never taken back while the
-/// connection lasts (RFC 2018, section 8).
+/// when the call returns, at their numbers; and so does what a dispatch sends, which by smoltcp's rules tells no range.
+/// A byte that is held stays until it joins the receive queue (`streams::bytes_stay_at_their_places`), so what was told
+/// is never taken back while the connection lasts (RFC 2018, section 8).
 pub fn answers_tell_what_is_held() {}
 
 /// Where a segment shows that a recovery was for nothing, Reno's congestion window and threshold are at least what was

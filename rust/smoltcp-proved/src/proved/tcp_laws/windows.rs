@@ -3,9 +3,13 @@
 
 /// The right edge of the receive window that a segment tells does not go back behind the one that was told last, but by
 /// less than one unit of the window field (RFC 9293, section 3.8.6; RFC 7323, section 2.4): after any list of calls on
-/// a new socket over any two buffers of at most 2^30 bytes, with any segments that `accepts` lets in. What a keep-alive
-/// or a probe of the window tells does not count as told: a later segment may tell less than that.
+/// a new socket over any two buffers of at most 2^30 bytes, with any segments that `accepts` lets in. What a probe of
+/// the window tells does not count as told: a later segment may tell less than that.
 pub fn right_edge_stays() {}
+
+/// The window of a keep-alive does not count as told either, and ends where the one does that was told last, but for
+/// less than one unit of the window field: no later segment tells less than a keep-alive did.
+pub fn keep_alive_moves_no_edge() {}
 
 /// Whatever window was told once is honored (RFC 7323, section 2.4): after any such list, and any further calls on the
 /// same connection, the right edge that was told before them, if by a keep-alive, does not lie behind that of the
