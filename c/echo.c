@@ -171,11 +171,14 @@ static int add_datagrams(void) {
 static int make_host(void) {
     struct smoltcp_cidr address = {{0, {0}, {0}}, 24};
     struct smoltcp_key keys[2];
+    uint64_t answers;
     size_t i;
     address.address = own = smoltcp_ipv4(10, 9, 0, 2);
     if (getrandom(keys, sizeof keys, 0) != sizeof keys) return 0;
+    if (getrandom(&answers, sizeof answers, 0) != sizeof answers) return 0;
     if (smoltcp_host_init(&host, SOCKETS + 1, &address, 1, &keys[0]) != SMOLTCP_OK) return 0;
     smoltcp_host_set_syn_cookies(&host, &keys[1], KEPT_FROM);
+    smoltcp_host_set_answer_key(&host, answers);
     for (i = 0; i < SOCKETS; i++) {
         if (!add_connection(&connections[i], i % 2 == 0 ? 7 : 80)) return 0;
     }

@@ -284,7 +284,9 @@ static void set(struct end *e, int which) {
     uint64_t opened;
     size_t place, i;
     memset(&key, (int)draw(256), sizeof key);
-    switch (draw(10)) {
+    switch (draw(12)) {
+    case 10: done("set_most", smoltcp_host_set_most_of_source(&e->host, draw(SLOTS + 1))); break;
+    case 11: done("set_answer_key", smoltcp_host_set_answer_key(&e->host, (uint64_t)draw(1000))); break;
     case 0: done("set_mtu", smoltcp_host_set_mtu(&e->host, draw(4) ? MTU : draw(MTU))); break;
     case 1: done("set_guards", smoltcp_host_set_guards(&e->host, &guards)); break;
     case 2: done("cookies", smoltcp_host_set_syn_cookies(&e->host, &key, draw(SLOTS + 1))); break;

@@ -268,6 +268,8 @@ static void nulls(void) {
     NULLS(smoltcp_host_set_syn_cookies(NULL, &key, 0));
     NULLS(smoltcp_host_set_syn_cookies(&host, NULL, 0));
     NULLS(smoltcp_host_stop_syn_cookies(NULL));
+    NULLS(smoltcp_host_set_most_of_source(NULL, 1));
+    NULLS(smoltcp_host_set_answer_key(NULL, 1));
     NULLS(smoltcp_host_join(NULL, &address.address));
     NULLS(smoltcp_host_join(&host, NULL));
     NULLS(smoltcp_host_leave(NULL, &address.address));

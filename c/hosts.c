@@ -302,6 +302,29 @@ static void cookies(void) {
     end();
 }
 
+/* A source has no more connections than are set, and other hosts do not care. */
+static void most_of_source(void) {
+    struct side *server = &sides[1];
+    struct smoltcp_counters counters;
+    begin();
+    exchange();
+    want("most", smoltcp_host_set_most_of_source(&server->host, 1), SMOLTCP_OK);
+    want("key", smoltcp_host_set_answer_key(&server->host, 0x123456789abcdef), SMOLTCP_OK);
+    connect_one(0, 50000);
+    exchange();
+    want("one connection", smoltcp_tcp_state(tcp_at(server, 0)), SMOLTCP_ESTABLISHED);
+    connect_one(1, 50001);
+    exchange();
+    want("no second one", smoltcp_tcp_state(tcp_at(server, 1)), SMOLTCP_LISTEN);
+    smoltcp_host_counters(&server->host, &counters);
+    want("counted", (int64_t)counters.too_many, 1);
+    want("any number", smoltcp_host_set_most_of_source(&server->host, 0), SMOLTCP_OK);
+    pass_time(2000000);
+    exchange();
+    want("a second one", smoltcp_tcp_state(tcp_at(server, 1)), SMOLTCP_ESTABLISHED);
+    end();
+}
+
 /* Where the heap refuses sooner or later, what was taken is given back. */
 static void heap_refuses(const struct smoltcp_cidr *address) {
 #ifdef OWN_HEAP
@@ -464,6 +487,7 @@ int main(void) {
         three_connections();
         touched();
         cookies();
+    most_of_source();
         datagrams_and_pings();
     }
 #ifdef OWN_HEAP

@@ -153,6 +153,9 @@ impl Interface {
         let mut host = net_host::Interface::new(crate::kit::Vec::new(Global), Secret::new(config.key()));
         // as smoltcp's connections, which last as long as their sockets' own settings say
         host.set_guards(net_host::GuardSettings::off());
+        // by which sources share the limits of RSTs and ICMP errors
+        let key = u64::from(host.rand_u32()) << 32 | u64::from(host.rand_u32());
+        host.set_answer_key(key);
         let hardware_addr = config.hardware_addr;
         let medium = device.capabilities().medium;
         assert!(medium == Medium::Ip, "The hardware address does not match the medium of the interface.");
