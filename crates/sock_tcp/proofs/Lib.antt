@@ -1,5 +1,7 @@
 pub mod Acking
 pub mod Checking
+pub mod Explaining
+pub mod Taking
 pub mod Refusing
 pub mod Telling
 pub mod Recovering

@@ -20,6 +20,8 @@ pub mod Ends
 pub mod Inside
 pub mod Rfc
 pub mod Process
+pub mod Explain
+pub mod Explained
 pub mod Draw
 pub mod Due
 pub mod Begin

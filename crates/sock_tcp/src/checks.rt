@@ -3,6 +3,7 @@
 ghost use Rattle.std.specs.Prelude.{◌≡◌, length};
 ghost use Rattle.control_wire.specs.Segment.{segment_of};
 ghost use Rattle.sock_tcp.specs.Draw.{draws};
+ghost use Rattle.sock_tcp.specs.Explain.{challenged_row, unsent_row};
 ghost use Rattle.sock_tcp.specs.Rfc.Checks.{ack_checked, acks_unsent, checked, is_forgotten, is_older, probe_places};
 ghost use Rattle.sock_tcp.specs.Rfc.Checks.{rst_checked, sent_end, stamp_checked, verdict_by};
 ghost use Rattle.sock_tcp.specs.Rfc.Windows.{ack_heeded};
@@ -12,6 +13,7 @@ ghost use Rattle.sock_tcp.specs.declared.verdict.Verdict.TheVariants.{Pass};
 
 use crate::advance::Next;
 use crate::control_block::ControlBlock;
+use crate::explain::Row;
 use crate::rules::Rules;
 use crate::state::State;
 use crate::timer::{Timer, after, is_over};
@@ -150,6 +152,33 @@ impl<'a> ControlBlock<'a> {
         match self.rules {
             Rules::Smoltcp => self.verdict(repr.control, repr.ack_number),
             Rules::Rfc => self.checked_verdict(now, repr),
+        }
+    }
+
+    // What a segment is challenged for that is neither an RST nor a SYN, once the own SYN is acknowledged.
+    fn unsent_row(&self, now: Instant, repr: &TcpRepr<'_>) -> Row
+        ensures { result ≡ unsent_row self.now now (segment_of repr.now) }
+    {
+        if self.acks_unsent(repr.ack_number) {
+            return Row::AckUnsent;
+        }
+        match self.check_stamp(now, repr.timestamp) {
+            Next::Challenge => Row::OldTimestamp,
+            _ => Row::AckUnsent,
+        }
+    }
+
+    // What a segment is challenged for.
+    pub(crate) fn challenged_row(&self, now: Instant, repr: &TcpRepr<'_>) -> Row
+        ensures { result ≡ challenged_row self.now.rules self.now.state repr.now.control self.now now
+            (segment_of repr.now) }
+    {
+        match (self.rules, self.state, repr.control) {
+            (Rules::Smoltcp, _, _) => Row::AckUnsent,
+            (Rules::Rfc, _, TcpControl::Rst) => Row::ResetChallenged,
+            (Rules::Rfc, State::SynReceived, _) => Row::OldTimestamp,
+            (Rules::Rfc, _, TcpControl::Syn) => Row::SynChallenged,
+            (Rules::Rfc, _, _) => self.unsent_row(now, repr),
         }
     }
 }

@@ -5,6 +5,7 @@ ghost use Rattle.sock_core.specs.Bounds.{IsMoment};
 ghost use Rattle.sock_core.specs.Received.{room_of};
 ghost use Rattle.sock_tcp.specs.Arrival.{arrival};
 ghost use Rattle.sock_tcp.specs.Draw.{draws, Draws};
+ghost use Rattle.sock_tcp.specs.Explain.{refused_row, rfc_refused_row};
 ghost use Rattle.control_wire.specs.declared.tcp.TcpControl.TheVariants as control;
 ghost use Rattle.sock_tcp.specs.Process.{answered, has_window, processed_inside, tuple_of};
 ghost use Rattle.sock_tcp.specs.Rfc.Refused.{acks_something, is_heard_outside, is_near, is_next_fin, is_plain_control};
@@ -16,6 +17,7 @@ ghost use Rattle.sock_tcp.specs.declared.verdict.Verdict.TheVariants.{Pass};
 
 use crate::acked::Acked;
 use crate::control_block::ControlBlock;
+use crate::explain::{Row, answered_row, fin_row, place_row};
 use crate::process::{Answer, Taken};
 use crate::rules::Rules;
 use crate::state::State;
@@ -157,6 +159,34 @@ impl<'a> ControlBlock<'a> {
         match self.rules {
             Rules::Smoltcp => self.answer_outside(now, repr),
             Rules::Rfc => self.refuse_by_rfc(cx, now, window, ip_repr, repr),
+        }
+    }
+
+    // The row of a segment outside, by RFC 9293.
+    fn rfc_refused_row(&self, window: &Window, repr: &TcpRepr<'_>) -> Row
+        requires small { length repr.now.payload.now ≤ 65535 }
+        requires window { window.now ≡ honored_window self.now }
+        ensures { result ≡ rfc_refused_row window.now self.now (segment_of repr.now) }
+    {
+        if is_next_fin(window, repr) {
+            return fin_row(self.state);
+        }
+        let acked = self.acked(repr.control, repr.ack_number);
+        if self.is_heard_outside(window, acked, repr) {
+            Row::HeardOutside
+        } else {
+            place_row(window, repr.seq_number)
+        }
+    }
+
+    pub(crate) fn refused_row(&self, window: &Window, repr: &TcpRepr<'_>) -> Row
+        requires small { length repr.now.payload.now ≤ 65535 }
+        requires window { window.now ≡ accepted_window self.now.rules self.now }
+        ensures { result ≡ refused_row self.now.rules window.now self.now (segment_of repr.now) }
+    {
+        match self.rules {
+            Rules::Smoltcp => answered_row(repr.control, window, repr.seq_number),
+            Rules::Rfc => self.rfc_refused_row(window, repr),
         }
     }
 }
