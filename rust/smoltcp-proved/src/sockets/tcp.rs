@@ -13,7 +13,7 @@ pub use crate::proved::sock_core::{RttEstimator, before, congestion, later, not_
 pub use proved::tuple;
 pub use proved::{
     Answer, CongestionControl, ConnectError, Ended, Generator, ListenError, Negotiated, RecvError, Reply,
-    Rules, RulesError, SendError, SocketBuffer, State, TsvalSource,
+    Row, Rules, RulesError, SendError, SocketBuffer, State, TsvalSource,
 };
 
 /// A TCP socket: one end of one connection at a time, over two buffers; what it has beside is [`proved::Socket`]'s.

@@ -7,6 +7,7 @@ use crate::proved::net_base::time::{Duration, Instant};
 use crate::proved::sock_core::seq::before;
 use crate::proved::sock_tcp::advance::Next;
 use crate::proved::sock_tcp::control_block::ControlBlock;
+use crate::proved::sock_tcp::explain::Row;
 use crate::proved::sock_tcp::rules::Rules;
 use crate::proved::sock_tcp::state::State;
 use crate::proved::sock_tcp::timer::{Timer, after, is_over};
@@ -112,6 +113,28 @@ impl<'a> ControlBlock<'a> {
         match crate::kit::in_force(self.rules) {
             Rules::Smoltcp => self.verdict(repr.control, repr.ack_number),
             Rules::Rfc => self.checked_verdict(now, repr),
+        }
+    }
+
+    // What a segment is challenged for that is neither an RST nor a SYN, once the own SYN is acknowledged.
+    fn unsent_row(&self, now: Instant, repr: &TcpRepr<'_>) -> Row {
+        if self.acks_unsent(repr.ack_number) {
+            return Row::AckUnsent;
+        }
+        match self.check_stamp(now, repr.timestamp) {
+            Next::Challenge => Row::OldTimestamp,
+            _ => Row::AckUnsent,
+        }
+    }
+
+    // What a segment is challenged for.
+    pub(crate) fn challenged_row(&self, now: Instant, repr: &TcpRepr<'_>) -> Row {
+        match (crate::kit::in_force(self.rules), self.state, repr.control) {
+            (Rules::Smoltcp, _, _) => Row::AckUnsent,
+            (Rules::Rfc, _, TcpControl::Rst) => Row::ResetChallenged,
+            (Rules::Rfc, State::SynReceived, _) => Row::OldTimestamp,
+            (Rules::Rfc, _, TcpControl::Syn) => Row::SynChallenged,
+            (Rules::Rfc, _, _) => self.unsent_row(now, repr),
         }
     }
 }

@@ -8,6 +8,7 @@ use crate::proved::sock_core::Context;
 use crate::proved::sock_core::seq::not_after;
 use crate::proved::sock_tcp::acked::Acked;
 use crate::proved::sock_tcp::control_block::ControlBlock;
+use crate::proved::sock_tcp::explain::{Row, answered_row, fin_row, place_row};
 use crate::proved::sock_tcp::process::{Answer, Taken};
 use crate::proved::sock_tcp::rules::Rules;
 use crate::proved::sock_tcp::state::State;
@@ -94,6 +95,26 @@ impl<'a> ControlBlock<'a> {
         match crate::kit::in_force(self.rules) {
             Rules::Smoltcp => self.answer_outside(now, repr),
             Rules::Rfc => self.refuse_by_rfc(cx, now, window, ip_repr, repr),
+        }
+    }
+
+    // The row of a segment outside, by RFC 9293.
+    fn rfc_refused_row(&self, window: &Window, repr: &TcpRepr<'_>) -> Row {
+        if is_next_fin(window, repr) {
+            return fin_row(self.state);
+        }
+        let acked = self.acked(repr.control, repr.ack_number);
+        if self.is_heard_outside(window, acked, repr) {
+            Row::HeardOutside
+        } else {
+            place_row(window, repr.seq_number)
+        }
+    }
+
+    pub(crate) fn refused_row(&self, window: &Window, repr: &TcpRepr<'_>) -> Row {
+        match crate::kit::in_force(self.rules) {
+            Rules::Smoltcp => answered_row(repr.control, window, repr.seq_number),
+            Rules::Rfc => self.rfc_refused_row(window, repr),
         }
     }
 }
