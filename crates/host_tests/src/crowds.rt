@@ -51,7 +51,8 @@ fn host(rt: &HostRuntime, most: usize) -> Result<Interface<Secret>, AllocError> 
     Ok(interface)
 }
 
-// Three packets come one after the other: how many were dropped as one too many, and how many were answered by a cookie.
+// Three packets come one after the other: how many were dropped as one too many, and how many were answered by a
+// cookie.
 fn came_to(
     interface: &mut Interface<Secret>,
     sockets: &mut SocketSet<'_>,

@@ -23,8 +23,8 @@ fn answers(host: &mut OneSocket<'_>, packet: &[u8], times: u8) -> usize {
     count
 }
 
-// The client's SYN opens a socket of the server; then its acknowledgement of another number comes 60 times: how often it
-// is answered.
+// The client's SYN opens a socket of the server; then its acknowledgement of another number comes 60 times: how often
+// it is answered.
 fn came(rt: &HostRuntime) -> Result<usize, AllocError> {
     let (mut rx_a, mut tx_a) = ([0u8; 64], [0u8; 64]);
     let (mut rx_b, mut tx_b) = ([0u8; 64], [0u8; 64]);

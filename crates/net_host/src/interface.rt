@@ -339,7 +339,8 @@ impl<W> Interface<W> {
 
     /// Sets how many TCP connections a source may have: an address of IPv4, or 64 bits of one of IPv6 (in `::/64` each
     /// address); 0, as in a new interface, allows any number. Those in TIME-WAIT and those that were opened here count,
-    /// too. A SYN that would begin one more is dropped and counted as `too_many`, and so is what a SYN cookie would open.
+    /// too. A SYN that would begin one more is dropped and counted as `too_many`, and so is what a SYN cookie would
+    /// open.
     ///
     /// It costs a search of the index, however many there are.
     pub fn set_most_of_source(&mut self, most: usize)

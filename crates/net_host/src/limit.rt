@@ -6,8 +6,8 @@ ghost use Rattle.net_host.specs.Limits.{part_of, bucket_of, spent, taken_in, tak
 
 use smoltcp_socket::time::Instant;
 
-/// How many answers of one kind go out to a source in a second, at most. Each takes 20 to 36 milliseconds, by chance, of
-/// a second ahead: so there are 27 to 50 at once, and as many a second.
+/// How many answers of one kind go out to a source in a second, at most. Each takes 20 to 36 milliseconds, by chance,
+/// of a second ahead: so there are 27 to 50 at once, and as many a second.
 pub const ANSWERS_A_SECOND: u32 = 100;
 
 // How many buckets there are.
@@ -30,8 +30,8 @@ const CHANCE: u64 = 0x0004_0000_0000_0000;
 // The key of a new limit.
 const NEW_KEY: u64 = 0x9e37_79b9_7f4a_7c15;
 
-/// Each answer takes time that lies at most a second ahead. There are 16 buckets of sources, by a key: a stranger neither
-/// takes what others are answered, nor sees by his own answers that others had one.
+/// Each answer takes time that lies at most a second ahead. There are 16 buckets of sources, by a key: a stranger
+/// neither takes what others are answered, nor sees by his own answers that others had one.
 #[derive(Debug, Clone, Copy, Drop)]
 pub struct Limit {
     pub(crate) key: u64,

@@ -101,8 +101,8 @@ pub extern "C" fn smoltcp_host_stop_syn_cookies_nonnull(h: &mut HostHandle) -> i
 }
 
 /// Sets how many TCP connections one source may have, from the next packet on: an address of IPv4, or 64 bits of one of
-/// IPv6 (in `::/64` each address); 0, as in a new host, allows any number. A SYN that would begin one more is dropped, and
-/// so is what a SYN cookie would open. Answers 0.
+/// IPv6 (in `::/64` each address); 0, as in a new host, allows any number. A SYN that would begin one more is dropped,
+/// and so is what a SYN cookie would open. Answers 0.
 #[unsafe(no_mangle)]
 pub extern "C" fn smoltcp_host_set_most_of_source_nonnull(h: &mut HostHandle, most: usize) -> i64
     ensures answer { result ≡ pos 0 }
@@ -120,8 +120,8 @@ pub extern "C" fn smoltcp_host_set_most_of_source_nonnull(h: &mut HostHandle, mo
     OK
 }
 
-/// Sets the key by which sources share the limits of RSTs and ICMP errors: a random number, which nobody can guess. In a
-/// new host it is a constant. Answers 0.
+/// Sets the key by which sources share the limits of RSTs and ICMP errors: a random number, which nobody can guess. In
+/// a new host it is a constant. Answers 0.
 #[unsafe(no_mangle)]
 pub extern "C" fn smoltcp_host_set_answer_key_nonnull(h: &mut HostHandle, key: u64) -> i64
     ensures answer { result ≡ pos 0 }

@@ -182,8 +182,8 @@ emission_kind v now s =
     if is_probing v now then kind.Probe
     else (if is_keep_alive_over v.timer now && is_empty_segment s then kind.KeepAlive else kind.Plain)
 
--- the window of a keep-alive does not count as told: by the RFCs' rules it ends where the one does that was told last, so
--- that no later segment tells less (RFC 9293, section 3.8.6)
+-- the window of a keep-alive does not count as told: by the RFCs' rules it ends where the one does that was told last,
+-- so that no later segment tells less (RFC 9293, section 3.8.6)
 abbrev pub aside_field : Rules → View → ℕ → ℕ
 aside_field rules.Smoltcp v field = field
 aside_field rules.Rfc v field = kept_field v

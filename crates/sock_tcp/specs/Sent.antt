@@ -52,8 +52,8 @@ after_probe v now = record v { timer = probe_doubled v.timer now }
 abbrev pub is_resent : TcpSeqNumber → Emitted → Bool
 is_resent nxt s = is_before s.seq_number nxt && not (s.len == 0)
 
--- HighRxt of a recovery moves behind it (RFC 6675, section 2). Where the segment at SND.UNA was lost again, that is what
--- went out, and what is told next is measured from now on; else it trails new bytes, where some went out since
+-- HighRxt of a recovery moves behind it (RFC 6675, section 2). Where the segment at SND.UNA was lost again, that is
+-- what went out, and what is told next is measured from now on; else it trails new bytes, where some went out since
 abbrev pub resent_by : Recovery → TcpSeqNumber → Emitted → Recovery
 resent_by (recovery.Fast point high_rxt resent_at acked trailed una_lost) nxt s =
     recovery.Fast point

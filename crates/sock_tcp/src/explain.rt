@@ -51,8 +51,8 @@ pub enum Row {
     SynChallenged,
     /// Challenged by the RFCs' rules: its timestamp lies before TS.Recent (RFC 7323, section 5.3).
     OldTimestamp,
-    /// Acknowledged, and nothing else, without bytes at most once a second: it begins before RCV.NXT, and brings nothing
-    /// from there on (RFC 9293, section 3.10.7.4, first).
+    /// Acknowledged, and nothing else, without bytes at most once a second: it begins before RCV.NXT, and brings
+    /// nothing from there on (RFC 9293, section 3.10.7.4, first).
     OldDuplicate,
     /// Likewise: it lies beyond the receive window, which may be closed (RFC 9293, section 3.10.7.4, first). By the
     /// RFCs' rules an RST with bytes may be such, and is not answered.

@@ -82,8 +82,8 @@ pub fn parse<'a>(
     Ok((UdpRepr { src_port, dst_port }, payload))
 }
 
-/// Reads the datagram that the bytes spell, as [`parse`], into `repr` and `payload`, if it is one; else these are as they
-/// were.
+/// Reads the datagram that the bytes spell, as [`parse`], into `repr` and `payload`, if it is one; else these are as
+/// they were.
 #[inline(always)]
 pub(crate) fn parse_into<'a>(
     repr: &mut UdpRepr,
