@@ -37,7 +37,7 @@ def source(files):
 
 def exports(text):
     found = []
-    for name, args, told in re.findall(r'pub extern "C" fn (\w+) ?\(([^{]*?)\) -> i64(.*?)\{ ', text):
+    for name, args, told in re.findall(r'pub (?:unsafe )?extern "C" fn (\w+) ?\(([^{]*?)\) -> i64(.*?)\{ ', text):
         pairs = [tuple(a.strip(" ,").split(": ", 1)) for a in args.split(", ") if ":" in a]
         pairs = [pair for pair in pairs if pair[1] != "Global"]  # takes no bytes: C passes nothing for it
         body = text.split(f" fn {name}(", 1)[1].split(' extern "C" fn ', 1)[0]
@@ -93,6 +93,11 @@ def owner(kind):
     return word.removesuffix("Handle").lower() if word.endswith("Handle") else None
 
 
+def pointed(name, kind):
+    """Whether an argument is where a socket lies, by value, in place of a handle that leads there."""
+    return (name, kind) == ("at", "*mut u8")
+
+
 def public(kind):
     """What a documented call takes in place of a handle of this type, by name."""
     return "host" if owner(kind) == "host" else "s"
@@ -106,6 +111,8 @@ def c_args(call, documented=False):
         if documented and owner(kind):
             const = "const " if call.reads and name == "h" else ""
             args.append(f"{const}struct smoltcp_{owner(kind)} *{public(kind)}")
+        elif documented and pointed(name, kind):
+            args.append(f"struct smoltcp_{call.kind} *s")
         elif items:
             word = in_c(("&mut " if items[1] else "&") + items[2])[0]
             count = "count" if items[2] != "u8" else "cap" if items[1] else "len"

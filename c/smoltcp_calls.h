@@ -134,9 +134,8 @@ SMOLTCP_INLINE int64_t smoltcp_tcp_reserve(struct smoltcp_tcp *s, uint8_t **at) 
 }
 
 SMOLTCP_INLINE int64_t smoltcp_tcp_poll_at(const struct smoltcp_tcp *s, const struct smoltcp_context *cx) {
-    struct smoltcp_tcp_handle h = {SMOLTCP_AT(s)};
     if (!s || !cx) return INT64_MIN;
-    return smoltcp_tcp_poll_at_nonnull(&h, cx);
+    return smoltcp_tcp_poll_at_nonnull(SMOLTCP_AT(s), cx);
 }
 
 SMOLTCP_INLINE int64_t smoltcp_udp_init_sized(struct smoltcp_udp *s, size_t size, struct smoltcp_udp_buffer rx,

@@ -53,13 +53,12 @@ SMOLTCP_INLINE int64_t smoltcp_tcp_consume(struct smoltcp_tcp *s, size_t count) 
 
 SMOLTCP_INLINE int64_t smoltcp_tcp_dispatch(struct smoltcp_tcp *s, const struct smoltcp_context *cx, uint8_t *out,
                                             size_t cap) {
-    struct smoltcp_tcp_handle h = {SMOLTCP_AT(s)};
     if (!s || !cx) return SMOLTCP_ERROR_NULL;
     if (!out) {
         if (cap) return SMOLTCP_ERROR_NULL;
         out = SMOLTCP_NONE(uint8_t);
     }
-    return smoltcp_tcp_dispatch_nonnull(&h, cx, out, cap);
+    return smoltcp_tcp_dispatch_nonnull(SMOLTCP_AT(s), cx, out, cap);
 }
 
 SMOLTCP_INLINE int64_t smoltcp_tcp_ended(const struct smoltcp_tcp *s) {

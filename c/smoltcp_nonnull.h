@@ -56,8 +56,7 @@ int64_t smoltcp_tcp_commit_nonnull(struct smoltcp_tcp_handle *h, size_t count);
 int64_t smoltcp_tcp_connect_nonnull(struct smoltcp_tcp_handle *h, const struct smoltcp_context *cx,
                                     const struct smoltcp_endpoint *remote, const struct smoltcp_endpoint *local);
 int64_t smoltcp_tcp_consume_nonnull(struct smoltcp_tcp_handle *h, size_t count);
-int64_t smoltcp_tcp_dispatch_nonnull(struct smoltcp_tcp_handle *h, const struct smoltcp_context *cx, uint8_t *out,
-                                     size_t cap);
+int64_t smoltcp_tcp_dispatch_nonnull(uint8_t *at, const struct smoltcp_context *cx, uint8_t *out, size_t cap);
 int64_t smoltcp_tcp_ended_nonnull(struct smoltcp_tcp_handle *h);
 int64_t smoltcp_tcp_init_nonnull(struct smoltcp_tcp_handle *room, struct smoltcp_bytes rx, struct smoltcp_bytes tx);
 int64_t smoltcp_tcp_listen_nonnull(struct smoltcp_tcp_handle *h, const struct smoltcp_endpoint *endpoint);
@@ -68,7 +67,7 @@ int64_t smoltcp_tcp_negotiated_nonnull(struct smoltcp_tcp_handle *h, struct smol
 int64_t smoltcp_tcp_pause_synack_nonnull(struct smoltcp_tcp_handle *h, uint8_t pause);
 int64_t smoltcp_tcp_peek_nonnull(struct smoltcp_tcp_handle *h, size_t size, struct smoltcp_place *out);
 int64_t smoltcp_tcp_peek_slice_nonnull(struct smoltcp_tcp_handle *h, uint8_t *data, size_t cap);
-int64_t smoltcp_tcp_poll_at_nonnull(struct smoltcp_tcp_handle *h, const struct smoltcp_context *cx);
+int64_t smoltcp_tcp_poll_at_nonnull(uint8_t *at, const struct smoltcp_context *cx);
 int64_t smoltcp_tcp_process_nonnull(struct smoltcp_tcp_handle *h, const struct smoltcp_context *cx,
                                     const uint8_t *packet, size_t len, uint8_t *reply, size_t cap);
 int64_t smoltcp_tcp_recv_nonnull(struct smoltcp_tcp_handle *h, uint8_t *data, size_t cap);

@@ -45,8 +45,8 @@ OCTETS_CRATES = {"ip_wire", "segment_wire", "net_host", "host_cookies", "host_co
 # what stands on sets of sockets has those that wake tasks, by hand over the proved ones
 HOSTS = {"net_host", "host_link", "two_hosts", "hosted_bench", "host_bench", "first_socket"}
 WAKING = {"smoltcp_socket": "sockets", "sock_tcp": "sockets::sock_tcp"}
-# texts that stand once in their crate, and what stands in their place: moments of any number, as smoltcp's; and reads of
-# several bytes that are spelled as single bytes, for which kit/bytes.rs has calls
+# texts of a crate, and what stands in their place: moments of any number, as smoltcp's; reads of several bytes that are
+# spelled as single bytes, for which kit/bytes.rs has calls; and columns that without a heap have fewer places than sockets
 READS = {
     "net_base": {
         "const fn from_micros(micros: i64)": "fn from_micros(micros: impl Into<i64>)",
@@ -63,6 +63,16 @@ READS = {
         "    read_at: usize,\n    length: usize,\n}": "    pub(crate) read_at: usize,\n    pub(crate) length: usize,\n}",
     },
     "net_host": {"pub trait Keyed {": "pub trait Keyed: crate::kit::Kept {"},
+    "host_bounds": {
+        "vec![in alloc; 0u64; count]": "crate::kit::Words::filled(alloc, 0u64, count)",
+        "Vec<u64>": "crate::kit::Words",
+        "    blocks: Vec<i64>,": "    blocks: crate::kit::Blocks,",
+        "    groups: Vec<i64>,": "    groups: crate::kit::Blocks,",
+        "high: &mut Vec<i64>": "high: &mut [i64]",
+        "least_bounds(alloc, blocks)?": "crate::kit::of_blocks(least_bounds(alloc, blocks))?",
+        "least_bounds(alloc, blocks.div_ceil(FAN_OUT))?":
+            "crate::kit::of_blocks(least_bounds(alloc, blocks.div_ceil(FAN_OUT)))?",
+    },
     "host_index": {"const COUNT: usize = 256;": "const COUNT: usize = crate::kit::KNOWN;"},
     "sock_core": {"    ring: RingBuffer<'a, u8>,": "    pub(crate) ring: RingBuffer<'a, u8>,"},
     "ip_wire": {
@@ -85,6 +95,13 @@ READS = {
     low | (high << 32)""": "crate::kit::le64(bytes, at)",
     },
 }
+# what a socket remembers for the RFCs' rules alone, which takes no memory in builds without them
+OF_RFC = {"recovery": ("Recovery", "Recovery::Open"), "sacked": ("Scoreboard", "NOTHING_TOLD"),
+          "undo": ("Undo", "NOTHING_TO_UNDO")}
+READS["sock_tcp"] = {}
+for name, (kind, nothing) in OF_RFC.items():
+    READS["sock_tcp"][f"    pub(crate) {name}: {kind},"] = f"    pub(crate) {name}: crate::kit::OfRfc<{kind}>,"
+    READS["sock_tcp"][f"            {name}: {nothing},"] = f"            {name}: crate::kit::OfRfc::new({nothing}),"
 # What a cut or a word is called; `rust/translate --list` prints it.
 LIST = {
     "ghost use": "an import for clauses: cut",
@@ -108,11 +125,13 @@ LIST = {
     "reads": "of ip_wire and bench_parts, single bytes that make up a number -> crate::kit::le64(bytes, at) and the like; of "
              "net_base, Instant::from_*(i64) -> Instant::from_*(impl Into<i64>); fields of buffers are pub(crate); "
              "of net_host and host_index, for builds without a heap, what is filed is crate::kit::Kept, and the number of "
-             "known keys is crate::kit::KNOWN",
+             "known keys is crate::kit::KNOWN; of host_bounds, words of marks are crate::kit::Words and bounds of blocks "
+             "crate::kit::Blocks",
     "renamed": f"of {', '.join(sorted(RENAMED_CRATES))}, methods of buffers whose names smoltcp has for others: "
                + ", ".join(f"{old} -> {new}" for old, new in RENAMED.items()),
     "rules": "of sock_tcp, self.rules -> crate::kit::in_force(self.rules), where it is read: smoltcp's rules alone, in "
-             "builds without those of the RFCs",
+             "builds without those of the RFCs; and what a socket remembers for those alone, "
+             f"{', '.join(sorted(OF_RFC))}: T -> crate::kit::OfRfc<T>, read by .get() and written by .set(..)",
     "address": f"Ipv4Address and Ipv6Address of {ADDRESS_CRATE}: cut, those of core::net in their place; "
                "Ipv4Address(x) -> crate::kit::ipv4(x), and .0 of one -> .octets()",
     "waking": f"of {', '.join(sorted(HOSTS))}, smoltcp_socket:: -> crate::sockets::, sock_tcp:: -> crate::sockets::sock_tcp::",
@@ -430,8 +449,8 @@ def imports(text, kept, code, root):
 
 def reads(text, crate):
     """The edits of reads of several bytes."""
-    found = [(text.find(old), old, new) for old, new in READS.get(crate, {}).items()]
-    return [Edit(at, at + len(old), new, "reads") for at, old, new in found if at >= 0]
+    found = [(one, new) for old, new in READS.get(crate, {}).items() for one in re.finditer(re.escape(old), text)]
+    return [Edit(one.start(), one.end(), new, "reads") for one, new in found]
 
 
 def addresses(code, place, crate, root):
@@ -457,9 +476,58 @@ def rules(code, place, crate):
             Edit(last.end, last.end, ")", "rules")]
 
 
+def impls(code):
+    """The type of each impl, and where it begins and ends."""
+    for place, one in enumerate(code):
+        if one.text != "impl" or (place and code[place - 1].text not in ("}", ";", "]")):
+            continue
+        opens = next(i for i in range(place, len(code)) if code[i].text == "{")
+        header = [code[i].text for i in range(place + 1, opens)]
+        if header[0] == "<":
+            header = header[header.index(">") + 1:]
+        name = header[header.index("for") + 1] if "for" in header else header[0]
+        yield name, opens, closing(code, opens)
+
+
+def closing(code, opens):
+    """The place of the bracket that closes the one at a place."""
+    depth = 0
+    for place in range(opens, len(code)):
+        depth += (code[place].text in "([{") - (code[place].text in ")]}")
+        if depth == 0:
+            return place
+    raise AssertionError("brackets")
+
+
+def of_rfc(code, crate):
+    """The edits of what a socket remembers for the RFCs' rules alone."""
+    if crate != "sock_tcp":
+        return []
+    own = [(opens, end) for name, opens, end in impls(code) if name == "ControlBlock"]
+    edits = []
+    for place in range(1, len(code) - 3):
+        name = code[place].text
+        if name not in OF_RFC or code[place - 1].text != ".":
+            continue
+        whose = code[place - 2].text
+        if whose != "after" and not (whose == "self" and any(opens < place < end for opens, end in own)):
+            continue
+        if code[place + 1].text == "=" and code[place + 2].text != "=":
+            end, depth = place + 1, 0
+            while code[end].text != ";" or depth:
+                depth += (code[end].text in "([{") - (code[end].text in ")]}")
+                end += 1
+            edits += [Edit(code[place + 1].start, code[place + 1].end, ".set(", "rules"),
+                      Edit(code[end].start, code[end].start, ")", "rules")]
+        else:
+            edits.append(Edit(code[place].end, code[place].end, ".get()", "rules"))
+    return edits
+
+
 def words(text, kept, crate, crates, root):
     """The words that stand in place of others, and the cuts that need more than one token to be seen."""
     code, edits = [one for one in kept if one.kind != "comment"], links(kept, crate, root)
+    edits += of_rfc(code, crate)
     for place, one in enumerate(code[:-1]):
         edits += of_buffers(code, place, crate) + rules(code, place, crate)
         if one.text == "#" and code[place + 2].text == "derive":

@@ -11,6 +11,7 @@ pub mod Memory
 pub mod Numbers
 pub mod Packets
 pub mod Places
+pub mod Pointed
 pub mod Ports
 pub mod Raw
 pub mod Release

@@ -8,6 +8,13 @@ ghost use Rattle.smoltcp_c.specs.Context.{facts_in, is_context};
 ghost use Rattle.smoltcp_c.specs.Heard.{moment_told, poll_told};
 ghost use Rattle.smoltcp_c.specs.Packets.{ends_in, poll_answer, poll_written};
 ghost use Rattle.smoltcp_c.specs.Ends.{ended_by_answer};
+ghost use Rattle.smoltcp_c.specs.contracts.clock.Clock.{the_row as clock_row};
+ghost use Rattle.smoltcp_c.specs.declared.clock.Clock.{Clock};
+ghost use Rattle.sock_tcp.specs.contracts.socket.Socket.{the_row as tcp_row};
+ghost use Rattle.sock_tcp.specs.declared.socket.Socket.{Socket};
+ghost use Rattle.std.specs.Borrow.{full_share, sem};
+ghost use Rattle.std.specs.Ptr.{lies_at};
+ghost use denote.Signature.{static_lft};
 ghost use Rattle.smoltcp_c.specs.Tcp.{Refuses, clock, ended, view, IsSocket};
 
 use crate::answers::{OK, connect_answer};
@@ -62,14 +69,24 @@ fn opened(
 
 /// When the socket wants its next dispatch: the moment in microseconds. `i64::MAX` where it wants none before a packet
 /// comes, `i64::MIN` where the context is out of its ranges.
+/// The socket lies at `at`. The pointer comes by value: no handle is written, and C's call ends in a jump.
 #[unsafe(no_mangle)]
-#[tactic(auto, using(crate::proofs::Peers::nothing_awaited))]
-pub extern "C" fn smoltcp_tcp_poll_at_nonnull(h: &mut TcpHandle, cx: &Cx) -> i64
-    ensures told { result ≡ poll_told cx.entry.now (poll_moment (view h.old) (facts_in cx.entry.now)) }
-    ensures at { h.new.at ≡ h.old.at }
-    ensures same { h.new.socket ≡ h.old.socket }
+pub unsafe extern "C" fn smoltcp_tcp_poll_at_nonnull(at: *mut u8, cx: &Cx) -> i64
+    ghost socket: { Socket Clock }
+    requires* { sem 𝓛 (lies_at (tcp_row static_lft clock_row) full_share at socket) }
+    ensures* { sem 𝓛 (lies_at (tcp_row static_lft clock_row) full_share at socket)
+        ∗ ⌜ result ≡ poll_told cx.entry.now (poll_moment socket.control_block (facts_in cx.entry.now)) ⌝ }
 {
-    let socket = h.socket();
+    awaited(&mut *(at as *mut Socket<'static, Clock>), cx)
+}
+
+// What the socket waits for.
+#[inline(always)]
+#[tactic(auto, using(crate::proofs::Peers::nothing_awaited))]
+fn awaited(socket: &mut Socket<'static, Clock>, cx: &Cx) -> i64
+    ensures told { result ≡ poll_told cx.entry.now (poll_moment socket.old.control_block (facts_in cx.entry.now)) }
+    ensures same { socket.new ≡ socket.old }
+{
     if !has_peer(socket) {
         return unheard(cx);
     }

@@ -13,6 +13,14 @@ ghost use Rattle.sock_tcp.specs.Process.{answered, reply_of, source_kept};
 ghost use Rattle.smoltcp_c.specs.Answers.{sent_answer, error_context, error_room, not_accepted};
 ghost use Rattle.smoltcp_c.specs.Context.{is_context};
 ghost use Rattle.smoltcp_c.specs.Packets.{size_of, written_over, outcome_in, reply_by, reset_of, Hears, DispatchesInto};
+ghost use Rattle.smoltcp_c.specs.Pointed.{Dispatched, lies_so};
+ghost use Rattle.smoltcp_c.specs.contracts.clock.Clock.{the_row as clock_row};
+ghost use Rattle.smoltcp_c.specs.declared.clock.Clock.{Clock};
+ghost use Rattle.sock_tcp.specs.contracts.socket.Socket.{the_row as tcp_row};
+ghost use Rattle.sock_tcp.specs.declared.socket.Socket.{Socket};
+ghost use Rattle.std.specs.Borrow.{full_share, sem};
+ghost use Rattle.std.specs.Ptr.{lies_at};
+ghost use denote.Signature.{static_lft};
 ghost use Rattle.smoltcp_c.specs.Wire.{Writes};
 ghost use Rattle.smoltcp_c.specs.Tcp.{IsSocket, RefusesFor, clock, clock_at, ended, view};
 
@@ -231,22 +239,24 @@ fn put_reply(answer: &Option<Reply>, out: &mut [u8]) -> i64
 
 /// Writes the packet that is due into `out`, and answers its length, or 0 where none is. `ERROR_ROOM` where `out` is
 /// too short for it: the next call gives it again. `ERROR_CONTEXT`.
+/// The socket lies at `at`. The pointer comes by value: no handle is written, and C's call ends in a jump.
 #[unsafe(no_mangle)]
-pub extern "C" fn smoltcp_tcp_dispatch_nonnull(h: &mut TcpHandle, cx: &Cx, out: &mut [u8]) -> i64
-    ensures context { is_context cx.entry.now ≡ false
-        → RefusesFor error_context h.old out.old result h.new out.new }
-    ensures table { is_context cx.entry.now ≡ true
-        → DispatchesInto cx.entry.now (clock_at (clock h.old) cx.entry.now.tsval) (view h.old) out.old result
-        (view h.new) out.new }
-    ensures clock { is_context cx.entry.now ≡ true → clock h.new ≡ clock_at (clock h.old) cx.entry.now.tsval }
-    ensures ended { is_context cx.entry.now ≡ true → ended h.new ≡ ended_by_dispatch (view h.old).state
-        (view h.new).state (is_some (view h.new).remote_last_ts) (ended h.old) }
-    ensures at { h.new.at ≡ h.old.at }
+pub unsafe extern "C" fn smoltcp_tcp_dispatch_nonnull(at: *mut u8, cx: &Cx, out: &mut [u8]) -> i64
+    ghost socket: { Socket Clock }
+    requires* { sem 𝓛 (lies_at (tcp_row static_lft clock_row) full_share at socket) }
+    ensures* { sem 𝓛 (lies_so at (λ after. Dispatched cx.entry.now socket out.old result after out.new)) }
+{
+    dispatched(&mut *(at as *mut Socket<'static, Clock>), cx, out)
+}
+
+// Writes the packet that is due.
+#[inline(always)]
+fn dispatched(socket: &mut Socket<'static, Clock>, cx: &Cx, out: &mut [u8]) -> i64
+    ensures { Dispatched cx.entry.now socket.old out.old result socket.new out.new }
 {
     if !is_in_context(cx) {
         return ERROR_CONTEXT;
     }
-    let socket = h.socket();
     if !has_peer(socket) {
         return sent_to_nobody(socket, cx);
     }

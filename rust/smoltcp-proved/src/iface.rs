@@ -27,6 +27,7 @@ use buffer::Buffer;
 pub use fixed::{Blank, FixedVec};
 pub(crate) use foreign::FOREIGN;
 pub use routes::{Route, RouteTableFull, Routes};
+pub(crate) use set::handle_at;
 pub use set::{Places, SocketHandle, SocketSet, SocketStorage};
 
 // Room for the longest reply of a TCP socket, whatever the MTU.
@@ -360,10 +361,10 @@ impl Interface {
             if self.any_ip {
                 self.take_on(timestamp, packet, sockets);
             }
-            let (host, reply, set) = (&mut self.host, self.packet.bytes(), sockets.parts());
+            let (host, reply, set) = (&mut self.host, self.packet.bytes(), sockets.set_mut());
             let own = own::hear(host, self.loops_back, set, timestamp, packet, reply);
             // `fit` has made room
-            own.unwrap_or_else(|| host.receive(sockets.parts().0, timestamp, packet, reply).unwrap_or(0))
+            own.unwrap_or_else(|| host.receive(sockets.set_mut(), timestamp, packet, reply).unwrap_or(0))
         });
         if len > 0 {
             room.consume(len, |packet| packet.copy_from_slice(&self.packet.bytes()[..len]));
@@ -386,7 +387,7 @@ impl Interface {
         self.fit(device);
         let (mut result, mut refused) = (PollResult::None, 0);
         let before = self.host.counters();
-        let (set, _) = sockets.parts();
+        let set = sockets.set_mut();
         // a datagram that is longer than the MTU stays with its socket, and each such socket has one turn
         while refused <= set.capacity() {
             let Some(room) = device.transmit(timestamp) else { break };

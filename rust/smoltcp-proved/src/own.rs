@@ -1,6 +1,7 @@
 //! Packets from an interface to itself, on a device that may hand back what is sent: [`net_host`] drops them, as from
 //! others they would be forged (RFC 1122, section 3.2.1.3). By hand, and not proved: which socket hears one; each call
 //! of that socket is.
+use crate::iface::handle_at;
 use crate::proved::control_wire::{IcmpRepr, Icmpv4Repr, Icmpv6Repr};
 use crate::proved::ip_wire::{ChecksumCapabilities, IpAddress, IpProtocol, IpRepr};
 use crate::proved::net_base::Instant;
@@ -16,7 +17,7 @@ type Host = net_host::Interface<Secret>;
 pub(crate) fn hear(
     host: &mut Host,
     loops_back: bool,
-    (set, handles): (&mut net_host::SocketSet<'_>, &[Option<SocketHandle>]),
+    set: &mut net_host::SocketSet<'_>,
     now: Instant,
     packet: &[u8],
     reply: &mut [u8],
@@ -26,33 +27,38 @@ pub(crate) fn hear(
     }
     host.inner.environment.set_now(now);
     let (ip, payload) = carried(packet, &host.context().checksum_caps())?;
-    let raw = hear_raw(host, set, handles, &ip, payload);
+    let raw = hear_raw(host, set, &ip, payload);
     match ip.next_header() {
-        IpProtocol::Tcp => Some(hear_segment(host, set, handles, packet, reply)),
+        IpProtocol::Tcp => Some(hear_segment(host, set, packet, reply)),
         IpProtocol::Udp => {
-            hear_datagram(host, set, handles, packet);
+            hear_datagram(host, set, packet);
             Some(0)
         }
-        IpProtocol::Icmp | IpProtocol::Icmpv6 => Some(hear_message(host, set, handles, &ip, payload, reply)),
+        IpProtocol::Icmp | IpProtocol::Icmpv6 => Some(hear_message(host, set, &ip, payload, reply)),
         _ if raw => Some(0),
         _ => None,
     }
+}
+
+// The sockets, in order.
+fn all(set: &net_host::SocketSet<'_>) -> impl Iterator<Item = SocketHandle> {
+    (0..set.capacity()).filter_map(|place| handle_at(set, place))
 }
 
 // A copy for each raw socket: whether there is one.
 fn hear_raw(
     host: &mut Host,
     set: &mut net_host::SocketSet<'_>,
-    handles: &[Option<SocketHandle>],
     ip: &IpRepr,
     payload: &[u8],
 ) -> bool {
     let (cx, mut heard) = (host.context(), false);
-    for handle in handles.iter().flatten() {
-        if !matches!(set.get(*handle), Some(Socket::Raw(raw)) if raw.accepts(ip)) {
+    for place in 0..set.capacity() {
+        let Some(handle) = handle_at(set, place) else { continue };
+        if !matches!(set.get(handle), Some(Socket::Raw(raw)) if raw.accepts(ip)) {
             continue;
         }
-        if let Some(raw) = set.raw_mut(*handle) {
+        if let Some(raw) = set.raw_mut(handle) {
             raw.process(cx, ip, payload);
             heard = true;
         }
@@ -64,7 +70,6 @@ fn hear_raw(
 fn hear_message(
     host: &mut Host,
     set: &mut net_host::SocketSet<'_>,
-    handles: &[Option<SocketHandle>],
     ip: &IpRepr,
     message: &[u8],
     reply: &mut [u8],
@@ -76,8 +81,9 @@ fn hear_message(
         IpRepr::Ipv6(ip) => Icmpv6Repr::parse(&ip.src_addr, &ip.dst_addr, message, &caps).map(IcmpRepr::Ipv6),
     };
     let Ok(message) = message else { return 0 };
-    for handle in handles.iter().flatten() {
-        let accepts = match (set.get(*handle), ip, &message) {
+    for place in 0..set.capacity() {
+        let Some(handle) = handle_at(set, place) else { continue };
+        let accepts = match (set.get(handle), ip, &message) {
             (Some(Socket::Icmp(icmp)), IpRepr::Ipv4(ip), IcmpRepr::Ipv4(repr)) => {
                 icmp.accepts_v4(cx, ip, repr)
             }
@@ -86,7 +92,7 @@ fn hear_message(
             }
             _ => false,
         };
-        match (set.icmp_mut(*handle).filter(|_| accepts), ip, &message) {
+        match (set.icmp_mut(handle).filter(|_| accepts), ip, &message) {
             (Some(icmp), IpRepr::Ipv4(ip), IcmpRepr::Ipv4(repr)) => icmp.process_v4(cx, ip, repr),
             (Some(icmp), IpRepr::Ipv6(ip), IcmpRepr::Ipv6(repr)) => icmp.process_v6(cx, ip, repr),
             _ => {}
@@ -149,14 +155,13 @@ fn is_between_own(host: &Host, packet: &[u8]) -> bool {
 fn hear_segment(
     host: &mut Host,
     set: &mut net_host::SocketSet<'_>,
-    handles: &[Option<SocketHandle>],
     packet: &[u8],
     reply: &mut [u8],
 ) -> usize {
     let (cx, caps) = (host.context(), ChecksumCapabilities::default());
     let Ok((ip, repr)) = parse_tcp(packet, &cx.checksum_caps()) else { return 0 };
     let wanted = |listens: bool| {
-        handles.iter().flatten().copied().find(|handle| match set.get(*handle) {
+        all(set).find(|handle| match set.get(*handle) {
             Some(Socket::Tcp(tcp)) => {
                 (tcp.state() == State::Listen) == listens && tcp.accepts(cx, &ip, &repr)
             }
@@ -177,7 +182,6 @@ fn hear_segment(
 fn hear_datagram(
     host: &mut Host,
     set: &mut net_host::SocketSet<'_>,
-    handles: &[Option<SocketHandle>],
     packet: &[u8],
 ) {
     let cx = host.context();
@@ -186,7 +190,7 @@ fn hear_datagram(
         Some(Socket::Udp(udp)) => udp.accepts(cx, ip, &repr),
         _ => false,
     };
-    let found = handles.iter().flatten().copied().find(|handle| accepts(&ip, *handle));
+    let found = all(set).find(|handle| accepts(&ip, *handle));
     if let Some(udp) = found.and_then(|handle| set.udp_mut(handle)) {
         udp.process(cx, &ip, &repr, payload);
     }

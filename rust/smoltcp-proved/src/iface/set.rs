@@ -1,5 +1,4 @@
 //! Sockets under handles, by the proved set below.
-use crate::kit::Vec;
 use crate::kit::alloc::Global;
 use crate::proved::net_host;
 use crate::sockets::{AnySocket, Socket};
@@ -50,9 +49,8 @@ impl fmt::Display for SocketHandle {
 
 /// Sockets of all kinds, each under a handle.
 pub struct SocketSet<'a> {
+    // a socket is added to the first place that is free, so that its place is its handle
     set: net_host::SocketSet<'a>,
-    // for each handle the one below
-    handles: Vec<Option<net_host::SocketHandle>>,
     most: Option<usize>,
     // whether any socket may have changed since the set below looked
     all_lent: bool,
@@ -62,6 +60,11 @@ impl fmt::Debug for SocketSet<'_> {
     fn fmt(&self, f: &mut fmt::Formatter<'_>) -> fmt::Result {
         f.debug_map().entries(self.iter()).finish()
     }
+}
+
+/// The handle below of the socket at a place, if any.
+pub(crate) fn handle_at(set: &net_host::SocketSet<'_>, place: usize) -> Option<net_host::SocketHandle> {
+    set.slots.get(place)?.handle(place)
 }
 
 // The set below, of this capacity.
@@ -78,35 +81,30 @@ impl<'a> SocketSet<'a> {
     /// [`IFACE_MAX_SOCKET_COUNT`](crate::config::IFACE_MAX_SOCKET_COUNT).
     pub fn new<P: Into<Places>>(sockets: P) -> SocketSet<'a> {
         let Places(most) = sockets.into();
-        SocketSet { set: room_for(most.unwrap_or(0)), handles: Vec::new(Global), most, all_lent: false }
+        SocketSet { set: room_for(most.unwrap_or(0)), most, all_lent: false }
     }
 
     /// Adds a socket. Panics where the set has as many as it may.
     pub fn add<T: AnySocket<'a>>(&mut self, socket: T) -> SocketHandle {
         let mut socket = socket.upcast();
-        let below = loop {
+        loop {
             match self.set.add(socket) {
-                Ok(handle) => break handle,
+                Ok(handle) => return SocketHandle(handle.index),
                 Err(back) => socket = back,
             }
             self.grow();
-        };
-        let place = self.handles.iter().position(Option::is_none).unwrap_or(self.handles.len());
-        if place == self.handles.len() {
-            self.handles.push(None).expect("as many handles as sockets");
         }
-        self.handles[place] = Some(below);
-        SocketHandle(place)
     }
 
-    // Twice as many places, or a few, with the sockets in the same order.
+    // Twice as many places, or a few, with the sockets where they were: each place has one.
     fn grow(&mut self) {
         assert!(self.most.is_none(), "adding a socket to a full SocketSet");
         let capacity = (2 * self.set.capacity()).max(4);
         let mut old = core::mem::replace(&mut self.set, room_for(capacity));
-        for handle in self.handles.iter_mut().flatten() {
-            let socket = old.remove(*handle).expect("each handle has its socket");
-            *handle = self.set.add(socket).expect("the new set is larger");
+        for place in 0..old.capacity() {
+            let socket = handle_at(&old, place).and_then(|handle| old.remove(handle)).expect("a full set");
+            let handle = self.set.add(socket).expect("the new set is larger");
+            assert!(handle.index == place, "the first place that is free");
         }
     }
 
@@ -117,12 +115,12 @@ impl<'a> SocketSet<'a> {
         }
     }
 
-    /// The set below, and for each handle the one there.
-    pub(crate) fn parts(&mut self) -> (&mut net_host::SocketSet<'a>, &[Option<net_host::SocketHandle>]) {
+    /// The set below, for writing.
+    pub(crate) fn set_mut(&mut self) -> &mut net_host::SocketSet<'a> {
         if core::mem::take(&mut self.all_lent) {
             self.lend_all();
         }
-        (&mut self.set, &self.handles)
+        &mut self.set
     }
 
     /// The set below.
@@ -131,7 +129,7 @@ impl<'a> SocketSet<'a> {
     }
 
     fn below(&self, handle: SocketHandle) -> net_host::SocketHandle {
-        self.handles.get(handle.0).copied().flatten().expect("handle does not refer to a valid socket")
+        handle_at(&self.set, handle.0).expect("handle does not refer to a valid socket")
     }
 
     /// The socket of this handle. Panics where the handle names none, or one of another kind.
@@ -150,14 +148,13 @@ impl<'a> SocketSet<'a> {
     /// Takes a socket out. Panics where the handle names none.
     pub fn remove(&mut self, handle: SocketHandle) -> Socket<'a> {
         let below = self.below(handle);
-        self.handles[handle.0] = None;
         self.set.remove(below).expect("each handle has its socket")
     }
 
     /// The sockets with their handles.
     pub fn iter(&self) -> impl Iterator<Item = (SocketHandle, &Socket<'a>)> {
-        self.handles.iter().enumerate().filter_map(|(place, handle)| {
-            let socket = self.set.get((*handle)?)?;
+        (0..self.set.capacity()).filter_map(|place| {
+            let socket = self.set.get(handle_at(&self.set, place)?)?;
             Some((SocketHandle(place), socket))
         })
     }
@@ -166,11 +163,7 @@ impl<'a> SocketSet<'a> {
     pub fn iter_mut(&mut self) -> impl Iterator<Item = (SocketHandle, &mut Socket<'a>)> {
         self.lend_all();
         self.all_lent = true;
-        let handles = &self.handles;
-        let handle_of = |below| handles.iter().position(|handle| *handle == Some(below)).map(SocketHandle);
-        self.set.slots.iter_mut().enumerate().filter_map(move |(place, slot)| {
-            let handle = handle_of(slot.handle(place)?)?;
-            Some((handle, slot.socket.as_mut()?))
-        })
+        let slots = self.set.slots.iter_mut().enumerate();
+        slots.filter_map(|(place, slot)| Some((SocketHandle(place), slot.socket.as_mut()?)))
     }
 }

@@ -1,29 +1,36 @@
 //! Vectors without a heap: each stands in its place, and has room for a number of items that the build fixes.
 use crate::config::{IFACE_MAX_ADDR_COUNT, IFACE_MAX_MTU, IFACE_MAX_SOCKET_COUNT};
 use crate::kit::alloc::{AllocError, AllocFailed, Global};
+use crate::proved::net_host::IpCidr;
 use crate::proved::net_host::slot::Slot;
 use core::fmt;
+use core::marker::PhantomData;
 use core::ops::{Deref, DerefMut};
 
 /// Of how many keys an index knows where they stood last.
 pub(crate) const KNOWN: usize = 2 * IFACE_MAX_SOCKET_COUNT;
 
-/// What a vector holds: how many, and what stands where no item does.
+/// What a vector holds: items that a build has a number of places for.
 pub trait Kept: Sized {
     /// The places of all items.
-    type Room: AsRef<[Self]> + AsMut<[Self]>;
+    type Room: Room<Self>;
+}
 
+/// Places of items, and what stands where no item does.
+pub trait Room<T>: AsRef<[T]> + AsMut<[T]> {
     /// Places without an item.
-    fn room() -> Self::Room;
+    fn room() -> Self;
 }
 
 macro_rules! kept {
     ($($item:ty, $most:expr;)*) => { $(
         impl Kept for $item {
             type Room = [$item; $most];
+        }
 
-            fn room() -> Self::Room {
-                [0; $most]
+        impl<const MOST: usize> Room<$item> for [$item; MOST] {
+            fn room() -> Self {
+                [0; MOST]
             }
         }
     )* };
@@ -39,63 +46,73 @@ kept! {
     i64, IFACE_MAX_SOCKET_COUNT;
 }
 
-impl<'a, G> Kept for Slot<'a, G> {
-    type Room = [Slot<'a, G>; IFACE_MAX_SOCKET_COUNT];
+/// Words of marks, one for 64 sockets and one behind them.
+pub type Words = Vec<u64, [u64; IFACE_MAX_SOCKET_COUNT / 64 + 1]>;
 
-    fn room() -> Self::Room {
-        core::array::from_fn(|_| Slot::free())
-    }
+/// Bounds of blocks, one for 16 sockets.
+pub type Blocks = Vec<i64, [i64; IFACE_MAX_SOCKET_COUNT.div_ceil(16)]>;
+
+/// These bounds, which are of blocks.
+pub(crate) fn of_blocks(bounds: Result<Vec<i64>, AllocError>) -> Result<Blocks, AllocError> {
+    Vec::from_slice(Global, &bounds?)
 }
 
-impl Kept for Option<crate::proved::net_host::SocketHandle> {
-    type Room = [Self; IFACE_MAX_SOCKET_COUNT];
+impl<'a, G> Kept for Slot<'a, G> {
+    type Room = [Slot<'a, G>; IFACE_MAX_SOCKET_COUNT];
+}
 
-    fn room() -> Self::Room {
-        [None; IFACE_MAX_SOCKET_COUNT]
+impl<'a, G> Room<Slot<'a, G>> for [Slot<'a, G>; IFACE_MAX_SOCKET_COUNT] {
+    fn room() -> Self {
+        core::array::from_fn(|_| Slot::free())
     }
 }
 
 /// How many addresses an interface has at most, with those that it answers for by a route.
 const ADDRESSES: usize = IFACE_MAX_ADDR_COUNT + crate::iface::FOREIGN;
 
-impl Kept for crate::proved::net_host::IpCidr {
+impl Kept for IpCidr {
     type Room = [Self; ADDRESSES];
+}
 
-    fn room() -> Self::Room {
+impl Room<IpCidr> for [IpCidr; ADDRESSES] {
+    fn room() -> Self {
         let nothing = core::net::Ipv4Addr::UNSPECIFIED.into();
-        [Self { address: nothing, prefix_len: 0 }; ADDRESSES]
+        [IpCidr { address: nothing, prefix_len: 0 }; ADDRESSES]
     }
 }
 
 // An outbox of packets has one without a heap.
 impl Kept for Vec<u8> {
     type Room = [Vec<u8>; 1];
+}
 
-    fn room() -> Self::Room {
+impl Room<Vec<u8>> for [Vec<u8>; 1] {
+    fn room() -> Self {
         [Vec::new(Global)]
     }
 }
 
 /// A vector in its place: each call that finds no room says so, and then changes nothing.
-pub struct Vec<T: Kept> {
-    room: T::Room,
+pub struct Vec<T: Kept, R = <T as Kept>::Room> {
+    room: R,
     len: usize,
+    items: PhantomData<T>,
 }
 
-impl<T: Kept + fmt::Debug> fmt::Debug for Vec<T> {
+impl<T: Kept + fmt::Debug, R: Room<T>> fmt::Debug for Vec<T, R> {
     fn fmt(&self, f: &mut fmt::Formatter<'_>) -> fmt::Result {
         fmt::Debug::fmt(self.as_slice(), f)
     }
 }
 
-impl<T: Kept> Vec<T> {
+impl<T: Kept, R: Room<T>> Vec<T, R> {
     /// A vector without items.
-    pub fn new(_: Global) -> Vec<T> {
-        Vec { room: T::room(), len: 0 }
+    pub fn new(_: Global) -> Vec<T, R> {
+        Vec { room: R::room(), len: 0, items: PhantomData }
     }
 
     /// A vector without items that has room for so many.
-    pub fn with_capacity(alloc: Global, count: usize) -> Result<Vec<T>, AllocError> {
+    pub fn with_capacity(alloc: Global, count: usize) -> Result<Vec<T, R>, AllocError> {
         let vector = Vec::new(alloc);
         if count > vector.capacity() { Err(AllocError) } else { Ok(vector) }
     }
@@ -144,17 +161,17 @@ impl<T: Kept> Vec<T> {
     }
 }
 
-impl<T: Kept + Clone> Vec<T> {
+impl<T: Kept + Clone, R: Room<T>> Vec<T, R> {
     /// One item so many times.
-    pub fn filled(alloc: Global, item: T, count: usize) -> Result<Vec<T>, AllocError> {
-        let mut vector: Vec<T> = Vec::with_capacity(alloc, count)?;
+    pub fn filled(alloc: Global, item: T, count: usize) -> Result<Vec<T, R>, AllocError> {
+        let mut vector: Vec<T, R> = Vec::with_capacity(alloc, count)?;
         vector.room.as_mut()[..count].fill(item);
         vector.len = count;
         Ok(vector)
     }
 
     /// A copy of these items.
-    pub fn from_slice(alloc: Global, items: &[T]) -> Result<Vec<T>, AllocError> {
+    pub fn from_slice(alloc: Global, items: &[T]) -> Result<Vec<T, R>, AllocError> {
         let mut vector = Vec::new(alloc);
         vector.extend_from_slice(items)?;
         Ok(vector)
@@ -170,7 +187,7 @@ impl<T: Kept + Clone> Vec<T> {
     }
 }
 
-impl<T: Kept + Copy> Vec<T> {
+impl<T: Kept + Copy, R: Room<T>> Vec<T, R> {
     /// Puts an item before the one at this place.
     pub fn insert(&mut self, place: usize, item: T) -> Result<(), AllocFailed<T>> {
         if self.push(item).is_err() {
@@ -202,7 +219,7 @@ impl<T: Kept + Copy> Vec<T> {
     }
 }
 
-impl<T: Kept> Deref for Vec<T> {
+impl<T: Kept, R: Room<T>> Deref for Vec<T, R> {
     type Target = [T];
 
     #[inline(always)]
@@ -211,7 +228,7 @@ impl<T: Kept> Deref for Vec<T> {
     }
 }
 
-impl<T: Kept> DerefMut for Vec<T> {
+impl<T: Kept, R: Room<T>> DerefMut for Vec<T, R> {
     #[inline(always)]
     fn deref_mut(&mut self) -> &mut [T] {
         self.as_mut_slice()

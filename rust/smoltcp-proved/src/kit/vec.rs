@@ -9,6 +9,17 @@ pub trait Kept: Sized {}
 
 impl<T> Kept for T {}
 
+/// Words of marks.
+pub type Words = Vec<u64>;
+
+/// Bounds of blocks.
+pub type Blocks = Vec<i64>;
+
+/// These bounds, which are of blocks.
+pub(crate) fn of_blocks(bounds: Result<Vec<i64>, AllocError>) -> Result<Blocks, AllocError> {
+    bounds
+}
+
 /// A vector each call of which that needs memory says where there is none, and then changes nothing.
 #[derive(Debug, Clone, PartialEq, Eq, PartialOrd, Ord, Hash)]
 pub struct Vec<T>(alloc::vec::Vec<T>);

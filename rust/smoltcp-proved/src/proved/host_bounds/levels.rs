@@ -45,7 +45,7 @@ fn least_beside(bounds: &[i64], place: usize) -> i64 {
 }
 
 /// The bound of a place was changed: the one above it is made to bound it again. What that was.
-pub(crate) fn mend(low: &[i64], high: &mut Vec<i64>, place: usize, was: i64) -> i64 {
+pub(crate) fn mend(low: &[i64], high: &mut [i64], place: usize, was: i64) -> i64 {
     let above = place / FAN_OUT;
     let old = high[above];
     if low[place] < old {

@@ -10,9 +10,9 @@ const BITS: usize = 64;
 /// Marks of many places, the first of which is found without a look at each.
 pub struct Marks {
     // a bit for each place
-    places: Vec<u64>,
+    places: crate::kit::Words,
     // a bit for each word of these, set where it is not 0
-    words: Vec<u64>,
+    words: crate::kit::Words,
 }
 
 impl Marks {
@@ -59,42 +59,42 @@ impl Marks {
 }
 
 // So many words of ones.
-fn all_ones(alloc: Global, count: usize) -> Result<Vec<u64>, AllocError> {
-    let mut words = vec![in alloc; 0u64; count]?;
+fn all_ones(alloc: Global, count: usize) -> Result<crate::kit::Words, AllocError> {
+    let mut words = crate::kit::Words::filled(alloc, 0u64, count)?;
     set_all(&mut words);
     Ok(words)
 }
 
 // All bits are ones now.
-fn set_all(words: &mut Vec<u64>) {
+fn set_all(words: &mut crate::kit::Words) {
     words.fill(u64::MAX);
 }
 
 // All bits are zeros now.
-fn clear_all(words: &mut Vec<u64>) {
+fn clear_all(words: &mut crate::kit::Words) {
     words.fill(0);
 }
 
 // The bit of this place is a one now.
-fn set_bit(words: &mut Vec<u64>, place: usize) {
+fn set_bit(words: &mut crate::kit::Words, place: usize) {
     let word = place / BITS;
     words[word] |= 1 << (place % BITS);
 }
 
 // The bit of this place is a zero now. Whether the others of its word are, too.
-fn clear_bit(words: &mut Vec<u64>, place: usize) -> bool {
+fn clear_bit(words: &mut crate::kit::Words, place: usize) -> bool {
     let word = place / BITS;
     let left = words[word] & !(1 << (place % BITS));
     words[word] = left;
     left == 0
 }
 
-fn put_on(marks: &mut Vec<u64>, words: &mut Vec<u64>, place: usize) {
+fn put_on(marks: &mut crate::kit::Words, words: &mut crate::kit::Words, place: usize) {
     set_bit(marks, place);
     set_bit(words, place / BITS);
 }
 
-fn take_off(marks: &mut Vec<u64>, words: &mut Vec<u64>, place: usize) {
+fn take_off(marks: &mut crate::kit::Words, words: &mut crate::kit::Words, place: usize) {
     if clear_bit(marks, place) {
         clear_bit(words, place / BITS);
     }

@@ -9,9 +9,9 @@ use crate::proved::host_bounds::levels::{FAN_OUT, first_between, least_between, 
 pub(crate) struct Times {
     places: Vec<i64>,
     // of each 16 places, none of which has a lower one
-    blocks: Vec<i64>,
+    blocks: crate::kit::Blocks,
     // of each 16 blocks
-    groups: Vec<i64>,
+    groups: crate::kit::Blocks,
     // of all groups
     top: i64,
 }
@@ -22,8 +22,8 @@ impl Times {
         let blocks = count.div_ceil(FAN_OUT);
         Ok(Times {
             places: least_bounds(alloc, count)?,
-            blocks: least_bounds(alloc, blocks)?,
-            groups: least_bounds(alloc, blocks.div_ceil(FAN_OUT))?,
+            blocks: crate::kit::of_blocks(least_bounds(alloc, blocks))?,
+            groups: crate::kit::of_blocks(least_bounds(alloc, blocks.div_ceil(FAN_OUT)))?,
             top: first_top(count),
         })
     }

@@ -38,11 +38,15 @@ impl<'a> ControlBlock<'a> {
     // that stays over would want the next dispatch at once, again and again.
     fn begin_retransmission(&mut self, now: Instant) {
         let flight = self.flight();
-        self.undo =
-            self.undo.timed_out(crate::kit::in_force(self.rules), self.recovery, &self.congestion_controller);
+        self.undo.set(self.undo.get().timed_out(
+            crate::kit::in_force(self.rules),
+            self.recovery.get(),
+            &self.congestion_controller,
+        ));
         self.congestion_controller.on_rto(now, flight);
-        self.recovery = self.recovery.timed_out(crate::kit::in_force(self.rules), self.remote_last_seq);
-        self.sacked = NOTHING_TOLD;
+        self.recovery
+            .set(self.recovery.get().timed_out(crate::kit::in_force(self.rules), self.remote_last_seq));
+        self.sacked.set(NOTHING_TOLD);
         self.remote_last_seq = self.local_seq_no;
         self.rtte.on_rto();
         self.rtte.on_retransmit();
@@ -75,7 +79,7 @@ impl<'a> ControlBlock<'a> {
     // A fast retransmission is marked.
     fn mark_fast_retransmission(&mut self, now: Instant) {
         let flight = self.flight_lost();
-        self.undo = self.undo.marked(crate::kit::in_force(self.rules), &self.congestion_controller);
+        self.undo.set(self.undo.get().marked(crate::kit::in_force(self.rules), &self.congestion_controller));
         self.congestion_controller.on_loss(now, flight);
         self.pending_fast_retransmit = true;
         self.rtte.on_retransmit();
@@ -85,7 +89,8 @@ impl<'a> ControlBlock<'a> {
     // A window is to be probed for: by the RFCs' rules with the byte at SND.UNA.
     fn begin_probe(&mut self) {
         if let Rules::Rfc = crate::kit::in_force(self.rules) {
-            self.recovery = self.recovery.timed_out(crate::kit::in_force(self.rules), self.remote_last_seq);
+            self.recovery
+                .set(self.recovery.get().timed_out(crate::kit::in_force(self.rules), self.remote_last_seq));
             self.remote_last_seq = self.local_seq_no;
             self.rtte.on_retransmit();
         }

@@ -64,7 +64,7 @@ impl<'a> ControlBlock<'a> {
 
     // The number behind all that was sent.
     fn sent_end(&self) -> TcpSeqNumber {
-        let highest = self.recovery.highest(self.remote_last_seq);
+        let highest = self.recovery.get().highest(self.remote_last_seq);
         highest.plus(self.probe_places())
     }
 

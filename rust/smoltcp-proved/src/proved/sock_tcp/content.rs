@@ -49,9 +49,10 @@ impl<'a> ControlBlock<'a> {
     pub(crate) fn hole(&self) -> Option<Hole> {
         match crate::kit::in_force(self.rules) {
             Rules::Smoltcp => None,
-            Rules::Rfc => {
-                hole_within(self.recovery.next_hole(&self.sacked, self.local_seq_no), self.remote_win_len)
-            }
+            Rules::Rfc => hole_within(
+                self.recovery.get().next_hole(&self.sacked.get(), self.local_seq_no),
+                self.remote_win_len,
+            ),
         }
     }
 

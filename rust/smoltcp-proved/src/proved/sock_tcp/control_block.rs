@@ -46,7 +46,7 @@ pub struct ControlBlock<'a> {
     // how many bytes may be in flight
     pub(crate) congestion_controller: AnyController,
     // what undoes a recovery that was for nothing, by the RFCs' rules
-    pub(crate) undo: Undo,
+    pub(crate) undo: crate::kit::OfRfc<Undo>,
     // SND.WND
     pub(crate) remote_win_len: usize,
     // the largest segment that the peer takes, in bytes
@@ -68,9 +68,9 @@ pub struct ControlBlock<'a> {
     // the last timestamp value of the peer
     pub(crate) last_remote_tsval: u32,
     // what goes on of a loss, by the RFCs' rules
-    pub(crate) recovery: Recovery,
+    pub(crate) recovery: crate::kit::OfRfc<Recovery>,
     // what the peer told by SACK, by the RFCs' rules
-    pub(crate) sacked: Scoreboard,
+    pub(crate) sacked: crate::kit::OfRfc<Scoreboard>,
     // SND.WL1 and SND.WL2, by the RFCs' rules
     pub(crate) snd_wl1: TcpSeqNumber,
     pub(crate) snd_wl2: TcpSeqNumber,

@@ -30,9 +30,9 @@ impl<'a> ControlBlock<'a> {
     }
 
     fn move_snd_nxt(&mut self, emitted: &Emitted) {
-        if let Recovery::Fast { .. } | Recovery::Timeout { .. } = self.recovery {
-            self.undo = self.undo.sent(self.recovery, self.remote_last_seq, emitted);
-            self.recovery = self.recovery.resent(self.remote_last_seq, emitted);
+        if let Recovery::Fast { .. } | Recovery::Timeout { .. } = self.recovery.get() {
+            self.undo.set(self.undo.get().sent(self.recovery.get(), self.remote_last_seq, emitted));
+            self.recovery.set(self.recovery.get().resent(self.remote_last_seq, emitted));
         }
         self.remote_last_seq = later(self.remote_last_seq, emitted.end);
         self.remote_last_ack = emitted.ack_number;
@@ -47,7 +47,7 @@ impl<'a> ControlBlock<'a> {
         if emitted.len == 0 {
             return;
         }
-        if let Recovery::Fast { .. } = self.recovery {
+        if let Recovery::Fast { .. } = self.recovery.get() {
             self.pending_fast_retransmit = self.pending_fast_retransmit || self.goes_on();
         }
         self.timer = self.timer.retransmit_unless_set(now, &self.rtte);

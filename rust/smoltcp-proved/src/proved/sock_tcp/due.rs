@@ -86,7 +86,7 @@ impl<'a> ControlBlock<'a> {
     // What the first two duplicates let out beyond the congestion window, a segment each (RFC 3042), or what was told
     // while a loss is waited for, or a tail-loss probe of new bytes.
     fn limited(&self) -> usize {
-        match (crate::kit::in_force(self.rules), self.recovery) {
+        match (crate::kit::in_force(self.rules), self.recovery.get()) {
             (Rules::Rfc, Recovery::Probe { again: false, .. }) => self.remote_mss,
             (Rules::Rfc, Recovery::Open) | (Rules::Rfc, Recovery::Probe { .. }) => {
                 ((self.local_rx_dup_acks.min(2) as usize) * self.remote_mss).max(self.told_late())

@@ -74,14 +74,14 @@ impl<'a> ControlBlock<'a> {
             synack_paused: false,
             stamps: false,
             rules: Rules::Smoltcp,
-            recovery: Recovery::Open,
-            sacked: NOTHING_TOLD,
+            recovery: crate::kit::OfRfc::new(Recovery::Open),
+            sacked: crate::kit::OfRfc::new(NOTHING_TOLD),
             snd_wl1: TcpSeqNumber(0),
             snd_wl2: TcpSeqNumber(0),
             has_idle_at: false,
             idle_at: Instant::ZERO,
             largest_window: 0,
-            undo: NOTHING_TO_UNDO,
+            undo: crate::kit::OfRfc::new(NOTHING_TO_UNDO),
             close_waits: false,
             reordering: 0,
         }
@@ -111,13 +111,13 @@ impl<'a> ControlBlock<'a> {
         self.ack_delay_kind = DelayKind::Idle;
         self.challenge_ack_timer = Instant::ZERO;
         self.congestion_controller = self.congestion_control().controller();
-        self.recovery = Recovery::Open;
-        self.sacked = NOTHING_TOLD;
+        self.recovery.set(Recovery::Open);
+        self.sacked.set(NOTHING_TOLD);
         self.snd_wl1 = TcpSeqNumber(0);
         self.snd_wl2 = TcpSeqNumber(0);
         self.has_idle_at = false;
         self.largest_window = 0;
-        self.undo = NOTHING_TO_UNDO;
+        self.undo.set(NOTHING_TO_UNDO);
         self.close_waits = false;
         self.reordering = 0;
     }

@@ -106,7 +106,7 @@ impl Before {
 impl<'a> ControlBlock<'a> {
     // A recovery counts what is in the network, where the peer tells by SACK.
     pub(crate) fn is_counted(&self) -> bool {
-        match (crate::kit::in_force(self.rules), self.recovery) {
+        match (crate::kit::in_force(self.rules), self.recovery.get()) {
             (Rules::Rfc, Recovery::Fast { .. }) => self.remote_has_sack,
             _ => false,
         }
@@ -116,7 +116,7 @@ impl<'a> ControlBlock<'a> {
     pub(crate) fn recovery_left(&self) -> usize {
         let window = self.congestion_controller.recovery_window();
         let (una, mss) = (self.local_seq_no, self.remote_mss);
-        self.recovery.room(&self.sacked, una, self.flight(), window, mss)
+        self.recovery.get().room(&self.sacked.get(), una, self.flight(), window, mss)
     }
 
     // The next hole that the peer's window takes goes out at once while there is room.

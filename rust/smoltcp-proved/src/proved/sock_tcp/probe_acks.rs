@@ -73,7 +73,7 @@ impl<'a> ControlBlock<'a> {
 
     // What goes on of a loss, as the segment says.
     pub(crate) fn recovery_heard(&self, repr: &TcpRepr<'_>) -> Recovery {
-        match self.recovery {
+        match self.recovery.get() {
             Recovery::Probe { start, end, again } if again && self.came_twice(repr, start, end) => {
                 Recovery::Open
             }

@@ -370,10 +370,10 @@ impl<'a> ControlBlock<'a> {
         self.local_rx_dup_acks = duplicates;
         self.pending_fast_retransmit = marked;
         self.congestion_controller = controller;
-        self.recovery = recovery;
-        self.sacked = sacked;
+        self.recovery.set(recovery);
+        self.sacked.set(sacked);
         self.largest_window = largest;
-        self.undo = undo;
+        self.undo.set(undo);
         self.reordering = reordering;
     }
 }

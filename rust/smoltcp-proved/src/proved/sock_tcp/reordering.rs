@@ -39,7 +39,7 @@ impl Timer {
 impl Before {
     // How many quarters of a round trip a loss is waited for: one more for each fast recovery that was for nothing.
     pub(crate) fn reordering_after(&self, after: &ControlBlock<'_>) -> u8 {
-        if self.is_undone(after) && after.undo.window != 0 {
+        if self.is_undone(after) && after.undo.get().window != 0 {
             after.reordering.min(3) + 1
         } else {
             after.reordering
@@ -71,12 +71,12 @@ impl Before {
 impl<'a> ControlBlock<'a> {
     // A loss was told, and is waited for.
     pub(crate) fn is_late(&self) -> bool {
-        is_told(self.reordering, self.local_rx_dup_acks, &self.sacked, self.remote_mss)
-            && (self.may_resend() && self.recovery.is_over())
+        is_told(self.reordering, self.local_rx_dup_acks, &self.sacked.get(), self.remote_mss)
+            && (self.may_resend() && self.recovery.get().is_over())
     }
 
     // What is no longer in the network, where reordering was seen.
     pub(crate) fn told_late(&self) -> usize {
-        if self.reordering == 0 { 0 } else { self.sacked.told_before(1 << 32) as usize }
+        if self.reordering == 0 { 0 } else { self.sacked.get().told_before(1 << 32) as usize }
     }
 }

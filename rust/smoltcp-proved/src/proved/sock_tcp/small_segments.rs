@@ -27,7 +27,8 @@ impl<'a> ControlBlock<'a> {
     // Whether one may wait with nothing in flight: the peer told a window of more than twice this one, and none of it
     // may have been sent before.
     fn waits_alone(&self) -> bool {
-        self.remote_win_len < self.largest_window / 2 && (self.has_idle_at && !self.recovery.sends_again())
+        self.remote_win_len < self.largest_window / 2
+            && (self.has_idle_at && !self.recovery.get().sends_again())
     }
 
     // Whether the peer's window makes the next segment smaller than one of `mss` bytes, or the congestion window does

@@ -109,7 +109,7 @@ impl<'a> ControlBlock<'a> {
 
     // A loss was waited for, or a probe may go out.
     fn may_speak(&self) -> bool {
-        self.is_late() || self.may_probe(self.recovery)
+        self.is_late() || self.may_probe(self.recovery.get())
     }
 
     // The same, where the retransmission timer is over.
@@ -135,7 +135,7 @@ impl<'a> ControlBlock<'a> {
     pub(crate) fn arm_tail(&mut self, now: Instant, len: usize) {
         let may = match crate::kit::in_force(self.rules) {
             Rules::Smoltcp => false,
-            Rules::Rfc => len != 0 && self.may_probe(self.recovery),
+            Rules::Rfc => len != 0 && self.may_probe(self.recovery.get()),
         };
         if may {
             let alone = self.is_alone();
@@ -146,16 +146,16 @@ impl<'a> ControlBlock<'a> {
     // A fast recovery begins with the segment at SND.UNA; then the retransmission timer runs.
     fn begin_recovery(&mut self, now: Instant) {
         let flight = self.flight_lost();
-        self.undo = self.undo.marked(crate::kit::in_force(self.rules), &self.congestion_controller);
+        self.undo.set(self.undo.get().marked(crate::kit::in_force(self.rules), &self.congestion_controller));
         self.congestion_controller.on_loss(now, flight);
-        self.recovery = Recovery::Fast {
+        self.recovery.set(Recovery::Fast {
             point: self.remote_last_seq,
             high_rxt: self.local_seq_no,
             resent_at: self.remote_last_seq,
             acked: false,
             trailed: false,
             una_lost: false,
-        };
+        });
         self.pending_fast_retransmit = true;
         self.rtte.on_retransmit();
         self.timer = Timer::retransmit(now, &self.rtte);
@@ -163,10 +163,10 @@ impl<'a> ControlBlock<'a> {
 
     // A segment of new bytes is to go out, or the last one again; then the retransmission timer runs.
     fn begin_probe_of_tail(&mut self, now: Instant) {
-        self.recovery = self.probe(false);
+        self.recovery.set(self.probe(false));
         let none = self.sendable() < self.remote_mss.max(1);
         let again = self.pending_fast_retransmit || none;
-        self.recovery = self.probe(again);
+        self.recovery.set(self.probe(again));
         self.pending_fast_retransmit = again;
         self.rtte.on_retransmit();
         self.timer = Timer::retransmit(now, &self.rtte);

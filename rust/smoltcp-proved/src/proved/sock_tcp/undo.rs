@@ -121,18 +121,18 @@ impl Recovery {
 impl Before {
     // The recovery was for nothing, as the echo tells.
     fn is_undone_by_echo(&self, after: &ControlBlock<'_>) -> bool {
-        self.is_news(after) && (self.recovery.is_decided() && is_older(self.echo, after.undo.stamp))
+        self.is_news(after) && (self.recovery.is_decided() && is_older(self.echo, after.undo.get().stamp))
     }
 
     // Or D-SACKs of all that went out again, where there are no timestamps.
     fn is_undone_by_blocks(&self, after: &ControlBlock<'_>) -> bool {
-        let all = after.undo.resent != 0 && after.undo.resent <= self.twice;
+        let all = after.undo.get().resent != 0 && after.undo.get().resent <= self.twice;
         self.echo.is_none() && all
     }
 
     // The recovery was for nothing.
     pub(crate) fn is_undone(&self, after: &ControlBlock<'_>) -> bool {
-        after.undo.may_undo() && (self.is_undone_by_echo(after) || self.is_undone_by_blocks(after))
+        after.undo.get().may_undo() && (self.is_undone_by_echo(after) || self.is_undone_by_blocks(after))
     }
 
     // It was not, as the first echo of something new tells.
@@ -144,7 +144,7 @@ impl Before {
         if self.is_undone(after) || self.is_decided(after) {
             NOTHING_TO_UNDO
         } else {
-            after.undo.counted(self.twice)
+            after.undo.get().counted(self.twice)
         }
     }
 
@@ -152,7 +152,7 @@ impl Before {
     pub(crate) fn controller_told(&self, after: &ControlBlock<'_>, now: Instant) -> AnyController {
         let mut controller = self.controller_after(after, now);
         if self.is_undone(after) {
-            controller.undo(after.undo.window, after.undo.threshold);
+            controller.undo(after.undo.get().window, after.undo.get().threshold);
         }
         controller
     }
