@@ -46,12 +46,7 @@ fn all(set: &net_host::SocketSet<'_>) -> impl Iterator<Item = SocketHandle> {
 }
 
 // A copy for each raw socket: whether there is one.
-fn hear_raw(
-    host: &mut Host,
-    set: &mut net_host::SocketSet<'_>,
-    ip: &IpRepr,
-    payload: &[u8],
-) -> bool {
+fn hear_raw(host: &mut Host, set: &mut net_host::SocketSet<'_>, ip: &IpRepr, payload: &[u8]) -> bool {
     let (cx, mut heard) = (host.context(), false);
     for place in 0..set.capacity() {
         let Some(handle) = handle_at(set, place) else { continue };
@@ -179,11 +174,7 @@ fn hear_segment(
     len
 }
 
-fn hear_datagram(
-    host: &mut Host,
-    set: &mut net_host::SocketSet<'_>,
-    packet: &[u8],
-) {
+fn hear_datagram(host: &mut Host, set: &mut net_host::SocketSet<'_>, packet: &[u8]) {
     let cx = host.context();
     let Ok((ip, repr, payload)) = parse_udp(packet, &cx.checksum_caps()) else { return };
     let accepts = |ip: &IpRepr, handle| match set.get(handle) {

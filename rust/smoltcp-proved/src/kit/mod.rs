@@ -29,18 +29,18 @@ pub use addresses::{ipv4, ipv6};
 pub(crate) use bytes::{be16, be32, four_le64, le16, le32, le64, sixteen_le64};
 pub use chacha::{rand_chacha, rand_core};
 #[cfg(not(feature = "alloc"))]
-pub(crate) use fixed::{KNOWN, of_blocks};
-#[cfg(not(feature = "alloc"))]
 pub use fixed::{Blocks, Kept, Vec, Words};
+#[cfg(not(feature = "alloc"))]
+pub(crate) use fixed::{KNOWN, of_blocks};
 #[cfg(feature = "std")]
 pub use runtime::HostRuntime;
 pub use storage::Storage;
 #[cfg(feature = "alloc")]
 pub use string::String;
 #[cfg(feature = "alloc")]
-pub(crate) use vec::{KNOWN, of_blocks};
-#[cfg(feature = "alloc")]
 pub use vec::{Blocks, Kept, Vec, Words};
+#[cfg(feature = "alloc")]
+pub(crate) use vec::{KNOWN, of_blocks};
 
 /// A socket's rules; smoltcp's alone, in a build without the feature `rules-rfc`, which has no code for the others then.
 #[inline(always)]
