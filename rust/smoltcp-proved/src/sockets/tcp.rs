@@ -273,6 +273,12 @@ impl<'a, G: TsvalSource> Socket<'a, G> {
     /// The first half of [`Socket::process`], as the proved call of this name.
     #[inline(always)]
     pub fn take_segment<C: Context>(&mut self, cx: &mut C, ip_repr: &IpRepr, repr: &TcpRepr<'_>) -> Answer {
+        if TOLD {
+            match self.proved.explain(cx, ip_repr, repr) {
+                Row::Opens | Row::Fin | Row::InOrder | Row::BareAck => {}
+                row => tell!("segment of {} bytes from {}: {}", repr.payload.len(), ip_repr.src_addr(), row),
+            }
+        }
         self.watched(
             #[inline(always)]
             |socket| socket.take_segment(cx, ip_repr, repr),
