@@ -182,14 +182,20 @@ static void process(struct end *e, struct end *from) {
     int k = (int)draw(KEPT);
     size_t len = from->lengths[k], cap = draw(8) ? 100 + draw(100) : draw(100);
     uint8_t *packet, reply[200];
-    int64_t n;
+    int64_t n, row;
+    struct smoltcp_tcp was;
     if (draw(16) == 0) len = draw(MTU);
     packet = before_guard(4, len);
     if (len) memcpy(packet, from->packets[k], len);
     if (len && draw(16) == 0) packet[draw((uint32_t)len)] ^= (uint8_t)(1 << draw(8));
     if (draw(64) == 0) { size_t i; for (i = 0; i < len; i++) packet[i] = (uint8_t)draw(256); }
     memset(reply, 0x5a, sizeof reply);
+    was = e->tcp;
+    row = smoltcp_tcp_explain(&e->tcp, &e->cx, packet, len);
+    if (memcmp(&was, &e->tcp, sizeof was) != 0) fail("explain changed the socket", row);
+    if (row > SMOLTCP_ROW_BARE_ACK || (row < 0 && row != SMOLTCP_NOT_ACCEPTED)) fail("no row", row);
     n = within("process", smoltcp_tcp_process(&e->tcp, &e->cx, packet, len, reply, cap), reply, cap, 0x5a);
+    if (cap >= SMOLTCP_REPLY_ROOM && (n == SMOLTCP_NOT_ACCEPTED) != (row <= SMOLTCP_ROW_NOT_ACCEPTED)) fail("row", row);
     if (n > 0 && n <= MTU) {
         k = (int)draw(KEPT);
         memcpy(e->packets[k], reply, (size_t)n);
@@ -438,6 +444,7 @@ static void refused(struct end *e) {
     if (smoltcp_tcp_set_congestion_control(&e->tcp, 2 + draw(9)) != SMOLTCP_ERROR_RANGE) fail("congestion", 0);
     if (smoltcp_tcp_dispatch(&e->tcp, &far, &byte, 1) != SMOLTCP_ERROR_CONTEXT) fail("dispatch", 0);
     if (smoltcp_tcp_process(&e->tcp, &e->cx, &byte, 1, &byte, 1) != SMOLTCP_ERROR_ROOM) fail("process", 0);
+    if (smoltcp_tcp_explain(&e->tcp, &far, &byte, 1) != SMOLTCP_ERROR_CONTEXT) fail("explain", 0);
     if (smoltcp_tcp_send(&e->tcp, NULL, 1) != SMOLTCP_ERROR_NULL) fail("send", 0);
     if (smoltcp_udp_dispatch(&e->udp, &far, &byte, 1) != SMOLTCP_ERROR_CONTEXT) fail("udp_dispatch", 0);
     if (smoltcp_udp_process(&e->udp, &e->cx, &byte, 1) != SMOLTCP_NOT_ACCEPTED) fail("udp_process", 0);

@@ -180,6 +180,7 @@ static void words(void) {
     want("an address of four numbers", v4.version == 4 && !memcmp(v4.v4, want_v4.v4, 4), 1);
     want("an address of 16 octets", v6.version == 6 && !memcmp(v6.v6, want_v6.v6, 16), 1);
     want("a name of a state", strcmp(smoltcp_state_name(SMOLTCP_SYN_RECEIVED), "SYN-RECEIVED"), 0);
+    want("a name of a row", strcmp(smoltcp_row_name(SMOLTCP_ROW_IN_ORDER), "bytes at RCV.NXT"), 0);
     want("no name of a state", strcmp(smoltcp_state_name(SMOLTCP_ERROR_NULL), "UNKNOWN"), 0);
     want("words of an error", strcmp(smoltcp_strerror(SMOLTCP_ERROR_EMPTY), "no packet waits"), 0);
 }

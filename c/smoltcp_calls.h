@@ -64,6 +64,35 @@ SMOLTCP_INLINE const char *smoltcp_end_name(int64_t end) {
     }
 }
 
+SMOLTCP_INLINE const char *smoltcp_row_name(int64_t row) {
+    switch (row) {
+    case SMOLTCP_ROW_NOT_ACCEPTED: return "not for this socket";
+    case SMOLTCP_ROW_NO_SYN: return "no SYN while one is awaited";
+    case SMOLTCP_ROW_RESET_UNACCEPTABLE: return "RST without an acceptable ACK in SYN-SENT";
+    case SMOLTCP_ROW_RESET_IN_TIME_WAIT: return "RST in TIME-WAIT";
+    case SMOLTCP_ROW_RESET_OUTSIDE: return "RST outside of the receive window";
+    case SMOLTCP_ROW_NO_ACK: return "no ACK";
+    case SMOLTCP_ROW_OLD_ACK: return "ACK before SND.UNA";
+    case SMOLTCP_ROW_ACK_UNACCEPTABLE: return "unacceptable ACK of the SYN";
+    case SMOLTCP_ROW_ACK_UNSENT: return "ACK of what was never sent";
+    case SMOLTCP_ROW_RESET_CHALLENGED: return "RST in the receive window, but not at RCV.NXT";
+    case SMOLTCP_ROW_SYN_CHALLENGED: return "SYN in a synchronized state";
+    case SMOLTCP_ROW_OLD_TIMESTAMP: return "timestamp before TS.Recent";
+    case SMOLTCP_ROW_OLD_DUPLICATE: return "before the receive window";
+    case SMOLTCP_ROW_BEYOND_WINDOW: return "beyond the receive window";
+    case SMOLTCP_ROW_HEARD_OUTSIDE: return "outside of the receive window, but its ACK is heard";
+    case SMOLTCP_ROW_OPENS: return "SYN that opens";
+    case SMOLTCP_ROW_RESET: return "RST that counts";
+    case SMOLTCP_ROW_IGNORED: return "nothing that the state takes";
+    case SMOLTCP_ROW_FIN: return "FIN that counts";
+    case SMOLTCP_ROW_IN_ORDER: return "bytes at RCV.NXT";
+    case SMOLTCP_ROW_BEHIND_GAP: return "bytes behind a gap";
+    case SMOLTCP_ROW_NOTHING_NEW: return "ACK of nothing new in LAST-ACK";
+    case SMOLTCP_ROW_BARE_ACK: return "ACK without bytes";
+    default: return "unknown";
+    }
+}
+
 SMOLTCP_INLINE struct smoltcp_sizes smoltcp_library_sizes(void) {
     struct smoltcp_sizes sizes;
     smoltcp_sizes_nonnull(&sizes);

@@ -120,6 +120,8 @@ static inline const struct smoltcp_tcp *smoltcp_checked_const_tcp(const struct s
     (smoltcp_tcp_timestamp_enabled)(smoltcp_checked_const_tcp((s), 0, "smoltcp_tcp_timestamp_enabled"))
 #define smoltcp_tcp_process(s, ...) \
     (smoltcp_tcp_process)(smoltcp_checked_tcp((s), 1, "smoltcp_tcp_process"), __VA_ARGS__)
+#define smoltcp_tcp_explain(s, ...) \
+    (smoltcp_tcp_explain)(smoltcp_checked_const_tcp((s), 0, "smoltcp_tcp_explain"), __VA_ARGS__)
 #define smoltcp_tcp_dispatch(s, ...) \
     (smoltcp_tcp_dispatch)(smoltcp_checked_tcp((s), 1, "smoltcp_tcp_dispatch"), __VA_ARGS__)
 #define smoltcp_tcp_poll_at(s, ...) \

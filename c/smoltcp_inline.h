@@ -67,6 +67,17 @@ SMOLTCP_INLINE int64_t smoltcp_tcp_ended(const struct smoltcp_tcp *s) {
     return smoltcp_tcp_ended_nonnull(&h);
 }
 
+SMOLTCP_INLINE int64_t smoltcp_tcp_explain(const struct smoltcp_tcp *s, const struct smoltcp_context *cx,
+                                           const uint8_t *packet, size_t len) {
+    struct smoltcp_tcp_handle h = {SMOLTCP_AT(s)};
+    if (!s || !cx) return SMOLTCP_ERROR_NULL;
+    if (!packet) {
+        if (len) return SMOLTCP_ERROR_NULL;
+        packet = SMOLTCP_NONE(const uint8_t);
+    }
+    return smoltcp_tcp_explain_nonnull(&h, cx, packet, len);
+}
+
 SMOLTCP_INLINE int64_t smoltcp_tcp_listen(struct smoltcp_tcp *s, const struct smoltcp_endpoint *endpoint) {
     struct smoltcp_tcp_handle h = {SMOLTCP_AT(s)};
     if (!s || !endpoint) return SMOLTCP_ERROR_NULL;

@@ -58,6 +58,8 @@ int64_t smoltcp_tcp_connect_nonnull(struct smoltcp_tcp_handle *h, const struct s
 int64_t smoltcp_tcp_consume_nonnull(struct smoltcp_tcp_handle *h, size_t count);
 int64_t smoltcp_tcp_dispatch_nonnull(uint8_t *at, const struct smoltcp_context *cx, uint8_t *out, size_t cap);
 int64_t smoltcp_tcp_ended_nonnull(struct smoltcp_tcp_handle *h);
+int64_t smoltcp_tcp_explain_nonnull(struct smoltcp_tcp_handle *h, const struct smoltcp_context *cx,
+                                    const uint8_t *packet, size_t len);
 int64_t smoltcp_tcp_init_nonnull(struct smoltcp_tcp_handle *room, struct smoltcp_bytes rx, struct smoltcp_bytes tx);
 int64_t smoltcp_tcp_listen_nonnull(struct smoltcp_tcp_handle *h, const struct smoltcp_endpoint *endpoint);
 int64_t smoltcp_tcp_listen_endpoint_nonnull(struct smoltcp_tcp_handle *h, struct smoltcp_endpoint *out);

@@ -313,6 +313,14 @@ int64_t smoltcp_tcp_timestamp_enabled(const struct smoltcp_tcp *s);
 int64_t smoltcp_tcp_process(struct smoltcp_tcp *s, const struct smoltcp_context *cx, const uint8_t *packet, size_t len,
                             uint8_t *reply, size_t cap);
 
+/* In which row of its tables smoltcp_tcp_process finds this packet now, asked for beforehand: one of
+ * SMOLTCP_ROW_NOT_ACCEPTED and the names behind it. Nothing changes. SMOLTCP_NOT_ACCEPTED where it is no whole TCP
+ * segment.
+ *
+ * Errors: SMOLTCP_ERROR_CONTEXT, SMOLTCP_NOT_ACCEPTED, SMOLTCP_ERROR_NULL. */
+int64_t smoltcp_tcp_explain(const struct smoltcp_tcp *s, const struct smoltcp_context *cx, const uint8_t *packet,
+                            size_t len);
+
 /* The length of the packet that is due, in out, or 0 for none. SMOLTCP_ERROR_ROOM where out is too short for it: what
  * the timers ask for is done then, and the next call gives the packet again.
  *

@@ -47,6 +47,18 @@ enum {
     SMOLTCP_END_ABORTED, SMOLTCP_END_ADDRESS
 };
 
+/* What smoltcp_tcp_explain answers: in which row of the tables of smoltcp_tcp_process a segment falls (RFC 9293, section
+ * 3.10.7). smoltcp_row_name has the rows in words; `Row` of the crate sock_tcp says of each what becomes of the segment,
+ * and in which section. */
+enum {
+    SMOLTCP_ROW_NOT_ACCEPTED, SMOLTCP_ROW_NO_SYN, SMOLTCP_ROW_RESET_UNACCEPTABLE, SMOLTCP_ROW_RESET_IN_TIME_WAIT,
+    SMOLTCP_ROW_RESET_OUTSIDE, SMOLTCP_ROW_NO_ACK, SMOLTCP_ROW_OLD_ACK, SMOLTCP_ROW_ACK_UNACCEPTABLE,
+    SMOLTCP_ROW_ACK_UNSENT, SMOLTCP_ROW_RESET_CHALLENGED, SMOLTCP_ROW_SYN_CHALLENGED, SMOLTCP_ROW_OLD_TIMESTAMP,
+    SMOLTCP_ROW_OLD_DUPLICATE, SMOLTCP_ROW_BEYOND_WINDOW, SMOLTCP_ROW_HEARD_OUTSIDE, SMOLTCP_ROW_OPENS,
+    SMOLTCP_ROW_RESET, SMOLTCP_ROW_IGNORED, SMOLTCP_ROW_FIN, SMOLTCP_ROW_IN_ORDER, SMOLTCP_ROW_BEHIND_GAP,
+    SMOLTCP_ROW_NOTHING_NEW, SMOLTCP_ROW_BARE_ACK
+};
+
 /* Kinds of congestion control: none, or Reno (RFC 5681). */
 enum { SMOLTCP_CONGESTION_NONE = 0, SMOLTCP_CONGESTION_RENO = 1 };
 
@@ -176,6 +188,9 @@ const char *smoltcp_state_name(int64_t state);
 
 /* Why a connection ended, as smoltcp_tcp_ended answers it, in a few words; "unknown" of another number. */
 const char *smoltcp_end_name(int64_t end);
+
+/* The name of a row, as smoltcp_tcp_explain answers it, in a few words; "unknown" of another number. */
+const char *smoltcp_row_name(int64_t row);
 
 /* The sizes that the library has. */
 struct smoltcp_sizes smoltcp_library_sizes(void);

@@ -14,6 +14,7 @@ pub mod Places
 pub mod Pointed
 pub mod Ports
 pub mod Raw
+pub mod Reasons
 pub mod Release
 pub mod Sends
 pub mod Sizes

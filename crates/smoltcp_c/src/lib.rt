@@ -28,6 +28,7 @@ pub mod message;
 pub mod packets;
 pub mod ports;
 pub mod raw_filter;
+pub mod reasons;
 pub mod release;
 pub mod settings;
 pub mod sizes;

@@ -87,7 +87,7 @@ pub(crate) const NO_HEADER: IpRepr = IpRepr::Ipv4(Ipv4Repr {
     hop_limit: 0,
 });
 
-const NO_SEGMENT: TcpRepr<'static> = TcpRepr {
+pub(crate) const NO_SEGMENT: TcpRepr<'static> = TcpRepr {
     src_port: 0,
     dst_port: 0,
     control: TcpControl::None,
@@ -102,8 +102,8 @@ const NO_SEGMENT: TcpRepr<'static> = TcpRepr {
     payload: &[],
 };
 
-// Reads the segment that the packet carries. Whether it carries one.
-fn read<'a>(packet: &'a [u8], ip: &mut IpRepr, repr: &mut TcpRepr<'a>) -> bool
+/// Reads the segment that the packet carries. Whether it carries one.
+pub(crate) fn read<'a>(packet: &'a [u8], ip: &mut IpRepr, repr: &mut TcpRepr<'a>) -> bool
     ensures value { with_segment ip.new (filled result (segment_of repr.new))
         ≡ tcp_packet_parsed (all_checksums Both) packet.now }
     ensures short { IsTrue result → length repr.new.payload.now ≤ 65535 }
