@@ -47,9 +47,8 @@ enum {
     SMOLTCP_END_ABORTED, SMOLTCP_END_ADDRESS
 };
 
-/* What smoltcp_tcp_explain answers: in which row of the tables of smoltcp_tcp_process a segment falls (RFC 9293, section
- * 3.10.7). smoltcp_row_name has the rows in words; `Row` of the crate sock_tcp says of each what becomes of the segment,
- * and in which section. */
+/* What smoltcp_tcp_explain answers: in which row of the tables of smoltcp_tcp_process a segment falls (RFC 9293,
+ * section 3.10.7). smoltcp_row_name has the rows in words; `Row` of the crate sock_tcp says what becomes of each. */
 enum {
     SMOLTCP_ROW_NOT_ACCEPTED, SMOLTCP_ROW_NO_SYN, SMOLTCP_ROW_RESET_UNACCEPTABLE, SMOLTCP_ROW_RESET_IN_TIME_WAIT,
     SMOLTCP_ROW_RESET_OUTSIDE, SMOLTCP_ROW_NO_ACK, SMOLTCP_ROW_OLD_ACK, SMOLTCP_ROW_ACK_UNACCEPTABLE,
