@@ -34,6 +34,8 @@ pub mod Timed
 pub mod Clocks
 pub mod Speaking
 pub mod LossSaid
+pub mod HeldRanges
+pub mod Duplicates
 pub mod Telling
 pub mod LossFollows
 pub mod Undoing
