@@ -39,6 +39,7 @@ pub mod Duplicates
 pub mod Telling
 pub mod LossFollows
 pub mod Undoing
+pub mod Below
 pub mod Late
 pub mod Pointed
 pub mod OwnWindows
