@@ -16,7 +16,7 @@ use Rattle.pair_core.specs.StreamEffects.{AcksBytes, AcksFin, AcksSyn, HearsAck}
 use Rattle.pair_core.specs.StreamModel.{Stream}
 use Rattle.pair_core.specs.StreamViews.{Unopened, Listening, SynSent, SynReceived, Open, FinQueued, Silent, Dead, HasIss, HasNoIss, IsSynchronized, Phase, SocketView, StreamSegment}
 use Rattle.pair_core.proofs.NetworkPhases.{synchronized_knows}
-use Rattle.sack_laws.specs.Told.{AllTrue, AreTrue, FirstIsTwice, IsTrueRange, IsTwiceRange, counted_by, has_byte}
+use Rattle.sack_laws.specs.Told.{AllTrue, AreTrue, IsTrueRange, IsTwiceRange, counted_by, has_byte}
 use Rattle.sack_laws.proofs.Heard.{has_accepted}
 
 pub iss_is : (p : Phase) → HasNoIss p ⊎ (HasIss p ⊎ (p ≡ Dead))

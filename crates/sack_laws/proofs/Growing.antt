@@ -11,7 +11,7 @@ use Rattle.pair_core.specs.Sides.{other_side}
 use Rattle.pair_core.specs.StreamViews.{Phase, Unopened, Listening, SynSent, SynReceived, Open, FinQueued, Silent, Dead, IsSynchronized, IsNonSynchronized}
 use Rattle.pair_core.specs.declared.side.Side.{Side}
 use Rattle.pair_core.specs.declared.side.Side.TheVariants.{A, B}
-use Rattle.sack_laws.specs.Told.{AllToldBy, AllTrue, AreTrue, FirstIsTwice, IsTold, IsTrueRange, IsTwiceRange, NoRange, ScoreboardIsTrue, TrueIn, counted_by, has_byte, keeps_scoreboard}
+use Rattle.sack_laws.specs.Told.{AllToldBy, AllTrue, AreTrue, IsTold, IsTrueRange, IsTwiceRange, NoRange, ScoreboardIsTrue, TrueIn, counted_by, has_byte, keeps_scoreboard}
 
 -- ---- phases
 

@@ -1,5 +1,5 @@
 -- What a side tells of bytes that came twice is so.
-use Rattle.std.proofs.Common.{◌≡◌, ◌⊎◌, ℕ, ◌+◌, ◌-◌, ◌<◌, ◌≤◌, ◌%◌, ◌^◌, arith, List, Bool, true, false, refl, sym, ap, ◌∙◌, Option, Some, is_some, inl, inr}
+use Rattle.std.proofs.Common.{◌≡◌, ◌⊎◌, ℕ, ◌+◌, ◌-◌, ◌<◌, ◌≤◌, ◌^◌, arith, Bool, true, false, refl, ap, ◌∙◌, Option, is_some, inl, inr}
 use Rattle.std.specs.Prelude.{nat_lt, ◌||◌}
 use Rattle.std.proofs.lemmas.Bool.Decides.{nat_tests}
 use Rattle.control_wire.specs.Segment.{Segment}
@@ -17,7 +17,7 @@ use Rattle.pair_core.specs.NetworkInvariant.{StreamInvariant}
 use Rattle.pair_core.specs.PairNetwork.{phase_of}
 use Rattle.pair_core.specs.StreamModel.{Stream}
 use Rattle.pair_core.specs.StreamViews.{IsSynchronized}
-use Rattle.sack_laws.specs.Told.{IsTwiceRange, has_byte}
+use Rattle.sack_laws.specs.Told.{IsTwiceRange}
 use Rattle.sack_laws.proofs.Heard.{fin_holds_none}
 
 pub heeds_synced : (st : State) → is_heeding st ≡ true → IsSynchronized (phase_of st)

@@ -10,7 +10,6 @@ use Rattle.control_wire.specs.Segment.{Segment, options_len, sack_option_len}
 use Rattle.control_wire.specs.Seq.{seq_sub}
 use Rattle.control_wire.specs.declared.seq_number.TcpSeqNumber.{TcpSeqNumber}
 use Rattle.control_wire.specs.declared.tcp.TcpControl.{TcpControl}
-use Rattle.control_wire.specs.declared.tcp.TcpControl.TheVariants as control
 use Rattle.control_wire.specs.declared.tcp.TcpTimestampRepr.{TcpTimestampRepr}
 use Rattle.sock_tcp.specs.Replies.{reply_ip, bare_reply, rst_segment, with_header, chosen_range, first_of, wire_edges, told_by, told_of, sack_ranges, ack_segment, IsSentAs}
 use Rattle.net_base.specs.Ranges.{edges}

@@ -1,6 +1,6 @@
 -- A duplicate acknowledgement whose SACK blocks begin before SND.UNA changes nothing but what it undoes.
-use Rattle.std.proofs.Common.{◌≡◌, ℕ, ◌+◌, ◌-◌, ◌<◌, ◌≤◌, ◌%◌, ◌^◌, arith, length, List, [], ◌∷◌, Bool, true, false, not, ◌&&◌, ◌||◌, refl, sym, ap, subst, ◌∙◌, Option, Some, None}
-use Rattle.std.specs.Prelude.{if◌then◌else◌, min, nat_le, nat_lt, ◌==◌}
+use Rattle.std.proofs.Common.{◌≡◌, ℕ, ◌+◌, ◌-◌, ◌≤◌, ◌^◌, arith, length, List, [], ◌∷◌, Bool, true, false, not, ◌&&◌, ◌||◌, refl, sym, ap, subst, ◌∙◌, Option, Some, None}
+use Rattle.std.specs.Prelude.{if◌then◌else◌, nat_le, nat_lt, ◌==◌}
 use Rattle.std.proofs.lemmas.Bool.Decides.{nat_tests}
 use Rattle.net_base.specs.declared.time.Instant.{Instant}
 use Rattle.net_base.specs.declared.time.Duration.{Duration}
@@ -9,16 +9,15 @@ use Rattle.control_wire.specs.Seq.{seq_eq, seq_of, seq_sub}
 use Rattle.control_wire.specs.declared.seq_number.TcpSeqNumber.{TcpSeqNumber}
 use Rattle.sock_core.specs.Places.{number_is_before, number_distance}
 use Rattle.sock_core.specs.Seq.{is_before}
-use Rattle.sock_core.specs.declared.congestion.AnyController.{AnyController}
 use Rattle.sock_core.specs.Congestion.{partially_acked}
 use Rattle.sock_core.specs.Estimator.{Estimator}
 use Rattle.sock_tcp.specs.Content.{carries_data}
 use Rattle.sock_tcp.specs.Due.{flight}
-use Rattle.sock_tcp.specs.Rfc.Recovery.{again, again_by, before_it, before_of, begins, controller_after, duplicates_after, echo_known, gone_on, gone_on_from, has_timer, heard_for, is_called, is_counted, is_early, is_fast, is_later_partial, is_lost_again, is_news, is_over, is_partial, is_partial_in, is_recovering, is_told_lost, is_undone, is_void, is_waited, is_telling, kept_if, left_running, lets_out, marks, may_resend, may_tell, probe_from_last, probe_soonest, recovered, recovered_from, recovery_after, reordering_after, resends, running, sacked_after, sacked_by, segments_out, shows_hole, spared, tellable, tells_controller, tells_loss, timer_after, told_of_bytes, twice_told, undone_if, unless_twice, waited_for, waits_late, waits_tail}
+use Rattle.sock_tcp.specs.Rfc.Recovery.{again, again_by, before_it, before_of, begins, controller_after, echo_known, gone_on, gone_on_from, has_timer, heard_for, is_called, is_fast, is_later_partial, is_news, is_over, is_partial, is_partial_in, is_recovering, is_undone, is_void, is_waited, is_telling, kept_if, left_running, marks, may_resend, may_tell, probe_from_last, probe_soonest, recovered, recovered_from, reordering_after, running, sacked_after, sacked_by, shows_hole, spared, tellable, tells_controller, tells_loss, timer_after, told_of_bytes, twice_told, undone_if, unless_twice, waited_for, waits_late, waits_tail}
 use Rattle.sock_tcp.specs.Rfc.Reordering.{late_set, late_wait, one_more}
-use Rattle.sock_tcp.specs.Rfc.RoundTrips.{begun_again, echo_of}
+use Rattle.sock_tcp.specs.Rfc.RoundTrips.{echo_of}
 use Rattle.sock_tcp.specs.Rfc.TailLoss.{is_alone, tail_waits}
-use Rattle.sock_tcp.specs.Rfc.Scoreboard.{any_news, block_from, is_credible, is_known, moved, nothing_told, tells_news}
+use Rattle.sock_tcp.specs.Rfc.Scoreboard.{any_news, block_from, is_credible, moved, nothing_told}
 use Rattle.sock_tcp.specs.declared.recovery.Before.{Before}
 use Rattle.sock_tcp.specs.declared.recovery.Recovery.{Recovery}
 use Rattle.sock_tcp.specs.declared.recovery.Recovery.TheVariants as recovery

@@ -1,12 +1,11 @@
 -- What an acknowledgement tells of bytes that came twice is so.
-use Rattle.std.proofs.Common.{◌≡◌, ◌⊎◌, ℕ, ◌+◌, ◌-◌, ◌<◌, ◌≤◌, Bool, true, false, refl, sym, ap, ◌∙◌, arith, List, [], ◌∷◌, length, Option, Some, None, is_some, inl, inr, ◌&&◌}
+use Rattle.std.proofs.Common.{◌≡◌, ◌⊎◌, ℕ, ◌+◌, ◌-◌, ◌<◌, ◌≤◌, Bool, true, false, refl, sym, ap, ◌∙◌, arith, List, [], ◌∷◌, length, Option, Some, None, inl, inr, ◌&&◌}
 use Rattle.std.specs.Prelude.{if◌then◌else◌, min, nat_le, slice_index_or, zero, suc, ◌==◌}
-use Rattle.std.proofs.lemmas.Bool.{and_parts, cases_lt, leb-true}
+use Rattle.std.proofs.lemmas.Bool.{and_parts, leb-true}
 use Rattle.std.proofs.lemmas.Bool.Decides.{nat_tests}
 use Rattle.net_base.specs.Ranges.{edges}
 use Rattle.control_wire.specs.Segment.{Segment}
-use Rattle.control_wire.specs.Seq.{seq_add, seq_sub}
-use Rattle.control_wire.specs.declared.seq_number.TcpSeqNumber.{TcpSeqNumber}
+use Rattle.control_wire.specs.Seq.{seq_sub}
 use Rattle.control_wire.specs.declared.tcp.TcpControl.{TcpControl}
 use Rattle.control_wire.specs.declared.tcp.TcpControl.TheVariants as control
 use Rattle.sock_core.specs.Received.{lies_around, range_around, ranges_of, room_of}
@@ -17,8 +16,8 @@ use Rattle.sock_tcp.specs.Rfc.Windows.{is_heeding}
 use Rattle.sock_tcp.specs.View.{View}
 use Rattle.sock_tcp.specs.Window.{next_ack}
 use Rattle.sock_tcp.specs.declared.rules.Rules.TheVariants as rules
-use Rattle.tcp_laws.specs.Telling.{AllHeld, HadCome, IsDuplicate, IsHeldRange, TellsRanges}
-use Rattle.tcp_laws.proofs.HeldRanges.{AllOf, AnyOf, IsOf, all_of, around_of}
+use Rattle.tcp_laws.specs.Telling.{AllHeld, HadCome, IsHeldRange, TellsRanges}
+use Rattle.tcp_laws.proofs.HeldRanges.{AnyOf, IsOf, all_of, around_of}
 
 -- nothing else than what is held, as long as what came twice is not told
 abbrev pub SaysHeld : View → Option Segment → Type 0

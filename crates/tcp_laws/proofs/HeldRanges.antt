@@ -1,5 +1,5 @@
 -- Ranges of bytes that a socket holds: one of them, or one around an offset.
-use Rattle.std.proofs.Common.{◌≡◌, ℕ, ◌+◌, ◌<◌, ◌≤◌, Bool, true, false, refl, sym, ap, ◌∙◌, arith, List, [], ◌∷◌, Option, Some, None, is_some, ◌||◌}
+use Rattle.std.proofs.Common.{◌≡◌, ℕ, ◌+◌, ◌<◌, ◌≤◌, Bool, true, false, refl, ap, arith, List, [], ◌∷◌, Option, Some, None, is_some, ◌||◌}
 use Rattle.std.specs.Prelude.{if◌then◌else◌, slice_get, zero, suc}
 use Rattle.std.proofs.lemmas.Bool.Decides.{nat_tests}
 use Rattle.net_base.specs.Ranges.{Apart, edges, is_held, is_within}

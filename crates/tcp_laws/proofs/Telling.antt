@@ -1,19 +1,16 @@
 -- What a socket tells by SACK is what it holds.
-use Rattle.std.proofs.Common.{◌≡◌, ℕ, ◌+◌, ◌-◌, ◌<◌, ◌≤◌, Bool, true, false, refl, sym, ap, subst, ◌∙◌, arith, List, [], ◌∷◌, length, Option, Some, None, is_some, ◌||◌, ◌&&◌, inl, inr}
-use Rattle.std.specs.Prelude.{int_lt, nat_lt, ◌==◌, if◌then◌else◌, slice_get, option_map, zero, suc}
-use Rattle.std.proofs.lemmas.Bool.Decides.{nat_tests}
+use Rattle.std.proofs.Common.{◌≡◌, ℕ, ◌+◌, ◌-◌, Bool, true, false, refl, sym, ap, subst, ◌∙◌, arith, List, [], ◌∷◌, length, Option, Some, None, ◌||◌, ◌&&◌, inl, inr}
+use Rattle.std.specs.Prelude.{int_lt, nat_lt, ◌==◌, if◌then◌else◌, slice_get, option_map}
 use Rattle.std.proofs.lemmas.Option.{none-some}
 use Rattle.ip_wire.specs.declared.repr.IpRepr.{IpRepr}
-use Rattle.net_base.specs.Ranges.{Apart, edges, is_held, is_within}
-use Rattle.net_base.specs.declared.assembler.Range.{Range}
+use Rattle.net_base.specs.Ranges.{edges}
 use Rattle.net_base.specs.declared.time.Instant.{Instant}
 use Rattle.control_wire.specs.Segment.{Segment}
-use Rattle.control_wire.specs.Seq.{seq_add, seq_sub}
-use Rattle.control_wire.specs.declared.seq_number.TcpSeqNumber.{TcpSeqNumber}
+use Rattle.control_wire.specs.Seq.{seq_add}
 use Rattle.control_wire.specs.declared.tcp.TcpControl.{TcpControl}
 use Rattle.control_wire.specs.declared.tcp.TcpControl.TheVariants as control
 use Rattle.sock_core.specs.Facts.{Facts}
-use Rattle.sock_core.specs.Received.{byte_at, holds_nothing, lies_around, makes_fifth_range, range_around, ranges_of}
+use Rattle.sock_core.specs.Received.{holds_nothing, makes_fifth_range, ranges_of}
 use Rattle.sock_core.proofs.Receiving.{ranges_are}
 use Rattle.sock_tcp.specs.Acked.{acked_of}
 use Rattle.sock_tcp.specs.Advance.{advance_in, advanced, counted_control}
@@ -22,7 +19,7 @@ use Rattle.sock_tcp.specs.Begin.{before_emit, peer_of}
 use Rattle.sock_tcp.specs.Content.{Sending, content, emission_kind, filled, of_kind, plain_segment, sent_as}
 use Rattle.sock_tcp.specs.Closing.{closed_from}
 use Rattle.sock_tcp.specs.Process.{Outcome, ack_sent, after_advance, by_verdict, bytes_taken, challenged, close_restarted, closed_then, cut_inside, gap_answered, has_window, outside, outside_by, processed_by, processed_inside, stopped, tested_by, tuple_of, without_place}
-use Rattle.sock_tcp.specs.Replies.{ack_kept, ack_segment, chosen_range, first_of, rst_segment, is_same, sack_ranges, second_range, third_range, told_by, told_of, wire_edges}
+use Rattle.sock_tcp.specs.Replies.{ack_kept, ack_segment, chosen_range, rst_segment, is_same, sack_ranges, second_range, third_range, told_by, told_of, wire_edges}
 use Rattle.sock_tcp.specs.Rfc.Checks.{verdict_by}
 use Rattle.sock_tcp.specs.Rfc.Duplicates.{duplicate_told}
 use Rattle.sock_tcp.specs.Rfc.Recovery.{before_of, recovered, recovered_by}

@@ -8,7 +8,7 @@ use Rattle.control_wire.specs.declared.seq_number.TcpSeqNumber.{TcpSeqNumber}
 use Rattle.sock_core.specs.Congestion.{with_remote_window}
 use Rattle.sock_core.specs.Seq.{is_before}
 use Rattle.sock_tcp.specs.Content.{carries_data}
-use Rattle.sock_tcp.specs.Rfc.Recovery.{before_of, gone_on, has_timer, is_undone, recovered, repeats_by, unless_twice}
+use Rattle.sock_tcp.specs.Rfc.Recovery.{before_of, gone_on, is_undone, recovered, repeats_by, unless_twice}
 use Rattle.sock_tcp.specs.View.{View}
 use Rattle.sock_tcp.specs.declared.timer.Timer.TheVariants as timer
 
