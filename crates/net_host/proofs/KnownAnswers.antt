@@ -5,12 +5,12 @@ use Rattle.ip_wire.specs.declared.repr.IpRepr.{IpRepr}
 use Rattle.control_wire.specs.Segment.{Segment}
 use Rattle.sock_core.specs.Facts.{Facts}
 use Rattle.sock_tcp.specs.Draw.{Draws, draws}
-use Rattle.sock_tcp.specs.Process.{Processes, answered, processed, reply_of, source_kept}
+use Rattle.sock_tcp.specs.Process.{Processes, processed, reply_of, responded, source_kept}
 use Rattle.sock_tcp.specs.Replies.{Answers, IsReplyStamp, echoed}
 use Rattle.sock_tcp.specs.Rfc.Numbers.{reply_numbered}
 use Rattle.sock_tcp.specs.Verdict.{verdict_of}
 use Rattle.sock_tcp.specs.View.{moment_of}
-use Rattle.sock_tcp.specs.declared.process.Answer.{Answer}
+use Rattle.sock_tcp.specs.declared.duplicates.Response.{Response}
 use Rattle.sock_tcp.specs.declared.socket.Socket as tcp
 use Rattle.smoltcp_socket.specs.declared.socket.Socket.TheVariants as socket
 use Rattle.net_host.specs.Answered.{HearsOut, PutsAnswer}
@@ -33,7 +33,7 @@ facts_kept facts word_at old new true h = h.same
 facts_kept facts word_at old new false h = ap facts h
 
 -- x takes the segment and is m then, and y once it has answered
-pub heard_out : {C G : Type 0} (facts : C → Facts) (word_at : C → ℕ → ℕ) (tells : G → ℕ → Type 0) (before : Slot G) (x m y : tcp.Socket G) (o : Answer) (cx cx' : C) (l l' : Limit) (ip : IpRepr) (s : Segment) (out out' : List ℕ) (n : ℕ) → before.socket ≡ Some (socket.Tcp x) → answered o m.control_block s ≡ processed x.control_block (moment_of (facts cx)) (word_at cx 0) ip s → Draws (draws (verdict_of x.control_block s.control s.ack_number) x.control_block.state s.control) facts word_at cx cx' → m.tsval_generator ≡ source_kept m.control_block.stamps x.tsval_generator → PutsAnswer (IsReplyStamp tells m.tsval_generator (echoed y.control_block s.timestamp)) (facts cx') l ip (answered o m.control_block s) y.control_block out n l' out' → y.tsval_generator ≡ m.tsval_generator → HearsOut facts word_at tells before cx l ip s out n (record { generation = before.generation; socket = Some (socket.Tcp y); guard = before.guard; opened = before.opened }) cx' l' out'
+pub heard_out : {C G : Type 0} (facts : C → Facts) (word_at : C → ℕ → ℕ) (tells : G → ℕ → Type 0) (before : Slot G) (x m y : tcp.Socket G) (o : Response) (cx cx' : C) (l l' : Limit) (ip : IpRepr) (s : Segment) (out out' : List ℕ) (n : ℕ) → before.socket ≡ Some (socket.Tcp x) → responded o m.control_block s ≡ processed x.control_block (moment_of (facts cx)) (word_at cx 0) ip s → Draws (draws (verdict_of x.control_block s.control s.ack_number) x.control_block.state s.control) facts word_at cx cx' → m.tsval_generator ≡ source_kept m.control_block.stamps x.tsval_generator → PutsAnswer (IsReplyStamp tells m.tsval_generator (echoed y.control_block s.timestamp)) (facts cx') l ip (responded o m.control_block s) y.control_block out n l' out' → y.tsval_generator ≡ m.tsval_generator → HearsOut facts word_at tells before cx l ip s out n (record { generation = before.generation; socket = Some (socket.Tcp y); guard = before.guard; opened = before.opened }) cx' l' out'
 heard_out facts word_at tells before x m y o cx cx' l l' ip s out out' n is table drawn source p same =
     let stamps : m.control_block.stamps ≡ y.control_block.stamps = sym m.stamped ∙ ap is_some (sym same) ∙ y.stamped in
     let call : Processes facts word_at (IsReplyStamp tells y.tsval_generator (echoed y.control_block s.timestamp)) x.control_block cx ip s p.reply y.control_block cx' = record {

@@ -1,7 +1,7 @@
 //! A connection hears a segment, and what it answers is written as a packet.
 ghost use Rattle.std.specs.Prelude.{◌≡◌, ◌<◌, ◌≤◌, IfSome, false, length, slice_get};
 ghost use Rattle.control_wire.specs.Segment.{segment_of};
-ghost use Rattle.sock_tcp.specs.Process.{answered};
+ghost use Rattle.sock_tcp.specs.Process.{responded};
 ghost use Rattle.sock_tcp.specs.Replies.{IsReplyStamp, echoed};
 ghost use Rattle.net_host.specs.Answered.{HearsOut, PutsAnswer};
 ghost use Rattle.net_host.specs.Segments.{TakesSegment};
@@ -13,7 +13,7 @@ use crate::segments::keep_within;
 use crate::slot::Slot;
 use smoltcp_socket::wire::{IpRepr, TcpRepr};
 use smoltcp_socket::{Context, Socket, tcp};
-use sock_tcp::{Answer, TsvalSource};
+use sock_tcp::{Response, TsvalSource};
 
 // What goes out of the answer to a segment that the socket took: the length of its packet, at the beginning of `out`.
 // Not inlined, as most segments are answered by nothing, and the space for a reply is cleared where it is made.
@@ -22,7 +22,7 @@ fn put_answer<C: Context, G: TsvalSource>(
     tcp: &mut tcp::Socket<'_, G>,
     cx: &C,
     limit: &mut Limit,
-    answer: Answer,
+    response: Response,
     ip: &IpRepr,
     repr: &TcpRepr<'_>,
     out: &mut [u8],
@@ -32,12 +32,12 @@ fn put_answer<C: Context, G: TsvalSource>(
     ensures within { result ≤ length out.old }
     ensures put { PutsAnswer (IsReplyStamp G.tells tcp.old.tsval_generator
         (echoed tcp.new.control_block repr.now.timestamp)) (C.facts cx.now) limit.old ip.now
-        (answered answer tcp.old.control_block (segment_of repr.now)) tcp.new.control_block out.old result limit.new
+        (responded response tcp.old.control_block (segment_of repr.now)) tcp.new.control_block out.old result limit.new
         out.new }
     ensures generator { tcp.new.tsval_generator ≡ tcp.old.tsval_generator }
 {
     let caps = cx.checksum_caps();
-    let mut reply = tcp.reply_by(answer, ip, repr);
+    let mut reply = tcp.reply_by(response, ip, repr);
     keep_within(limit, cx.now(), ip, &mut reply);
     put_reply(&reply, out, &caps)
 }
@@ -62,9 +62,11 @@ impl<'a, G: TsvalSource> Slot<'a, G> {
     {
         match &mut self.socket {
             Some(Socket::Tcp(tcp)) => match tcp.take_segment(cx, ip, repr) {
-                Answer::Nothing => 0,
-                Answer::Ack => put_answer(tcp, cx, limit, Answer::Ack, ip, repr, out),
-                Answer::Rst => put_answer(tcp, cx, limit, Answer::Rst, ip, repr, out),
+                Response::Nothing => 0,
+                Response::Ack(count) => {
+                    put_answer(tcp, cx, limit, Response::Ack(count), ip, repr, out)
+                }
+                Response::Rst => put_answer(tcp, cx, limit, Response::Rst, ip, repr, out),
             },
             _ => 0,
         }

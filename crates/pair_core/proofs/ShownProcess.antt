@@ -19,6 +19,7 @@ use Rattle.sock_core.specs.Streams.{fin_length}
 use Rattle.pair_core.proofs.ShownNumbers.{renumbered_effect}
 use Rattle.sock_tcp.specs.Rfc.Windows.{ack_heeded, is_heeded, is_heeding, windowed}
 use Rattle.tcp_laws.proofs.Heeding.{heeded_none, heeded_small}
+use Rattle.sock_tcp.specs.Rfc.Duplicates.{duplicate_told}
 use Rattle.sock_tcp.specs.Rfc.Numbers.{reply_numbered}
 use Rattle.sock_tcp.specs.Arrival.{Arrival, arrival}
 use Rattle.sock_tcp.specs.View.{View, FinSays}
@@ -27,7 +28,7 @@ use Rattle.sock_tcp.specs.Window.{next_ack, accepted_window, honored_window, is_
 use Rattle.sock_tcp.specs.Acked.{syn_place, acked_places, acked_at, acked_of, nothing_acked}
 use Rattle.sock_tcp.specs.Advance.{advanced, advance_in, counted_control, dropped, fallen_back, fin_counted, moved_to, opened_state, options_taken, syn_answered, syn_received, waiting, nothing_new_by}
 use Rattle.ip_wire.specs.declared.endpoint.IpListenEndpoint.{IpListenEndpoint}
-use Rattle.sock_tcp.specs.Process.{Outcome, stopped, tuple_of, after_table, after_advance, has_window, challenged, outside, bytes_taken, processed_inside, cut_inside, tested, by_verdict, closed_then, processed, processed_by, Accepts, AcceptsIn, IsAddressed}
+use Rattle.sock_tcp.specs.Process.{Outcome, stopped, tuple_of, after_table, after_advance, has_window, challenged, outside, bytes_taken, processed_inside, cut_inside, tested, by_verdict, closed_then, processed, processed_by, told_then, Accepts, AcceptsIn, IsAddressed}
 use Rattle.sock_tcp.specs.Closing.{closed_from, late_from}
 use Rattle.sock_tcp.specs.Rfc.Recovery.{before_of, recovered, recovered_by}
 use Rattle.sock_tcp.specs.Rfc.Refused.{is_fin as rfc_fin}
@@ -638,6 +639,15 @@ module _ (v : View) (now : Instant) (word : ℕ) (ip : IpRepr) (s : Segment) (at
       by true = late_by o.view o.reply o.view.state refl h
       by false = h
 
+  -- what is told by SACK is no part of a stream
+  told_effect : (r : Rules) (o : Outcome) → IsEffect o → IsEffect (told_then r v s o)
+  told_effect rules.Smoltcp o h = h
+  told_effect rules.Rfc o h = by o.reply h
+    where
+      by : (x : Option Segment) → IsEffect (record { view = o.view; reply = x }) → IsEffect (record { view = o.view; reply = duplicate_told rules.Rfc v s x })
+      by None e = e
+      by (Some x) e = e
+
   -- in a state with a window
   challenged_in : has_window v.state ≡ true → IsEffect (challenged v now s)
   challenged_in w = answered w (challenged v now s) (challenged_there s now v (shown v) refl)
@@ -656,7 +666,8 @@ module _ (v : View) (now : Instant) (word : ℕ) (ip : IpRepr) (s : Segment) (at
   by_the_verdict verdicts.Pass e small_word =
       let o : Outcome = tested (has_window v.state) v (arrival now (tuple_of ip s) word s) in
       let h = is_tested (has_window v.state) refl e small_word in
-      closed_effect v.rules (recovered_by v.rules v now s o) (recovered_as IsEffect v.rules v now s o h (recovered_effect o h))
+      told_effect v.rules (closed_then v.rules (recovered_by v.rules v now s o))
+      (closed_effect v.rules (recovered_by v.rules v now s o) (recovered_as IsEffect v.rules v now s o h (recovered_effect o h)))
 
 -- ---- an acknowledgement that is ignored
 

@@ -16,10 +16,10 @@ use Rattle.pair_core.specs.StreamEffects.{AcksBytes, AcksFin, AcksSyn, HearsAck}
 use Rattle.pair_core.specs.StreamModel.{Stream}
 use Rattle.pair_core.specs.StreamViews.{Unopened, Listening, SynSent, SynReceived, Open, FinQueued, Silent, Dead, HasIss, HasNoIss, IsSynchronized, Phase, SocketView, StreamSegment}
 use Rattle.pair_core.proofs.NetworkPhases.{synchronized_knows}
-use Rattle.sack_laws.specs.Told.{AllTrue, IsTrueRange, counted_by, has_byte}
+use Rattle.sack_laws.specs.Told.{AllTrue, AreTrue, IsTrueRange, IsTwiceRange, counted_by, has_byte}
 use Rattle.sack_laws.proofs.Heard.{has_accepted}
 
-iss_is : (p : Phase) → HasNoIss p ⊎ (HasIss p ⊎ (p ≡ Dead))
+pub iss_is : (p : Phase) → HasNoIss p ⊎ (HasIss p ⊎ (p ≡ Dead))
 iss_is Unopened = inl tt
 iss_is Listening = inl tt
 iss_is SynSent = inr (inl tt)
@@ -54,7 +54,7 @@ module _ (x y : Endpoint) (o : ℕ) (f : Stream) (i : StreamInvariant x y o f) w
 
   -- ---- one range, of which n bytes behind SND.UNA may be believed
 
-  module _ (una : TcpSeqNumber) (low n : ℕ) (young : y.taken < low + 2 ^ 29) (bound : (k : ℕ) → k < length x.accepted → n < 2 ^ 32 - 2 ^ 29) (synced : IsSynchronized y.view.phase) (place : (k : ℕ) → k < length x.accepted → una.0 ≡ number_at o (x.released + 2)) where
+  module _ (una : TcpSeqNumber) (low n : ℕ) (young : y.taken < low + 2 ^ 29) (bound : n ≤ 2 ^ 30 + 1) (most : n ≤ length x.accepted + 1) (synced : IsSynchronized y.view.phase) (place : (k : ℕ) → k < length x.accepted → una.0 ≡ number_at o (x.released + 2)) where
     number_of : (r first : ℕ) → r < 2 ^ 32 → (r + counted_by y) % 2 ^ 32 ≡ (y.view.rcv_nxt + first) % 2 ^ 32 → r ≡ number_at o (first + 2)
     unfolding number_at
     number_of r first small e =
@@ -94,13 +94,13 @@ module _ (x y : Endpoint) (o : ℕ) (f : Stream) (i : StreamInvariant x y o f) w
           less : seq_sub (seq_of r.0) una < seq_sub (seq_of r.1) una
           less = ltb-true (seq_sub (seq_of r.0) una) (seq_sub (seq_of r.1) una) both.0
 
-          most : seq_sub (seq_of r.1) una ≤ n
-          most = leb-true (seq_sub (seq_of r.1) una) n both.1
+          upto : seq_sub (seq_of r.1) una ≤ n
+          upto = leb-true (seq_sub (seq_of r.1) una) n both.1
 
           by : (t.first < x.released) ⊎ (x.released ≤ t.first) → has_byte y (x.released + z) ≡ true
           by (inl behind) =
               let start = start_is ∙ distance_down o (t.first + 2) (x.released + 2) (omega (arith, behind)) (omega (arith, young, released_le, t.since)) in
-              absurd (omega (arith, start, less, most, bound t.first (omega (arith, last, t.some)), young, released_le, t.since, behind))
+              absurd (omega (arith, start, less, upto, bound, young, released_le, t.since, behind))
           by (inr ahead) =
               let start = start_is ∙ distance_up o (t.first + 2) (x.released + 2) (omega (arith, ahead)) (omega (arith, last, room, t.some)) in
               let end = end_is ∙ distance_up o (t.first + t.len + 2) (x.released + 2) (omega (arith, ahead)) (omega (arith, last, room, t.some)) in
@@ -108,12 +108,78 @@ module _ (x y : Endpoint) (o : ℕ) (f : Stream) (i : StreamInvariant x y o f) w
               let to : x.released + z - t.first < t.len = omega (arith, h.1, end, ahead, from) in
               subst (λ k. has_byte y k ≡ true) {x = t.first + (x.released + z - t.first)} {y = x.released + z} (omega (arith, from)) (t.there (x.released + z - t.first) to)
 
+    -- one of bytes that came twice: its counts have 2^32 added
+    module _ (r : ℕ × ℕ) (t : IsTwiceRange y low r) where
+      round : una.0 ≡ number_at o (x.released + 2) → una.0 ≡ number_at o (x.released + 2 ^ 32 + 2)
+      unfolding number_at
+      round e = omega (arith, e)
+
+      module _ (z : ℕ) (c : is_credible n (block_from una r) ≡ true) (h : Covers (block_from una r) z) where
+        believed : (nat_lt 0 (seq_sub (seq_of r.0) una) ≡ true) × ((nat_lt (seq_sub (seq_of r.0) una) (seq_sub (seq_of r.1) una) && nat_le (seq_sub (seq_of r.1) una) n) ≡ true)
+        believed = and_parts (nat_lt 0 (seq_sub (seq_of r.0) una)) (nat_lt (seq_sub (seq_of r.0) una) (seq_sub (seq_of r.1) una) && nat_le (seq_sub (seq_of r.1) una) n) c
+
+        both : (nat_lt (seq_sub (seq_of r.0) una) (seq_sub (seq_of r.1) una) ≡ true) × (nat_le (seq_sub (seq_of r.1) una) n ≡ true)
+        both = and_parts (nat_lt (seq_sub (seq_of r.0) una) (seq_sub (seq_of r.1) una)) (nat_le (seq_sub (seq_of r.1) una) n) believed.1
+
+        some : 0 < seq_sub (seq_of r.0) una
+        some = ltb-true 0 (seq_sub (seq_of r.0) una) believed.0
+
+        goes_up : seq_sub (seq_of r.0) una < seq_sub (seq_of r.1) una
+        goes_up = ltb-true (seq_sub (seq_of r.0) una) (seq_sub (seq_of r.1) una) both.0
+
+        upto : seq_sub (seq_of r.1) una ≤ n
+        upto = leb-true (seq_sub (seq_of r.1) una) n both.1
+
+        below : x.released ≤ y.taken
+        below = omega (arith, i.sound.released, i.released, i.taken)
+
+        module _ (any : 0 < length x.accepted) where
+          here : una.0 ≡ number_at o (x.released + 2 ^ 32 + 2)
+          here = round (place 0 any)
+
+          from_here : seq_sub (seq_of r.0) una ≡ number_distance (number_at o (t.first + 2)) (number_at o (x.released + 2 ^ 32 + 2))
+          unfolding number_distance
+          from_here = λ j. (number_of r.0 t.first t.small.0 t.begins j + (2 ^ 32 - here j)) % 2 ^ 32
+
+          to_here : seq_sub (seq_of r.1) una ≡ number_distance (number_at o (t.first + t.len + 2)) (number_at o (x.released + 2 ^ 32 + 2))
+          unfolding number_distance
+          to_here = λ j. (number_of r.1 (t.first + t.len) t.small.1 t.ends j + (2 ^ 32 - here j)) % 2 ^ 32
+
+          ahead : x.released + 2 ^ 32 ≤ t.first → has_byte y (x.released + z) ≡ true
+          ahead on =
+              let last = has_accepted x y o f i (t.first + t.len - 1 - 2 ^ 32) synced (t.there (t.first + t.len - 1 - 2 ^ 32) (omega (arith, on, t.some)) (omega (arith, on, t.some))) in
+              let room : length x.accepted ≤ x.released + 2 ^ 30 = omega (arith, i.fits.room, ap length i.accepted, i.released) in
+              let start = from_here ∙ distance_up o (t.first + 2) (x.released + 2 ^ 32 + 2) (omega (arith, on)) (omega (arith, last, room, t.some, on)) in
+              let end = to_here ∙ distance_up o (t.first + t.len + 2) (x.released + 2 ^ 32 + 2) (omega (arith, on)) (omega (arith, last, room, t.some, on)) in
+              t.there (x.released + z) (omega (arith, h.0, start, on)) (omega (arith, h.1, end, on))
+
+          by_place : (t.first < x.released + 2 ^ 32) ⊎ (x.released + 2 ^ 32 ≤ t.first) → has_byte y (x.released + z) ≡ true
+          by_place (inl behind) =
+              let start = from_here ∙ distance_down o (t.first + 2) (x.released + 2 ^ 32 + 2) (omega (arith, behind)) (omega (arith, young, below, t.since)) in
+              absurd (omega (arith, start, goes_up, upto, bound, young, below, t.since, behind))
+          by_place (inr on) = ahead on
+
+        pub in_twice : has_byte y (x.released + z) ≡ true
+        in_twice = by (cases_lt 0 (length x.accepted))
+          where
+            by : (0 < length x.accepted) ⊎ (length x.accepted ≤ 0) → has_byte y (x.released + z) ≡ true
+            by (inl any) = by_place any (cases_lt t.first (x.released + 2 ^ 32))
+            by (inr none) = absurd (omega (arith, none, most, some, goes_up, upto))
+
     pub in_any : (rs : List (Option (ℕ × ℕ))) → AllTrue y low rs → (z : ℕ) → IsInAny n una rs z → has_byte y (x.released + z) ≡ true
     in_any [] a z h = absurd h
     in_any (None ∷ rs) a z (inl h) = absurd h
     in_any (None ∷ rs) a z (inr h) = in_any rs a z h
     in_any (Some r ∷ rs) a z (inl h) = in_range r a.0 z h.0 h.1
     in_any (Some r ∷ rs) a z (inr h) = in_any rs a.1 z h
+
+    pub in_these : (rs : List (Option (ℕ × ℕ))) → AreTrue y low rs → (z : ℕ) → IsInAny n una rs z → has_byte y (x.released + z) ≡ true
+    in_these rs (inl a) z h = in_any rs a z h
+    in_these rs (inr t) z h = by (subst (λ os. IsInAny n una os z) t.are h)
+      where
+        by : IsInAny n una (Some t.first ∷ t.others) z → has_byte y (x.released + z) ≡ true
+        by (inl one) = in_twice t.first t.twice z one.0 one.1
+        by (inr more) = in_any t.others t.all z more
 
   -- ---- SND.UNA moves by what is released
 

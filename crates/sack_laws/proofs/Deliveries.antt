@@ -1,5 +1,5 @@
 -- What a delivery keeps.
-use Rattle.std.proofs.Common.{◌≡◌, ◌⊎◌, ℕ, ◌+◌, ◌-◌, ◌<◌, ◌%◌, ◌^◌, arith, List, [], ◌∷◌, length, Bool, true, false, true≢false, refl, sym, ap, subst, ◌∙◌, Option, Some, None, inl, inr}
+use Rattle.std.proofs.Common.{◌≡◌, ◌⊎◌, ℕ, ◌+◌, ◌-◌, ◌<◌, ◌≤◌, ◌%◌, ◌^◌, arith, List, [], ◌∷◌, length, Bool, true, false, true≢false, refl, sym, ap, subst, ◌∙◌, Option, Some, None, inl, inr, length-drop}
 use Rattle.std.specs.Prelude.{IsTrue, nat_le, ◌||◌, slice_get, option_map}
 use Rattle.std.proofs.lemmas.Bool.Decides.{nat_tests}
 use Rattle.ip_wire.specs.declared.repr.IpRepr.{IpRepr}
@@ -10,21 +10,23 @@ use Rattle.control_wire.specs.declared.tcp.TcpControl.{TcpControl}
 use Rattle.control_wire.specs.declared.tcp.TcpControl.TheVariants as control
 use Rattle.control_wire.specs.declared.tcp.TcpTimestampRepr.{TcpTimestampRepr}
 use Rattle.sock_core.specs.Places.{number_at}
+use Rattle.sock_core.specs.Received.{byte_at}
 use Rattle.sock_tcp.specs.Process.{Accepts, processed_by}
 use Rattle.sock_tcp.specs.Replies.{Answers, IsReplyStamp, echoed}
 use Rattle.sock_tcp.specs.Rfc.Numbers.{reply_numbered}
-use Rattle.sock_tcp.specs.Rfc.Recovery.{sent_of}
+use Rattle.sock_tcp.specs.Rfc.Recovery.{tellable}
 use Rattle.sock_tcp.specs.View.{View}
 use Rattle.sock_tcp.specs.Window.{next_ack}
+use Rattle.sock_tcp.specs.declared.rules.Rules.{Rules}
 use Rattle.sock_tcp.specs.declared.rules.Rules.TheVariants as rules
 use Rattle.sock_tcp.specs.declared.state.State.{State}
 use Rattle.sock_tcp.specs.declared.state.State.TheVariants as state
 use Rattle.tcp_laws.specs.Laws.{MayTake}
 use Rattle.tcp_laws.specs.Loss.{FollowsSegment, IsInAny, Tells, una_moved}
-use Rattle.tcp_laws.specs.Telling.{TellsHeld}
+use Rattle.tcp_laws.specs.Telling.{AllHeld, TellsHeld, TellsRanges, TellsTwice}
 use Rattle.tcp_laws.proofs.Awake.{reached_by_own}
 use Rattle.tcp_laws.proofs.LossFollows.{scoreboard_follows}
-use Rattle.tcp_laws.proofs.Pointed.{IsPointed, reached_pointed, sent_near}
+use Rattle.tcp_laws.proofs.Pointed.{IsPointed, reached_pointed}
 use Rattle.tcp_laws.proofs.Receiving.{only_appends}
 use Rattle.tcp_laws.proofs.Ruled.{process_ruled}
 use Rattle.tcp_laws.proofs.Telling.{process_says}
@@ -40,7 +42,7 @@ use Rattle.pair_core.specs.Sides.{other_side}
 use Rattle.pair_core.specs.StreamCalls.{ClosesLate, EndsWithQueues, HearEffect, Nothing, Data, Acknowledgement, FallBack, Syn, SynAlone, SynAck, ProcessEffect}
 use Rattle.pair_core.specs.StreamEffects.{AcksBytes, AcksFin, AcksSyn}
 use Rattle.pair_core.specs.StreamTables.{HasSendingBounds}
-use Rattle.pair_core.specs.StreamViews.{Dead, FinQueued, HasIss, IsNonSynchronized, IsSynchronized, Open, Silent, SocketView, StreamSegment, SynSent, SynReceived, Listening}
+use Rattle.pair_core.specs.StreamViews.{Dead, FinQueued, HasIss, HasNoIss, IsNonSynchronized, IsSynchronized, Open, Silent, SocketView, StreamSegment, SynSent, SynReceived, Listening}
 use Rattle.pair_core.specs.declared.host.Opening.{Opening}
 use Rattle.pair_core.specs.declared.host.Opening.TheVariants as opening
 use Rattle.pair_core.specs.declared.moment.Moment.{Moment}
@@ -51,11 +53,12 @@ use Rattle.pair_core.proofs.NetworkDeliveries.{nothing_received, sending_bounds}
 use Rattle.pair_core.proofs.PairHosts.{closed_accepts_none}
 use Rattle.pair_core.proofs.ShownNetworks.{from_side}
 use Rattle.pair_core.proofs.ShownProcess.{process_heard}
-use Rattle.sack_laws.specs.Told.{AllToldBy, IsTold, NoRange, ScoreboardIsTrue, TrueIn, has_byte, keeps_scoreboard}
-use Rattle.sack_laws.proofs.Boards.{Placed, in_any, moves, placed, placed_number}
+use Rattle.sack_laws.specs.Told.{AllToldBy, IsTold, IsTwiceRange, NoRange, ScoreboardIsTrue, TrueIn, has_byte, keeps_scoreboard}
+use Rattle.sack_laws.proofs.Boards.{Placed, in_these, iss_is, moves, placed, placed_number}
 use Rattle.sack_laws.proofs.Events.{alike_grows}
-use Rattle.sack_laws.proofs.Growing.{AllOf, Follows, Grows, acts_storing, all_true, no_range, nothing_in, phase_is, same_scoreboard, told_at}
-use Rattle.sack_laws.proofs.Heard.{answer_true, has_accepted, has_none, hears_follows, may_keeps}
+use Rattle.sack_laws.proofs.Growing.{AllOf, Follows, Grows, acts_storing, all_true, dead_true, no_range, nothing_in, phase_is, same_scoreboard, told_at, true_in, twice_moves}
+use Rattle.sack_laws.proofs.Heard.{answer_true, has_accepted, has_none, hears_follows, joined_le, may_keeps, others_true}
+use Rattle.sack_laws.proofs.Twice.{heeds_synced, twice_is}
 
 -- ---- states and phases
 
@@ -223,14 +226,58 @@ module _ {G : Type 0} (tells : G → ℕ → Type 0) (p : PairView G) (i : IsPai
   -- ---- what it answers
 
   module _ (ks : List StoredView) (after : IsInvariant (network_at s k o ks p.limit)) where
-    reply_true : (stamped : TcpControl → Option TcpTimestampRepr → Type 0) (x : Option Segment) → TellsHeld w x → (r : Option (IpRepr × Segment)) → Answers stamped t.ip (reply_numbered w x) r → AllToldBy s (endpoint_of k) (kept_at s r k.released k.taken)
+    near_before : k.taken ≤ h.taken + 2 ^ 30
+    near_before =
+        let a = after.incoming_holds in
+        let b = inv.incoming_holds in
+        omega (arith, joined_le (endpoint_of o) (endpoint_of k) after.remote_origin after.incoming a, a.fits.room, a.taken, a.released, b.released, b.sound.released, b.taken, ap length a.accepted)
+
+    numbers_last : (endpoint_of k).view.rcv_nxt ≡ (next_ack w).0
+    numbers_last = ap (λ (y : SocketView). y.rcv_nxt) at_last
+
+    holds_last : (endpoint_of k).view.held ≡ byte_at w.rx_buffer.held
+    holds_last = ap (λ (y : SocketView). y.held) at_last
+
+    held_true : (rs : List (Option (ℕ × ℕ))) → AllHeld w rs → TrueIn (endpoint_of k).view.phase (endpoint_of k) k.taken rs
+    held_true rs says = answer_true (endpoint_of k) (next_ack w) w.rx_buffer.held numbers_last holds_last (endpoint_of o) after.remote_origin after.incoming after.incoming_holds rs says
+
+    -- the first is of bytes that came twice
+    twice_true : (rs : List (Option (ℕ × ℕ))) → TellsTwice v t.segment w rs → TrueIn (endpoint_of k).view.phase (endpoint_of k) k.taken rs
+    twice_true rs says = moved (grows.follows synced)
+      where
+        synced : IsSynchronized (endpoint_of h).view.phase
+        synced = subst (λ (y : SocketView). IsSynchronized y.phase) (sym at_first) (heeds_synced v.state says.heeds)
+
+        before : IsTwiceRange (endpoint_of h) k.taken says.first
+        before = twice_is (endpoint_of h) v t.segment says.first (ap (λ (y : SocketView). y.rcv_nxt) at_first) (ap (λ (y : SocketView). y.held) at_first) (ap (λ (y : SocketView). y.fin_counted) at_first) sock.receive small.seq k.taken near_before (endpoint_of o) inv.remote_origin inv.incoming inv.incoming_holds synced says.twice
+
+        kept : Follows (endpoint_of h) (endpoint_of k) → ((endpoint_of k).view.phase ≡ Dead) ⊎ ((n : ℕ) → has_byte (endpoint_of h) n ≡ true → has_byte (endpoint_of k) n ≡ true) → TrueIn (endpoint_of k).view.phase (endpoint_of k) k.taken rs
+        kept m (inl d) = dead_true (endpoint_of k).view.phase (endpoint_of k) k.taken rs d
+        kept m (inr keeps) = true_in (endpoint_of k).view.phase (endpoint_of k) k.taken rs m.synced (inr (record {
+          first = says.first;
+          others = says.others;
+          are = says.are;
+          twice = twice_moves (endpoint_of h) (endpoint_of k) k.taken says.first m keeps before;
+          all = others_true (endpoint_of k) (next_ack w) w.rx_buffer.held numbers_last holds_last (endpoint_of o) after.remote_origin after.incoming after.incoming_holds says.others says.held m.synced;
+        }))
+
+        moved : ((endpoint_of k).view.phase ≡ Dead) ⊎ Follows (endpoint_of h) (endpoint_of k) → TrueIn (endpoint_of k).view.phase (endpoint_of k) k.taken rs
+        moved (inl d) = dead_true (endpoint_of k).view.phase (endpoint_of k) k.taken rs d
+        moved (inr m) = kept m grows.bytes
+
+    ranges_true : (q : Rules) (rs : List (Option (ℕ × ℕ))) → TellsRanges q v t.segment w rs → TrueIn (endpoint_of k).view.phase (endpoint_of k) k.taken rs
+    ranges_true rules.Smoltcp rs h = held_true rs h
+    ranges_true rules.Rfc rs (inl h) = held_true rs h
+    ranges_true rules.Rfc rs (inr h) = twice_true rs h
+
+    reply_true : (stamped : TcpControl → Option TcpTimestampRepr → Type 0) (x : Option Segment) → TellsHeld v.rules v t.segment w x → (r : Option (IpRepr × Segment)) → Answers stamped t.ip (reply_numbered w x) r → AllToldBy s (endpoint_of k) (kept_at s r k.released k.taken)
     reply_true stamped None says None a = tt
     reply_true stamped None says (Some r) a = absurd a
     reply_true stamped (Some x) says None a = absurd a
     reply_true stamped (Some x) says (Some r) a =
         let same : r.1.sack_ranges ≡ x.sack_ranges = ap (λ (z : IpRepr × Segment). z.1.sack_ranges) a.is in (
           λ lets. subst (TrueIn (endpoint_of k).view.phase (endpoint_of k) k.taken) (sym same)
-              (answer_true (endpoint_of k) (next_ack w) w.rx_buffer.held (ap (λ (y : SocketView). y.rcv_nxt) at_last) (ap (λ (y : SocketView). y.held) at_last) (endpoint_of o) after.remote_origin after.incoming after.incoming_holds x.sack_ranges says),
+              (ranges_true v.rules x.sack_ranges says),
           tt,
         )
 
@@ -283,10 +330,27 @@ module _ {G : Type 0} (tells : G → ℕ → Type 0) (p : PairView G) (i : IsPai
     number_here : (n : ℕ) → n < length h.accepted → v.local_seq_no.0 ≡ number_at inv.local_origin (h.released + 2)
     number_here n some = ap (λ (y : SocketView). y.snd_una) (sym at_first) ∙ placed_number (endpoint_of h) e inv.local_origin inv.outgoing inv.outgoing_holds (here n some)
 
-    near : (n : ℕ) → n < length h.accepted → sent_of v < 2 ^ 32 - 2 ^ 29
-    near n some =
-        let b = bounded.sending (subst (λ (y : SocketView). HasIss y.phase) at_first (here n some).iss) in
-        sent_near v pointed (omega (arith, b.snd_una, b.room, b.snd_nxt, b.flight_le))
+    queued : (length v.tx_buffer.bytes ≤ length h.accepted) × (length v.tx_buffer.bytes ≤ 2 ^ 30)
+    queued = by (iss_is (endpoint_of h).view.phase)
+      where
+        same : v.tx_buffer.bytes ≡ (endpoint_of h).view.transmit_queue
+        same = ap (λ (y : SocketView). y.transmit_queue) (sym at_first)
+
+        by : HasNoIss (endpoint_of h).view.phase ⊎ (HasIss (endpoint_of h).view.phase ⊎ ((endpoint_of h).view.phase ≡ Dead)) → (length v.tx_buffer.bytes ≤ length h.accepted) × (length v.tx_buffer.bytes ≤ 2 ^ 30)
+        by (inl none) =
+            let zero : length v.tx_buffer.bytes ≡ 0 = ap length (same ∙ (inv.outgoing_holds.unsent none).transmit_queue) in
+            (omega (arith, zero), omega (arith, zero))
+        by (inr (inl iss)) =
+            let i = inv.outgoing_holds in
+            let len : length v.tx_buffer.bytes ≡ length inv.outgoing.accepted - inv.outgoing.released = ap length (same ∙ (i.sending iss).queue) ∙ length-drop inv.outgoing.released inv.outgoing.accepted in
+            (omega (arith, len, ap length i.accepted), omega (arith, len, i.fits.room))
+        by (inr (inr d)) = absurd (living (ap (λ (y : SocketView). y.phase) (sym at_first) ∙ d))
+
+    few : tellable v ≤ 2 ^ 30 + 1
+    few = omega (arith, queued.1)
+
+    most : tellable v ≤ length h.accepted + 1
+    most = omega (arith, queued.0)
 
     is_young : e.taken < t.taken_at + 2 ^ 29
     is_young = let two = neither (nat_le (2 ^ 29) (o.released - t.released_at)) (nat_le (2 ^ 29) (o.taken - t.taken_at)) young in grind (arith, nat_tests, two)
@@ -303,8 +367,8 @@ module _ {G : Type 0} (tells : G → ℕ → Type 0) (p : PairView G) (i : IsPai
           by (inl d) = absurd (subst IsSynchronized d synced)
           by (inr b) = b was_ruled kept_before x h0
 
-      came_there : (x : ℕ) → IsInAny (sent_of v) v.local_seq_no t.segment.sack_ranges x → has_byte e (h.released + x) ≡ true
-      came_there x a = in_any (endpoint_of h) e inv.local_origin inv.outgoing inv.outgoing_holds v.local_seq_no t.taken_at (sent_of v) is_young near synced number_here t.segment.sack_ranges (all_true e.view.phase e t.taken_at t.segment.sack_ranges synced ranges) x a
+      came_there : (x : ℕ) → IsInAny (tellable v) v.local_seq_no t.segment.sack_ranges x → has_byte e (h.released + x) ≡ true
+      came_there x a = in_these (endpoint_of h) e inv.local_origin inv.outgoing inv.outgoing_holds v.local_seq_no t.taken_at (tellable v) is_young few most synced number_here t.segment.sack_ranges (all_true e.view.phase e t.taken_at t.segment.sack_ranges synced ranges) x a
 
       moves_on : Placed (endpoint_of h) e inv.local_origin inv.outgoing inv.outgoing_holds → HearEffect (is_passive v) (shown v) (shown w) g ⊎ HeardLate ⊎ (phase_of w.state ≡ Dead) → (w.local_seq_no.0 + (2 ^ 32 - (endpoint_of h).view.snd_una)) % 2 ^ 32 ≡ length (endpoint_of h).view.transmit_queue - length w.tx_buffer.bytes
       moves_on q (inl y) = moves (endpoint_of h) e inv.local_origin inv.outgoing inv.outgoing_holds (shown w) (is_passive v) g q (subst (λ z. HearEffect (is_passive v) z (shown w) g) (sym at_first) y) (not_silent w.state keeps)
@@ -317,7 +381,7 @@ module _ {G : Type 0} (tells : G → ℕ → Type 0) (p : PairView G) (i : IsPai
           d : ℕ
           d = una_moved v w
 
-          by : Tells v.sacked (x + d) ⊎ IsInAny (sent_of v) v.local_seq_no t.segment.sack_ranges (x + d) → has_byte e (h.released + (x + d)) ≡ true
+          by : Tells v.sacked (x + d) ⊎ IsInAny (tellable v) v.local_seq_no t.segment.sack_ranges (x + d) → has_byte e (h.released + (x + d)) ≡ true
           by (inl a) = told_there (x + d) a
           by (inr a) = came_there (x + d) a
 
@@ -340,9 +404,9 @@ module _ {G : Type 0} (tells : G → ℕ → Type 0) (p : PairView G) (i : IsPai
           board y a (inl d) = let no : IsNonSynchronized Dead = subst IsNonSynchronized d early in no
           board y a (inr b) = none early (h.released + y) (b (was_ruled r st) (kept_before r st) y a)
 
-          go : Tells v.sacked (x + una_moved v w) ⊎ IsInAny (sent_of v) v.local_seq_no t.segment.sack_ranges (x + una_moved v w) → ⊥
+          go : Tells v.sacked (x + una_moved v w) ⊎ IsInAny (tellable v) v.local_seq_no t.segment.sack_ranges (x + una_moved v w) → ⊥
           go (inl a) = board (x + una_moved v w) a (told s).heard
-          go (inr a) = not_told (sent_of v) v.local_seq_no t.segment.sack_ranges (x + una_moved v w) (no_range e.view.phase e t.taken_at t.segment.sack_ranges early ranges) a
+          go (inr a) = not_told (tellable v) v.local_seq_no t.segment.sack_ranges (x + una_moved v w) (no_range e.view.phase e t.taken_at t.segment.sack_ranges early ranges) a
 
       by : IsNonSynchronized e.view.phase ⊎ (IsSynchronized e.view.phase ⊎ (e.view.phase ≡ Dead)) → ScoreboardIsTrue k e
       by (inl early) = inr (λ r st x h0. absurd (early_none early r st x h0))

@@ -11,7 +11,7 @@ use Rattle.pair_core.specs.Sides.{other_side}
 use Rattle.pair_core.specs.StreamViews.{Phase, Unopened, Listening, SynSent, SynReceived, Open, FinQueued, Silent, Dead, IsSynchronized, IsNonSynchronized}
 use Rattle.pair_core.specs.declared.side.Side.{Side}
 use Rattle.pair_core.specs.declared.side.Side.TheVariants.{A, B}
-use Rattle.sack_laws.specs.Told.{AllToldBy, AllTrue, IsTold, IsTrueRange, NoRange, ScoreboardIsTrue, TrueIn, counted_by, has_byte, keeps_scoreboard}
+use Rattle.sack_laws.specs.Told.{AllToldBy, AllTrue, AreTrue, IsTold, IsTrueRange, IsTwiceRange, NoRange, ScoreboardIsTrue, TrueIn, counted_by, has_byte, keeps_scoreboard}
 
 -- ---- phases
 
@@ -35,7 +35,7 @@ no_range FinQueued e low rs n h = absurd n
 no_range Silent e low rs n h = absurd n
 no_range Dead e low rs n h = absurd n
 
-pub all_true : (p : Phase) (e : Endpoint) (low : ℕ) (rs : List (Option (ℕ × ℕ))) → IsSynchronized p → TrueIn p e low rs → AllTrue e low rs
+pub all_true : (p : Phase) (e : Endpoint) (low : ℕ) (rs : List (Option (ℕ × ℕ))) → IsSynchronized p → TrueIn p e low rs → AreTrue e low rs
 all_true Open e low rs n h = h
 all_true FinQueued e low rs n h = h
 all_true Silent e low rs n h = h
@@ -45,7 +45,7 @@ all_true SynSent e low rs n h = absurd n
 all_true SynReceived e low rs n h = absurd n
 all_true Dead e low rs n h = absurd n
 
-pub true_in : (p : Phase) (e : Endpoint) (low : ℕ) (rs : List (Option (ℕ × ℕ))) → IsSynchronized p → AllTrue e low rs → TrueIn p e low rs
+pub true_in : (p : Phase) (e : Endpoint) (low : ℕ) (rs : List (Option (ℕ × ℕ))) → IsSynchronized p → AreTrue e low rs → TrueIn p e low rs
 true_in Open e low rs n h = h
 true_in FinQueued e low rs n h = h
 true_in Silent e low rs n h = h
@@ -55,7 +55,7 @@ true_in SynSent e low rs n h = absurd n
 true_in SynReceived e low rs n h = absurd n
 true_in Dead e low rs n h = absurd n
 
-none_true : (e : Endpoint) (low : ℕ) (rs : List (Option (ℕ × ℕ))) → NoRange rs → AllTrue e low rs
+pub none_true : (e : Endpoint) (low : ℕ) (rs : List (Option (ℕ × ℕ))) → NoRange rs → AllTrue e low rs
 none_true e low [] h = tt
 none_true e low (None ∷ rs) h = none_true e low rs h
 none_true e low (Some r ∷ rs) h = absurd h
@@ -66,9 +66,9 @@ nothing_in Unopened e low rs h = h
 nothing_in Listening e low rs h = h
 nothing_in SynSent e low rs h = h
 nothing_in SynReceived e low rs h = h
-nothing_in Open e low rs h = none_true e low rs h
-nothing_in FinQueued e low rs h = none_true e low rs h
-nothing_in Silent e low rs h = none_true e low rs h
+nothing_in Open e low rs h = inl (none_true e low rs h)
+nothing_in FinQueued e low rs h = inl (none_true e low rs h)
+nothing_in Silent e low rs h = inl (none_true e low rs h)
 nothing_in Dead e low rs h = tt
 
 pub dead_true : (p : Phase) (e : Endpoint) (low : ℕ) (rs : List (Option (ℕ × ℕ))) → p ≡ Dead → TrueIn p e low rs
@@ -110,12 +110,28 @@ module _ (e f : Endpoint) where
   all_move low (None ∷ rs) m keeps h = all_move low rs m keeps h
   all_move low (Some r ∷ rs) m keeps h = (range_moves low r m keeps h.0, all_move low rs m keeps h.1)
 
+  pub twice_moves : (low : ℕ) (r : ℕ × ℕ) → Follows e f → ((n : ℕ) → has_byte e n ≡ true → has_byte f n ≡ true) → IsTwiceRange e low r → IsTwiceRange f low r
+  twice_moves low r m keeps t = record {
+    first = t.first;
+    len = t.len;
+    some = t.some;
+    since = t.since;
+    small = t.small;
+    begins = omega (arith, t.begins, m.counted, m.rcv_nxt);
+    ends = omega (arith, t.ends, m.counted, m.rcv_nxt);
+    there = λ n from to. keeps n (t.there n from to);
+  }
+
+  are_moved : (low : ℕ) (rs : List (Option (ℕ × ℕ))) → Follows e f → ((n : ℕ) → has_byte e n ≡ true → has_byte f n ≡ true) → AreTrue e low rs → AreTrue f low rs
+  are_moved low rs m keeps (inl h) = inl (all_move low rs m keeps h)
+  are_moved low rs m keeps (inr t) = inr (record { first = t.first; others = t.others; are = t.are; twice = twice_moves low t.first m keeps t.twice; all = all_move low t.others m keeps t.all })
+
   one_grows : (low : ℕ) (rs : List (Option (ℕ × ℕ))) → Grows e f → TrueIn e.view.phase e low rs → TrueIn f.view.phase f low rs
   one_grows low rs g h = by (phase_is e.view.phase)
     where
       kept : IsSynchronized e.view.phase → Follows e f → KeepsBytes e f → TrueIn f.view.phase f low rs
       kept synced m (inl d) = dead_true f.view.phase f low rs d
-      kept synced m (inr k) = true_in f.view.phase f low rs m.synced (all_move low rs m k (all_true e.view.phase e low rs synced h))
+      kept synced m (inr k) = true_in f.view.phase f low rs m.synced (are_moved low rs m k (all_true e.view.phase e low rs synced h))
 
       moved : IsSynchronized e.view.phase → (f.view.phase ≡ Dead) ⊎ Follows e f → TrueIn f.view.phase f low rs
       moved synced (inl d) = dead_true f.view.phase f low rs d

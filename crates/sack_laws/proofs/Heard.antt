@@ -22,12 +22,12 @@ use Rattle.pair_core.specs.StreamModel.{Stream}
 use Rattle.pair_core.specs.StreamViews.{Dead, IsNonSynchronized, IsSynchronized, KnowsPeer, SocketView, StreamSegment}
 use Rattle.pair_core.proofs.NetworkPhases.{synchronized_knows}
 use Rattle.sack_laws.specs.Told.{AllTrue, IsTrueRange, NoRange, TrueIn, has_byte}
-use Rattle.sack_laws.proofs.Growing.{Follows, dead_true, nothing_in, phase_is, true_in}
+use Rattle.sack_laws.proofs.Growing.{Follows, dead_true, none_true, nothing_in, phase_is, true_in}
 
 -- ---- what a receiver has, its peer accepted
 
 module _ (x y : Endpoint) (o : ℕ) (f : Stream) (i : StreamInvariant x y o f) where
-  joined_le : length f.joined ≤ length x.accepted
+  pub joined_le : length f.joined ≤ length x.accepted
   joined_le = omega (arith, le_from_at f.joined f.accepted i.sound.joined, ap length i.accepted)
 
   held_of : (k b : ℕ) → KnowsPeer y.view.phase → y.view.held k ≡ Some b → length f.joined + k < length x.accepted
@@ -183,6 +183,13 @@ module _ (f : Endpoint) (nxt : TcpSeqNumber) (held : List (Option ℕ)) (numbers
   none_held none (Some r ∷ rs) h = none (h.0.start + 0) (ap is_some (ap (λ (b : ℕ → Option ℕ). b (h.0.start + 0)) holds) ∙ h.0.all 0 h.0.some)
 
   -- of the stream from x
+  pub others_true : (x : Endpoint) (o : ℕ) (s : Stream) → StreamInvariant x f o s → (rs : List (Option (ℕ × ℕ))) → AllHeldIn nxt held rs → IsSynchronized f.view.phase → AllTrue f f.taken rs
+  others_true x o s i rs h synced = by_fin f.view.fin_counted refl
+    where
+      by_fin : (b : Bool) → f.view.fin_counted ≡ b → AllTrue f f.taken rs
+      by_fin true e = none_true f f.taken rs (none_held (λ k. fin_holds_none x f o s i k synced e) rs h)
+      by_fin false e = all_held e rs h
+
   pub answer_true : (x : Endpoint) (o : ℕ) (s : Stream) → StreamInvariant x f o s → (rs : List (Option (ℕ × ℕ))) → AllHeldIn nxt held rs → TrueIn f.view.phase f f.taken rs
   answer_true x o s i rs h = by (phase_is f.view.phase)
     where
@@ -193,11 +200,7 @@ module _ (f : Endpoint) (nxt : TcpSeqNumber) (held : List (Option ℕ)) (numbers
       early_none : IsNonSynchronized f.view.phase → (k : ℕ) → is_some (f.view.held k) ≡ true → ⊥
       early_none early k e = let b = some_of (f.view.held k) e in (i.nothing_yet early).held k b.0 b.1
 
-      by_fin : IsSynchronized f.view.phase → (b : Bool) → f.view.fin_counted ≡ b → TrueIn f.view.phase f f.taken rs
-      by_fin synced true e = nothing_in f.view.phase f f.taken rs (none_held (λ k. fin_holds_none x f o s i k synced e) rs h)
-      by_fin synced false e = true_in f.view.phase f f.taken rs synced (all_held e rs h)
-
       by : IsNonSynchronized f.view.phase ⊎ (IsSynchronized f.view.phase ⊎ (f.view.phase ≡ Dead)) → TrueIn f.view.phase f f.taken rs
       by (inl early) = nothing_in f.view.phase f f.taken rs (none_held (early_none early) rs h)
-      by (inr (inl synced)) = by_fin synced f.view.fin_counted refl
+      by (inr (inl synced)) = true_in f.view.phase f f.taken rs synced (inl (others_true x o s i rs h synced))
       by (inr (inr d)) = dead_true f.view.phase f f.taken rs d

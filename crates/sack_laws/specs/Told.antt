@@ -43,6 +43,30 @@ AllTrue e taken_at [] = Unit {0}
 AllTrue e taken_at (None ∷ rs) = AllTrue e taken_at rs
 AllTrue e taken_at (Some r ∷ rs) = IsTrueRange e taken_at r × AllTrue e taken_at rs
 
+-- The range r is that of numbers of which the side had those bytes already that are the stream's when it told of them.
+-- It may begin at the number of the SYN, or of a keep-alive's byte before it, so that counts have 2^32 added. No number
+-- lies 2^31 or more before what the side had taken then
+pub record IsTwiceRange (e : Endpoint) (taken_at : ℕ) (r : ℕ × ℕ) : Type 0 where
+  pub first : ℕ  -- the count of the first number, and 2^32
+  pub len : ℕ
+  pub some : 0 < len
+  pub since : taken_at + 2 ^ 31 ≤ first
+  pub small : (r.0 < 2 ^ 32) × (r.1 < 2 ^ 32)
+  pub begins : (r.0 + counted_by e) % 2 ^ 32 ≡ (e.view.rcv_nxt + first) % 2 ^ 32
+  pub ends : (r.1 + counted_by e) % 2 ^ 32 ≡ (e.view.rcv_nxt + (first + len)) % 2 ^ 32
+  pub there : (n : ℕ) → first ≤ n + 2 ^ 32 → n + 2 ^ 32 < first + len → has_byte e n ≡ true
+
+-- the first range is one of bytes that came twice (RFC 2883, section 4)
+pub record FirstIsTwice (e : Endpoint) (taken_at : ℕ) (rs : List (Option (ℕ × ℕ))) : Type 0 where
+  pub first : ℕ × ℕ
+  pub others : List (Option (ℕ × ℕ))
+  pub are : rs ≡ Some first ∷ others
+  pub twice : IsTwiceRange e taken_at first
+  pub all : AllTrue e taken_at others
+
+abbrev pub AreTrue : Endpoint → ℕ → List (Option (ℕ × ℕ)) → Type 0
+AreTrue e taken_at rs = AllTrue e taken_at rs ⊎ FirstIsTwice e taken_at rs
+
 abbrev pub NoRange : List (Option (ℕ × ℕ)) → Type 0
 NoRange [] = Unit {0}
 NoRange (None ∷ rs) = NoRange rs
@@ -54,9 +78,9 @@ TrueIn Unopened e taken_at rs = NoRange rs
 TrueIn Listening e taken_at rs = NoRange rs
 TrueIn SynSent e taken_at rs = NoRange rs
 TrueIn SynReceived e taken_at rs = NoRange rs
-TrueIn Open e taken_at rs = AllTrue e taken_at rs
-TrueIn FinQueued e taken_at rs = AllTrue e taken_at rs
-TrueIn Silent e taken_at rs = AllTrue e taken_at rs
+TrueIn Open e taken_at rs = AreTrue e taken_at rs
+TrueIn FinQueued e taken_at rs = AreTrue e taken_at rs
+TrueIn Silent e taken_at rs = AreTrue e taken_at rs
 TrueIn Dead e taken_at rs = Unit {0}
 
 -- each segment that the side emitted told only of bytes that the side, which is e now, has

@@ -9,7 +9,7 @@ ghost use Rattle.control_wire.specs.Segment.{segment_of};
 ghost use Rattle.segment_wire.specs.Packet.{TcpPacket, tcp_packet_parsed, with_segment};
 ghost use Rattle.segment_wire.specs.Tcp.{filled};
 ghost use Rattle.sock_tcp.specs.Ended.{ended_by_dispatch, ended_by_segment};
-ghost use Rattle.sock_tcp.specs.Process.{answered, reply_of, source_kept};
+ghost use Rattle.sock_tcp.specs.Process.{reply_of, responded, source_kept};
 ghost use Rattle.smoltcp_c.specs.Answers.{sent_answer, error_context, error_room, not_accepted};
 ghost use Rattle.smoltcp_c.specs.Context.{is_context};
 ghost use Rattle.smoltcp_c.specs.Packets.{size_of, written_over, outcome_in, reply_by, reset_of, Hears, DispatchesInto};
@@ -33,7 +33,7 @@ use crate::wire::{Full, Wire, put_packet, sent};
 use control_wire::{TcpControl, TcpRepr, TcpSeqNumber};
 use ip_wire::{ChecksumCapabilities, IpProtocol, IpRepr, Ipv4Address, Ipv4Repr};
 use segment_wire::packet::read_tcp;
-use sock_tcp::{Answer, Reply, Socket};
+use sock_tcp::{Reply, Response, Socket};
 
 // An IPv6 header and the longest TCP header, in bytes: no reply is longer.
 const LONGEST_REPLY: usize = 100;
@@ -155,17 +155,22 @@ fn heard(
     }
     set_clock(socket, moment.cx.tsval);
     match taken(socket, moment, ip, repr) {
-        Answer::Nothing => OK,
-        Answer::Ack => put_answer(socket, Answer::Ack, ip, repr, reply),
-        Answer::Rst => put_answer(socket, Answer::Rst, ip, repr, reply),
+        Response::Nothing => OK,
+        Response::Ack(count) => put_answer(socket, Response::Ack(count), ip, repr, reply),
+        Response::Rst => put_answer(socket, Response::Rst, ip, repr, reply),
     }
 }
 
 // Takes a segment that is for the socket: how it is answered.
 #[inline(always)]
-fn taken(socket: &mut Socket<'_, Clock>, moment: &Moment, ip: &IpRepr, repr: &TcpRepr<'_>) -> Answer
+fn taken(
+    socket: &mut Socket<'_, Clock>,
+    moment: &Moment,
+    ip: &IpRepr,
+    repr: &TcpRepr<'_>,
+) -> Response
     requires short { length repr.now.payload.now ≤ 65535 }
-    ensures table { answered result socket.new.control_block (segment_of repr.now)
+    ensures table { responded result socket.new.control_block (segment_of repr.now)
         ≡ outcome_in moment.now.cx socket.old.control_block ip.now (segment_of repr.now) }
     ensures clock { socket.new.tsval_generator
         ≡ source_kept socket.new.control_block.stamps socket.old.tsval_generator }
@@ -181,7 +186,7 @@ fn taken(socket: &mut Socket<'_, Clock>, moment: &Moment, ip: &IpRepr, repr: &Tc
 #[inline(never)]
 fn put_answer(
     socket: &mut Socket<'_, Clock>,
-    answer: Answer,
+    response: Response,
     ip: &IpRepr,
     repr: &TcpRepr<'_>,
     out: &mut [u8],
@@ -189,38 +194,38 @@ fn put_answer(
     requires short { length repr.now.payload.now ≤ 65535 }
     requires room { 100 ≤ length out.old }
     ensures view { socket.new.control_block
-        ≡ (answered answer socket.old.control_block (segment_of repr.now)).view }
+        ≡ (responded response socket.old.control_block (segment_of repr.now)).view }
     ensures state { socket.new.control_block.state ≡ socket.old.control_block.state }
     ensures answer { result ≡ pos (size_of (reply_by socket.old.tsval_generator repr.now.timestamp ip.now
-        (answered answer socket.old.control_block (segment_of repr.now)))) }
+        (responded response socket.old.control_block (segment_of repr.now)))) }
     ensures bytes { out.new ≡ written_over (reply_by socket.old.tsval_generator repr.now.timestamp ip.now
-        (answered answer socket.old.control_block (segment_of repr.now))) out.old }
+        (responded response socket.old.control_block (segment_of repr.now))) out.old }
     ensures clock { socket.new.tsval_generator ≡ socket.old.tsval_generator }
     ensures ended { socket.new.ended ≡ socket.old.ended }
 {
-    let reply = replied(socket, answer, ip, repr);
+    let reply = replied(socket, response, ip, repr);
     put_reply(&reply, out)
 }
 
 // The reply to a segment that was taken.
 fn replied(
     socket: &mut Socket<'_, Clock>,
-    answer: Answer,
+    response: Response,
     ip: &IpRepr,
     repr: &TcpRepr<'_>,
 ) -> Option<Reply>
     requires short { length repr.now.payload.now ≤ 65535 }
     ensures view { socket.new.control_block
-        ≡ (answered answer socket.old.control_block (segment_of repr.now)).view }
+        ≡ (responded response socket.old.control_block (segment_of repr.now)).view }
     ensures state { socket.new.control_block.state ≡ socket.old.control_block.state }
     ensures clock { socket.new.tsval_generator ≡ socket.old.tsval_generator }
     ensures ended { socket.new.ended ≡ socket.old.ended }
     ensures reply { option_map reply_of result ≡ reply_by socket.old.tsval_generator repr.now.timestamp ip.now
-        (answered answer socket.old.control_block (segment_of repr.now)) }
+        (responded response socket.old.control_block (segment_of repr.now)) }
     ensures bare { ForSome result (λ r. r.1.payload.now ≡ []) }
     ensures fits { ForSome (option_map reply_of result) (λ r. FitsPacket r.0 r.1) }
 {
-    socket.reply_by(answer, ip, repr)
+    socket.reply_by(response, ip, repr)
 }
 
 // Writes the reply, if any, and answers its length. There is room for any.

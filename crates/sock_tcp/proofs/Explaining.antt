@@ -12,7 +12,7 @@ use Rattle.sock_tcp.specs.Advance.{advance_in, advanced, counted_control, stops}
 use Rattle.sock_tcp.specs.Arrival.{Arrival, arrival}
 use Rattle.sock_tcp.specs.Explain.{answered_row, bytes_row, challenged_row, counted_row, dropped_row, fin_row, has_no_news, heard_row, opening_row, place_row, plain_row, refused_row, row_by, row_of, stamp_row, tested_row, verdict_row}
 use Rattle.sock_tcp.specs.Explained.{ButNumber, ChallengedAreChallenged, DroppedChangeNothing, IgnoredTellNothing, IsIgnored, IsReset, NoRowIsNotAccepted, OutsideAreAnswered, ResetsEnd, UnacceptableAreReset, is_challenged, is_dropped, is_outside, reset_from}
-use Rattle.sock_tcp.specs.Process.{Outcome, acked_by, after_table, by_verdict, challenged, closed_then, cut_inside, outside, outside_by, processed_by, processed_inside, rst_sent, stopped, tested_by, tuple_of}
+use Rattle.sock_tcp.specs.Process.{Outcome, acked_by, after_table, by_verdict, challenged, closed_then, cut_inside, outside, outside_by, processed_by, processed_inside, rst_sent, stopped, tested_by, told_then, tuple_of}
 use Rattle.sock_tcp.specs.Rfc.Checks.{acks_unsent, sent_end, stamp_checked, verdict_by}
 use Rattle.sock_tcp.specs.Rfc.Recovery.{recovered_by}
 use Rattle.sock_tcp.specs.Rfc.Refused.{is_heard_outside, is_next_fin, refused, rfc_refused, then_answered}
@@ -231,7 +231,7 @@ challenged_by r v now word ip s =
 
 -- what the rules do behind the tables
 abbrev pub behind_by : Rules → View → Instant → Segment → Outcome → Outcome
-behind_by r v now s o = closed_then r (recovered_by r v now (windowed r v s) o)
+behind_by r v now s o = told_then r v (windowed r v s) (closed_then r (recovered_by r v now (windowed r v s) o))
 
 outside_by_rules : (r : Rules) (v : View) (now : Instant) (word : ℕ) (ip : IpRepr) (s : Segment) → is_outside (row_by r v now s) ≡ true → processed_by r v now word ip s ≡ behind_by r v now s (outside v now (windowed r v s))
 outside_by_rules r v now word ip s =

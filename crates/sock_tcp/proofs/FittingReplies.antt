@@ -1,6 +1,6 @@
 -- What answers a segment fits a packet.
-use Rattle.std.proofs.Common.{◌≡◌, ℕ, ◌+◌, ◌*◌, ◌/◌, ◌≤◌, [], ◌∷◌, Bool, true, false, ◌||◌, List, Option, Some, None, is_some, refl, sym, subst, ap, ◌∙◌, length, arith}
-use Rattle.std.specs.Prelude.{count_by, if◌then◌else◌, option_map, ◌==◌}
+use Rattle.std.proofs.Common.{◌≡◌, ℕ, ◌+◌, ◌*◌, ◌/◌, ◌≤◌, [], ◌∷◌, Bool, true, false, true≢false, ◌||◌, List, Option, Some, None, is_some, refl, sym, subst, ap, ◌∙◌, length, arith}
+use Rattle.std.specs.Prelude.{count_by, if◌then◌else◌, option_map, slice_index_or, ◌==◌}
 use Rattle.std.specs.Option.{ForSome}
 use Rattle.std.proofs.lemmas.Option.{none-some}
 use Rattle.ip_wire.specs.declared.repr.IpRepr.{IpRepr}
@@ -14,6 +14,7 @@ use Rattle.control_wire.specs.declared.tcp.TcpTimestampRepr.{TcpTimestampRepr}
 use Rattle.sock_tcp.specs.Replies.{reply_ip, bare_reply, rst_segment, with_header, chosen_range, first_of, wire_edges, told_by, told_of, sack_ranges, ack_segment, IsSentAs}
 use Rattle.net_base.specs.Ranges.{edges}
 use Rattle.sock_core.specs.Received.{ranges_of, range_around}
+use Rattle.sock_tcp.specs.Rfc.Duplicates.{duplicate_block, with_duplicate}
 use Rattle.sock_tcp.specs.Rfc.Numbers.{renumbered}
 use Rattle.sock_tcp.specs.View.{View}
 use Rattle.sock_tcp.specs.Window.{next_ack}
@@ -103,9 +104,43 @@ module _ (v : View) where
       go true rules.Smoltcp = three_len _ None None
       go true rules.Rfc = three_len _ _ _
 
-ack_fits : (w v : View) (s : Segment) (x : Option TcpTimestampRepr) → FitsHeader (record (renumbered w (ack_segment v s)) { timestamp = x })
+-- a block in front of two of them
+module _ (v : View) (n : ℕ) (r : ℕ × ℕ) where
+  abbrev with_front : List (Option (ℕ × ℕ)) → Bool → List (Option (ℕ × ℕ))
+  with_front rs none = if none then rs else Some r ∷ slice_index_or rs 0 None ∷ slice_index_or rs 1 None ∷ []
+
+  three_packed : (a b c : Option (ℕ × ℕ)) → is_packed (a ∷ b ∷ c ∷ []) ≡ true → (none : Bool) → is_packed (with_front (a ∷ b ∷ c ∷ []) none) ≡ true
+  three_packed a b c h true = h
+  three_packed None None c h false = refl
+  three_packed None (Some b) None h false = absurd (true≢false (sym h))
+  three_packed None (Some b) (Some c) h false = absurd (true≢false (sym h))
+  three_packed (Some a) None c h false = refl
+  three_packed (Some a) (Some b) c h false = refl
+
+  front_packed : is_packed (with_front (sack_ranges v) (n == 0)) ≡ true
+  unfolding sack_ranges
+  front_packed = go v.remote_has_sack v.rules (ranges_packed v)
+    where
+      go : (b : Bool) (q : Rules) → is_packed (those v b q) ≡ true → is_packed (with_front (those v b q) (n == 0)) ≡ true
+      go false q h = three_packed None None None h (n == 0)
+      go true rules.Smoltcp h = three_packed _ None None h (n == 0)
+      go true rules.Rfc h = three_packed _ _ _ h (n == 0)
+
+  front_len : sack_option_len (count_by is_some (with_front (sack_ranges v) (n == 0))) ≤ 26
+  front_len = go (n == 0)
+    where
+      go : (b : Bool) → sack_option_len (count_by is_some (with_front (sack_ranges v) b)) ≤ 26
+      go true = ranges_len v
+      go false = three_len (Some r) (slice_index_or (sack_ranges v) 0 None) (slice_index_or (sack_ranges v) 1 None)
+
+ack_fits : (w v : View) (s : Segment) (n : ℕ) (x : Option TcpTimestampRepr) → FitsHeader (record (renumbered w (with_duplicate n s (ack_segment v s))) { timestamp = x })
 unfolding ack_segment
-ack_fits w v s x = record { scale = no_scale; permission = λ e. absurd cc; ranges = ranges_packed v; options = omega (arith, stamp_len x, ranges_len v) }
+ack_fits w v s n x = record {
+  scale = no_scale;
+  permission = λ e. absurd cc;
+  ranges = front_packed v n (duplicate_block n s);
+  options = omega (arith, stamp_len x, front_len v n (duplicate_block n s));
+}
 
 rst_fits : (s : Segment) (x : Option TcpTimestampRepr) → FitsHeader (record (rst_segment s) { timestamp = x })
 rst_fits s x = record { scale = no_scale; permission = λ e. absurd cc; ranges = refl; options = omega (arith, stamp_len x) }
@@ -119,16 +154,16 @@ packet_of : (ip : IpRepr) (s : Segment) → FitsHeader s → length s.payload �
 packet_of (header.Ipv4 p) s h z = record { header = h; protocol = refl; octets = refl; total = omega (arith, z, short_header (options_len s) h.options) }
 packet_of (header.Ipv6 p) s h z = record { header = h; protocol = refl; octets = refl; total = omega (arith, z, short_header (options_len s) h.options) }
 
-empty_ack : (w v : View) (s : Segment) → length (renumbered w (ack_segment v s)).payload ≡ 0
+empty_ack : (w v : View) (s : Segment) (n : ℕ) → length (renumbered w (with_duplicate n s (ack_segment v s))).payload ≡ 0
 unfolding ack_segment
-empty_ack w v s = refl
+empty_ack w v s n = refl
 
 sent_fits : (stamped : TcpControl → Option TcpTimestampRepr → Type 0) (ip : IpRepr) (s : Segment) (out : IpRepr × Segment) → length s.payload ≡ 0 → ((x : Option TcpTimestampRepr) → FitsHeader (record s { timestamp = x })) → IsSentAs stamped ip s out → FitsPacket out.0 out.1
 sent_fits stamped ip s out z h i = subst (λ (o : IpRepr × Segment). FitsPacket o.0 o.1) (sym i.is) (packet_of ip (record s { timestamp = i.stamp }) (h i.stamp) z)
 
 -- an acknowledgement that went out
-pub ack_sent : (stamped : TcpControl → Option TcpTimestampRepr → Type 0) (ip : IpRepr) (w v : View) (s made seg : Segment) (out : IpRepr × Segment) → made ≡ ack_segment v s → seg ≡ renumbered w made → IsSentAs stamped ip seg out → FitsPacket out.0 out.1
-ack_sent stamped ip w v s made seg out m e i = sent_fits stamped ip (renumbered w (ack_segment v s)) out (empty_ack w v s) (λ x. ack_fits w v s x) (subst (λ y. IsSentAs stamped ip y out) (e ∙ ap (renumbered w) m) i)
+pub ack_sent : (stamped : TcpControl → Option TcpTimestampRepr → Type 0) (ip : IpRepr) (w v : View) (s made told seg : Segment) (n : ℕ) (out : IpRepr × Segment) → made ≡ ack_segment v s → told ≡ with_duplicate n s made → seg ≡ renumbered w told → IsSentAs stamped ip seg out → FitsPacket out.0 out.1
+ack_sent stamped ip w v s made told seg n out m t e i = sent_fits stamped ip (renumbered w (with_duplicate n s (ack_segment v s))) out (empty_ack w v s n) (λ x. ack_fits w v s n x) (subst (λ y. IsSentAs stamped ip y out) (e ∙ ap (renumbered w) (t ∙ ap (with_duplicate n s) m)) i)
 
 -- an RST that went out
 pub rst_sent : (stamped : TcpControl → Option TcpTimestampRepr → Type 0) (ip : IpRepr) (s seg : Segment) (out : IpRepr × Segment) → seg ≡ rst_segment s → IsSentAs stamped ip seg out → FitsPacket out.0 out.1

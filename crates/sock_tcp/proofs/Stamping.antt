@@ -6,15 +6,15 @@ use Rattle.ip_wire.specs.declared.repr.IpRepr.{IpRepr}
 use Rattle.control_wire.specs.Segment.{Segment}
 use Rattle.sock_tcp.specs.Advance.{fallen_back, fin_counted, options_taken, syn_answered, syn_received}
 use Rattle.sock_tcp.specs.Arrival.{arrival}
-use Rattle.sock_tcp.specs.Process.{Outcome, answered, closed_then, close_restarted, source_kept, tested, tuple_of}
+use Rattle.sock_tcp.specs.Process.{Outcome, closed_then, close_restarted, responded, source_kept, tested, told_then, tuple_of}
 use Rattle.sock_tcp.specs.Replies.{ack_kept}
 use Rattle.sock_tcp.specs.Rfc.Recovery.{recovered, recovered_by}
 use Rattle.sock_tcp.specs.Steps.{ack_counted, ack_delayed, duplicate_counted, heard, joined, released, timer_set, timestamp_taken, una_advanced, window_taken}
 use Rattle.sock_tcp.specs.Rfc.Windows.{windowed}
 use Rattle.sock_tcp.specs.View.{View}
 use Rattle.sock_tcp.specs.declared.acked.Acked.{Acked}
-use Rattle.sock_tcp.specs.declared.process.Answer.{Answer}
-use Rattle.sock_tcp.specs.declared.process.Answer.TheVariants as answers
+use Rattle.sock_tcp.specs.declared.duplicates.Response.{Response}
+use Rattle.sock_tcp.specs.declared.duplicates.Response.TheVariants as responses
 use Rattle.sock_tcp.proofs.KeptSegments.{KeptByAnswers, KeptByRows, KeptBySegments, heard_kept, passed_kept}
 
 first_holds : (a b : Bool) → (a && b) ≡ true → a ≡ true
@@ -57,13 +57,13 @@ module _ (v : View) where
     recovers = λ u w h i. i;
   }
 
-answer_keeps : (r : Answer) (v : View) (s : Segment) → (answered r v s).view.stamps ≡ v.stamps
+answer_keeps : (r : Response) (v : View) (s : Segment) → (responded r v s).view.stamps ≡ v.stamps
 unfolding ack_kept
-answer_keeps answers.Nothing v s = refl
-answer_keeps answers.Ack v s = refl
-answer_keeps answers.Rst v s = refl
+answer_keeps responses.Nothing v s = refl
+answer_keeps (responses.Ack n) v s = refl
+answer_keeps responses.Rst v s = refl
 
-pub stamps_fall : (r : Answer) (v w : View) (now : Instant) (word : ℕ) (ip : IpRepr) (s : Segment) (b : Bool) → answered r w s ≡ closed_then v.rules (recovered_by v.rules v now (windowed v.rules v s) (tested b v (arrival now (tuple_of ip s) word (windowed v.rules v s)))) → IsTrue w.stamps → IsTrue v.stamps
+pub stamps_fall : (r : Response) (v w : View) (now : Instant) (word : ℕ) (ip : IpRepr) (s : Segment) (b : Bool) → responded r w s ≡ told_then v.rules v (windowed v.rules v s) (closed_then v.rules (recovered_by v.rules v now (windowed v.rules v s) (tested b v (arrival now (tuple_of ip s) word (windowed v.rules v s))))) → IsTrue w.stamps → IsTrue v.stamps
 stamps_fall r v w now word ip s b e h = passed_kept (Falls v) now word ip (windowed v.rules v s) (segments_fall v now word (windowed v.rules v s)) v.rules v (λ i. i) b (sym (ap (λ (o : Outcome). o.view.stamps) e) ∙ answer_keeps r w s ∙ h)
 
 -- so the source that is kept is there exactly where they are

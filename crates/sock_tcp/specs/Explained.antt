@@ -6,6 +6,7 @@ use Rattle.control_wire.specs.Segment.{Segment}
 use Rattle.sock_tcp.specs.Advance.{dropped, fallen_back}
 use Rattle.sock_tcp.specs.Explain.{row_of}
 use Rattle.sock_tcp.specs.Process.{Outcome, bytes_taken, challenged, closed_then, outside, processed, rst_sent, stopped}
+use Rattle.sock_tcp.specs.Process.{told_then}
 use Rattle.sock_tcp.specs.Rfc.Recovery.{recovered_by}
 use Rattle.sock_tcp.specs.Rfc.Windows.{windowed}
 use Rattle.sock_tcp.specs.View.{View}
@@ -40,7 +41,8 @@ is_outside _ = false
 -- ---- the laws; what the socket's rules do behind the tables, nothing by smoltcp's, stands around what these do
 
 abbrev pub behind : View → Instant → Segment → Outcome → Outcome
-behind v now s o = closed_then v.rules (recovered_by v.rules v now (windowed v.rules v s) o)
+behind v now s o =
+    told_then v.rules v (windowed v.rules v s) (closed_then v.rules (recovered_by v.rules v now (windowed v.rules v s) o))
 
 -- nothing changes, and nothing is answered
 abbrev pub DroppedChangeNothing : Type 0

@@ -13,6 +13,7 @@ use Rattle.sock_tcp.specs.Advance.{Advance, advanced}
 use Rattle.sock_tcp.specs.Arrival.{Arrival}
 use Rattle.sock_tcp.specs.View.{View}
 use Rattle.sock_tcp.specs.Replies.{rst_segment, ack_segment, ack_kept}
+use Rattle.sock_tcp.specs.Rfc.Duplicates.{with_duplicate}
 use Rattle.sock_tcp.specs.Steps.{heard, joined, ack_delayed}
 use Rattle.sock_tcp.specs.Timers.{after, close_from, challenge_interval}
 use Rattle.sock_tcp.specs.declared.acked.Acked.{Acked}
@@ -20,6 +21,8 @@ use Rattle.sock_tcp.specs.declared.advance.Next.{Next}
 use Rattle.sock_tcp.specs.declared.advance.Next.TheVariants as next
 use Rattle.sock_tcp.specs.declared.process.Answer.{Answer}
 use Rattle.sock_tcp.specs.declared.process.Answer.TheVariants as answers
+use Rattle.sock_tcp.specs.declared.duplicates.Response.{Response}
+use Rattle.sock_tcp.specs.declared.duplicates.Response.TheVariants as responses
 use Rattle.sock_tcp.specs.declared.rules.Rules.{Rules}
 use Rattle.sock_tcp.specs.declared.rules.Rules.TheVariants as rules
 use Rattle.sock_tcp.specs.declared.timer.Timer.{Timer}
@@ -45,6 +48,13 @@ abbrev pub answered : Answer → View → Segment → Outcome
 answered answers.Nothing v s = stopped v
 answered answers.Ack v s = ack_sent v s
 answered answers.Rst v s = rst_sent v s
+
+-- the same, where an ACK tells that so many of the segment's first bytes came before
+abbrev pub responded : Response → View → Segment → Outcome
+responded responses.Nothing v s = stopped v
+responded (responses.Ack n) v s =
+    record { view = ack_kept v; reply = Some (with_duplicate n s (ack_segment v s)) }
+responded responses.Rst v s = rst_sent v s
 
 -- an ACK, at most one a second
 unfoldable pub challenged : View → Instant → Segment → Outcome

@@ -18,10 +18,12 @@ use Rattle.sock_tcp.specs.Arrival.{Arrival, arrival}
 use Rattle.sock_tcp.specs.Closing.{closed_late}
 use Rattle.sock_tcp.specs.Draw.{draws, Draws}
 pub use Rattle.sock_tcp.specs.Inside.{Outcome, stopped, ack_sent, rst_sent, answered, timer_restarted, outside_by}
+pub use Rattle.sock_tcp.specs.Inside.{responded}
 pub use Rattle.sock_tcp.specs.Inside.{without_place}
 pub use Rattle.sock_tcp.specs.Inside.{tuple_of, gap_answered, after_advance, after_table, acked_by}
 unfoldable pub use Rattle.sock_tcp.specs.Inside.{challenged, close_restarted, outside, bytes_taken, processed_inside}
 use Rattle.sock_tcp.specs.Rfc.Checks.{verdict_by}
+use Rattle.sock_tcp.specs.Rfc.Duplicates.{duplicate_told}
 use Rattle.sock_tcp.specs.Rfc.Numbers.{reply_numbered}
 use Rattle.sock_tcp.specs.Rfc.Recovery.{recovered_by}
 use Rattle.sock_tcp.specs.Rfc.Refused.{refused}
@@ -79,7 +81,8 @@ Accepts v ip s = AcceptsIn v.state v ip s
 -- asks for the verdict, which is by the socket's rules (`Rfc/Checks.antt`), and which window the segment tells by these
 -- (`Rfc/Windows.antt`); `by_verdict` drops, resets, challenges or lets pass; `tested` tests the window in which a
 -- segment is taken by these rules, in a state that has one, and `recovered_by` (`Rfc/Recovery.antt`) does by the
--- socket's rules what is done of loss then, and `closed_then` a close that waited; `cut_inside` cuts what lies inside,
+-- socket's rules what is done of loss then, `closed_then` a close that waited, and `told_then` lets the answer tell what
+-- came twice (`Rfc/Duplicates.antt`); `cut_inside` cuts what lies inside,
 -- and `refused` (`Rfc/Refused.antt`) does by the socket's rules what is done outside. The rest stands in `Inside.antt`:
 -- `outside` answers a segment; `processed_inside` goes through the state table; `after_advance` stops, challenges or
 -- hears the acknowledgement; `bytes_taken` takes the bytes and answers a gap.
@@ -108,12 +111,16 @@ abbrev pub closed_then : Rules → Outcome → Outcome
 closed_then rules.Smoltcp o = o
 closed_then rules.Rfc o = record { view = closed_late o.view; reply = o.reply }
 
+-- and the answer tells what came twice
+abbrev pub told_then : Rules → View → Segment → Outcome → Outcome
+told_then r v s o = record { view = o.view; reply = duplicate_told r v s o.reply }
+
 abbrev pub by_verdict : Rules → Verdict → View → Arrival → Outcome
 by_verdict r verdicts.Drop v a = stopped v
 by_verdict r verdicts.Reset v a = rst_sent v a.segment
 by_verdict r verdicts.Challenge v a = challenged v a.now a.segment
 by_verdict r verdicts.Pass v a =
-    closed_then r (recovered_by r v a.now a.segment (tested_by r (has_window v.state) v a))
+    told_then r v a.segment (closed_then r (recovered_by r v a.now a.segment (tested_by r (has_window v.state) v a)))
 
 unfoldable pub processed_by : Rules → View → Instant → ℕ → IpRepr → Segment → Outcome
 processed_by r v now word ip s =

@@ -6,6 +6,7 @@ pub mod Idle
 pub mod RoundTrips
 pub mod Recovery
 pub mod Numbers
+pub mod Duplicates
 pub mod Windows
 pub mod TailLoss
 pub mod Pipe

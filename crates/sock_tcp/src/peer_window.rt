@@ -56,7 +56,7 @@ impl<'a> ControlBlock<'a> {
         }
     }
 
-    fn is_heeding(&self) -> bool
+    pub(crate) fn is_heeding(&self) -> bool
         ensures { result ≡ is_heeding self.now.state }
     {
         !matches!(

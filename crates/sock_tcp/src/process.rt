@@ -11,6 +11,7 @@ ghost use Rattle.sock_tcp.specs.Process.{IsToListener, IsAddressed, Opens, Accep
 ghost use Rattle.sock_tcp.specs.Process.{answered, challenged, close_restarted, outside, bytes_taken};
 ghost use Rattle.sock_tcp.specs.Process.{without_place};
 ghost use Rattle.sock_tcp.specs.Process.{by_verdict, closed_then, processed_inside, tested, processed};
+ghost use Rattle.sock_tcp.specs.Process.{responded, told_then};
 ghost use Rattle.sock_tcp.specs.Draw.{draws, Draws};
 ghost use Rattle.sock_tcp.specs.Rfc.Recovery.{recovered_by};
 ghost use Rattle.sock_tcp.specs.Rfc.Windows.{ack_heeded, windowed};
@@ -19,6 +20,7 @@ ghost use Rattle.sock_tcp.specs.declared.rules.Rules.TheVariants.{Rfc};
 
 use crate::advance::Next;
 use crate::control_block::ControlBlock;
+use crate::duplicates::Response;
 use crate::rules::Rules;
 use crate::state::State;
 use crate::timer::{CHALLENGE_INTERVAL, Timer, after};
@@ -30,14 +32,14 @@ use ip_wire::{IpListenEndpoint, IpRepr};
 use net_base::time::Instant;
 use sock_core::Context;
 
-/// How a segment is answered.
-#[derive(Debug, Clone, Copy, PartialEq, Eq)]
+// How a segment is answered.
+#[derive(Clone, Copy)]
 pub enum Answer {
-    /// Not at all.
+    // Not at all.
     Nothing,
-    /// By an acknowledgement.
+    // By an acknowledgement.
     Ack,
-    /// By an RST.
+    // By an RST.
     Rst,
 }
 
@@ -319,6 +321,31 @@ impl<'a> ControlBlock<'a> {
         answer
     }
 
+    // And the answer tells what came twice.
+    #[inline(always)]
+    fn process_and_tell<C: Context>(
+        &mut self,
+        cx: &mut C,
+        now: Instant,
+        ip_repr: &IpRepr,
+        repr: &TcpRepr<'_>,
+    ) -> Response
+        requires moment { IsMoment now.micros }
+        requires passed { verdict_of self.old repr.now.control
+            (ack_heeded Rfc self.old (segment_of repr.now) repr.now.ack_number) ≡ Pass }
+        requires small { length repr.now.payload.now ≤ 65535 }
+        ensures table { responded result self.new (segment_of repr.now)
+            ≡ told_then Rfc self.old (segment_of repr.now) (closed_then Rfc (recovered_by Rfc self.old now
+            (windowed Rfc self.old (segment_of repr.now)) (tested (has_window self.old.state) self.old
+            (arrival now (tuple_of ip_repr.now (segment_of repr.now)) (C.word_at cx.old 0)
+            (windowed Rfc self.old (segment_of repr.now)))))) }
+        ensures context { Draws (draws Pass self.old.state repr.now.control) C.facts C.word_at cx.old cx.new }
+    {
+        let count = self.came_before(repr);
+        let answer = self.process_and_close(cx, now, ip_repr, repr);
+        answer.telling(count)
+    }
+
     // By the socket's rules.
     #[inline(always)]
     fn process_by_rules<C: Context>(
@@ -327,12 +354,12 @@ impl<'a> ControlBlock<'a> {
         now: Instant,
         ip_repr: &IpRepr,
         repr: &TcpRepr<'_>,
-    ) -> Answer
+    ) -> Response
         requires moment { IsMoment now.micros }
         requires passed { verdict_of self.old repr.now.control
             (ack_heeded self.old.rules self.old (segment_of repr.now) repr.now.ack_number) ≡ Pass }
         requires small { length repr.now.payload.now ≤ 65535 }
-        ensures table { answered result self.new (segment_of repr.now)
+        ensures table { responded result self.new (segment_of repr.now)
             ≡ by_verdict self.old.rules Pass self.old (arrival now (tuple_of ip_repr.now (segment_of repr.now))
             (C.word_at cx.old 0) (windowed self.old.rules self.old (segment_of repr.now))) }
         ensures context { Draws (draws Pass self.old.state repr.now.control) C.facts C.word_at cx.old cx.new }
@@ -340,9 +367,9 @@ impl<'a> ControlBlock<'a> {
         match self.rules {
             Rules::Smoltcp => {
                 let window = self.receive_window();
-                self.process_passed(cx, now, window, ip_repr, repr)
+                self.process_passed(cx, now, window, ip_repr, repr).plain()
             }
-            Rules::Rfc => self.process_and_close(cx, now, ip_repr, repr),
+            Rules::Rfc => self.process_and_tell(cx, now, ip_repr, repr),
         }
     }
 
@@ -353,9 +380,9 @@ impl<'a> ControlBlock<'a> {
         cx: &mut C,
         ip_repr: &IpRepr,
         repr: &TcpRepr<'_>,
-    ) -> Answer
+    ) -> Response
         requires { length repr.now.payload.now ≤ 65535 }
-        ensures table { answered result self.new (segment_of repr.now)
+        ensures table { responded result self.new (segment_of repr.now)
             ≡ processed self.old (moment_of (C.facts cx.old)) (C.word_at cx.old 0) ip_repr.now (segment_of repr.now) }
         ensures context { Draws (draws (verdict_of self.old repr.now.control repr.now.ack_number) self.old.state
             repr.now.control) C.facts C.word_at cx.old cx.new }
@@ -363,9 +390,9 @@ impl<'a> ControlBlock<'a> {
     {
         let now = cx.now();
         match self.verdict_by_rules(now, repr) {
-            Verdict::Drop => Answer::Nothing,
-            Verdict::Reset => Answer::Rst,
-            Verdict::Challenge => self.challenge(now),
+            Verdict::Drop => Response::Nothing,
+            Verdict::Reset => Response::Rst,
+            Verdict::Challenge => self.challenge(now).plain(),
             Verdict::Pass => self.process_by_rules(cx, now, ip_repr, repr),
         }
     }

@@ -39,7 +39,7 @@ fn is_next_fin(window: &Window, repr: &TcpRepr<'_>) -> bool
     }
 }
 
-fn is_plain(control: TcpControl) -> bool
+pub(crate) fn is_plain(control: TcpControl) -> bool
     ensures { result ≡ is_plain_control control }
 {
     !matches!(control, TcpControl::Rst | TcpControl::Syn)

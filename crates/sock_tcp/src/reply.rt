@@ -3,7 +3,7 @@ ghost use Rattle.std.specs.Prelude.{◌≡◌, ◌≤◌, length, [], option_map
 ghost use Rattle.control_wire.specs.Fits.{FitsPacket};
 ghost use Rattle.control_wire.specs.Segment.{segment_of};
 ghost use Rattle.std.specs.Option.{ForSome};
-ghost use Rattle.sock_tcp.specs.Process.{answered, reply_of};
+ghost use Rattle.sock_tcp.specs.Process.{reply_of, responded};
 ghost use Rattle.control_wire.specs.Seq.{seq_add, seq_sub};
 ghost use Rattle.sock_core.specs.Received.{ranges_of};
 ghost use Rattle.net_base.specs.Ranges.{edges};
@@ -12,11 +12,13 @@ ghost use Rattle.sock_tcp.specs.Replies.{reply_ip, bare_reply, rst_ack, rst_numb
 ghost use Rattle.sock_tcp.specs.Replies.{chosen_range, wire_edges, is_same, second_range, third_range, sack_ranges};
 ghost use Rattle.sock_tcp.specs.Replies.{ack_segment, ack_kept};
 ghost use Rattle.sock_tcp.specs.Replies.{Answers, IsReplyStamp, IsSentAs, echoed};
+ghost use Rattle.control_wire.specs.declared.tcp.TcpControl.TheVariants as control;
+ghost use Rattle.sock_tcp.specs.Rfc.Duplicates.{with_duplicate};
 ghost use Rattle.sock_tcp.specs.Rfc.Numbers.{reply_numbered};
 
 use crate::control_block::ControlBlock;
+use crate::duplicates::Response;
 use crate::generator::TsvalSource;
-use crate::process::Answer;
 use crate::rules::Rules;
 use crate::socket::Socket;
 use control_wire::{TcpControl, TcpRepr, TcpSeqNumber, TcpTimestampRepr};
@@ -174,6 +176,7 @@ impl<'a> ControlBlock<'a> {
         ensures state { self.new.state ≡ self.old.state }
         ensures stamps { self.new.stamps ≡ self.old.stamps }
         ensures segment { segment_of result ≡ ack_segment self.old (segment_of repr.now) }
+        ensures plain { result.control ≡ control.None }
         ensures bare { result.payload.now ≡ [] }
     {
         let mut reply = bare_reply(repr);
@@ -185,6 +188,21 @@ impl<'a> ControlBlock<'a> {
         self.remote_last_win = reply.window_len;
         reply
     }
+}
+
+// The acknowledgement of a segment of which so many bytes came before.
+fn with_duplicate(count: u32, repr: &TcpRepr<'_>, reply: TcpRepr<'static>) -> TcpRepr<'static>
+    requires plain { reply.control ≡ control.None }
+    ensures segment { segment_of result ≡ with_duplicate count (segment_of repr.now) (segment_of reply.entry) }
+    ensures bare { result.payload.now ≡ reply.entry.payload.now }
+{
+    let mut reply = reply;
+    if count > 0 {
+        let number = repr.seq_number;
+        let block = (number.plus(0).0, number.plus(count as usize).0);
+        reply.sack_ranges = [Some(block), reply.sack_ranges[0], reply.sack_ranges[1]];
+    }
+    reply
 }
 
 impl<'a> ControlBlock<'a> {
@@ -237,31 +255,33 @@ impl<'a, G: TsvalSource> Socket<'a, G> {
     #[tactic(auto, using(crate::proofs::FittingReplies::rst_sent))]
     pub fn reply_by(
         &mut self,
-        answer: Answer,
+        response: Response,
         ip_repr: &IpRepr,
         repr: &TcpRepr<'_>,
     ) -> Option<Reply>
         requires { length repr.now.payload.now ≤ 65535 }
         ensures view { self.new.control_block
-            ≡ (answered answer self.old.control_block (segment_of repr.now)).view }
+            ≡ (responded response self.old.control_block (segment_of repr.now)).view }
         ensures state { self.new.control_block.state ≡ self.old.control_block.state }
         ensures generator { self.new.tsval_generator ≡ self.old.tsval_generator }
         ensures ended { self.new.ended ≡ self.old.ended }
         ensures answer { Answers (IsReplyStamp G.tells self.old.tsval_generator
             (echoed self.new.control_block repr.now.timestamp)) ip_repr.now
-            (reply_numbered self.new.control_block (answered answer self.old.control_block (segment_of repr.now)).reply)
+            (reply_numbered self.new.control_block
+            (responded response self.old.control_block (segment_of repr.now)).reply)
             (option_map reply_of result) }
         ensures bare { ForSome result (λ r. r.1.payload.now ≡ []) }
         ensures fits { ForSome (option_map reply_of result) (λ r. FitsPacket r.0 r.1) }
     {
-        match answer {
-            Answer::Nothing => None,
-            Answer::Ack => {
+        match response {
+            Response::Nothing => None,
+            Response::Ack(count) => {
                 let reply = self.control_block.ack_reply(repr);
+                let reply = with_duplicate(count, repr, reply);
                 let reply = self.control_block.number_reply(reply);
                 Some(self.answer(ip_repr, repr, reply))
             }
-            Answer::Rst => Some(self.answer(ip_repr, repr, rst_segment(repr))),
+            Response::Rst => Some(self.answer(ip_repr, repr, rst_segment(repr))),
         }
     }
 }

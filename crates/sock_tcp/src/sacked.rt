@@ -5,7 +5,7 @@ ghost use Rattle.sock_tcp.specs.Content.{again_from, hole_from, next_hole};
 ghost use Rattle.sock_tcp.specs.Rfc.Recovery.{is_marked, is_partial, is_sent_again, is_telling, lets_out, sacked_after};
 ghost use Rattle.sock_tcp.specs.Rfc.Recovery.{sacked_by};
 ghost use Rattle.sock_tcp.specs.Rfc.Recovery.{again, again_by, has_hole, is_lost_again, is_lost_in, only_tells};
-ghost use Rattle.sock_tcp.specs.Rfc.Recovery.{sent_of};
+ghost use Rattle.sock_tcp.specs.Rfc.Recovery.{sent_of, tellable};
 ghost use Rattle.sock_tcp.specs.Rfc.Recovery.{shows_hole};
 ghost use Rattle.sock_tcp.specs.Sent.{resent_by};
 
@@ -272,6 +272,14 @@ impl<'a> ControlBlock<'a> {
             .since(self.local_seq_no)
     }
 
+    // How many of them the peer may have.
+    fn tellable(&self) -> usize
+        ensures value { result ≡ tellable self.now }
+        ensures small { result < 2 ^ 32 }
+    {
+        self.sent().min(self.tx_buffer.len() + 1)
+    }
+
     // Whether the segment tells something new by SACK: the peer said that it tells, and it lies in the window.
     #[tactic(auto, unfolding(crate::specs::Rfc::Recovery::is_telling))]
     pub(crate) fn is_telling(&self, repr: &TcpRepr<'_>) -> bool
@@ -280,7 +288,7 @@ impl<'a> ControlBlock<'a> {
     {
         let news = self
             .sacked
-            .any_news(self.sent(), self.local_seq_no, &repr.sack_ranges);
+            .any_news(self.tellable(), self.local_seq_no, &repr.sack_ranges);
         news && (self.remote_has_sack
             && self
                 .honored_window()
@@ -293,7 +301,7 @@ impl<'a> ControlBlock<'a> {
     {
         if telling {
             self.sacked
-                .all_told(self.sent(), self.local_seq_no, &repr.sack_ranges)
+                .all_told(self.tellable(), self.local_seq_no, &repr.sack_ranges)
         } else {
             self.sacked
         }

@@ -13,15 +13,15 @@ ghost use Rattle.sock_tcp.specs.Queues.{written, Sends, SendsWith, Writes, Reads
 ghost use Rattle.sock_tcp.specs.Queues.{Drops, PeeksInto};
 ghost use Rattle.sock_tcp.specs.Ended.{ended_by_opening, ended_by_segment};
 ghost use Rattle.sock_tcp.specs.Draw.{draws, Draws};
-ghost use Rattle.sock_tcp.specs.Process.{Accepts, Processes, answered, processed, source_kept};
+ghost use Rattle.sock_tcp.specs.Process.{Accepts, Processes, processed, responded, source_kept};
 ghost use Rattle.sock_tcp.specs.Verdict.{verdict_of};
 ghost use Rattle.sock_tcp.specs.Replies.{IsReplyStamp, echoed};
 
 use crate::control_block::ControlBlock;
+use crate::duplicates::Response;
 use crate::ended::{Ended, by_segment};
 use crate::error::{ConnectError, ListenError, RecvError, SendError};
 use crate::generator::{Generator, TsvalSource};
-use crate::process::Answer;
 use crate::reply::Reply;
 use crate::state::State;
 use control_wire::TcpRepr;
@@ -380,9 +380,9 @@ impl<'a, G: TsvalSource> Socket<'a, G> {
         cx: &mut C,
         ip_repr: &IpRepr,
         repr: &TcpRepr<'_>,
-    ) -> Answer
+    ) -> Response
         requires { length repr.now.payload.now ≤ 65535 }
-        ensures table { answered result self.new.control_block (segment_of repr.now)
+        ensures table { responded result self.new.control_block (segment_of repr.now)
             ≡ processed self.old.control_block (moment_of (C.facts cx.old)) (C.word_at cx.old 0) ip_repr.now
             (segment_of repr.now) }
         ensures context { Draws (draws (verdict_of self.old.control_block repr.now.control repr.now.ack_number)
@@ -428,9 +428,9 @@ impl<'a, G: TsvalSource> Socket<'a, G> {
             self.new.control_block.state self.old.ended }
     {
         match self.take_segment(cx, ip_repr, repr) {
-            Answer::Nothing => None,
-            Answer::Ack => self.reply_by(Answer::Ack, ip_repr, repr),
-            Answer::Rst => self.reply_by(Answer::Rst, ip_repr, repr),
+            Response::Nothing => None,
+            Response::Ack(count) => self.reply_by(Response::Ack(count), ip_repr, repr),
+            Response::Rst => self.reply_by(Response::Rst, ip_repr, repr),
         }
     }
 }

@@ -20,7 +20,7 @@ use Rattle.tcp_laws.specs.Laws.{IsPeered}
 use Rattle.sock_tcp.specs.Replies.{ack_kept, ack_segment}
 use Rattle.sock_tcp.specs.Timers.{after, challenge_interval}
 use Rattle.sock_tcp.specs.Steps.{window_taken, released, is_duplicate, ack_heard, duplicate_counted, ack_counted, una_advanced, acknowledged, timestamp_taken, timer_set, counted, heard, joined, ack_delayed}
-use Rattle.sock_tcp.specs.Process.{stopped, ack_sent, challenged, close_restarted, outside_by, outside, gap_answered, bytes_taken, tuple_of, after_advance, after_table, processed_inside, has_window, cut_inside, tested_by, by_verdict, processed_by, without_place}
+use Rattle.sock_tcp.specs.Process.{stopped, ack_sent, challenged, close_restarted, outside_by, outside, gap_answered, bytes_taken, tuple_of, after_advance, after_table, processed_inside, has_window, cut_inside, tested_by, by_verdict, closed_then, processed_by, without_place}
 use Rattle.sock_tcp.specs.declared.acked.Acked.{Acked}
 use Rattle.sock_tcp.specs.declared.advance.Next.{Next}
 use Rattle.sock_tcp.specs.declared.advance.Next.TheVariants as next
@@ -30,6 +30,7 @@ use Rattle.sock_tcp.specs.declared.tuple.Tuple.{Tuple}
 use Rattle.sock_tcp.specs.declared.verdict.Verdict.{Verdict}
 use Rattle.sock_tcp.specs.declared.verdict.Verdict.TheVariants as verdicts
 use Rattle.tcp_laws.proofs.Kept.{KeptByAnswers, KeptByRows, challenged_kept, outside_kept, rows_kept}
+use Rattle.sock_tcp.specs.Rfc.Duplicates.{duplicate_told}
 use Rattle.sock_tcp.specs.Rfc.Recovery.{before_of, recovered, recovered_by}
 use Rattle.sock_tcp.specs.Rfc.Refused.{refused}
 use Rattle.sock_tcp.specs.declared.rules.Rules.{Rules}
@@ -419,6 +420,11 @@ module _ (v : View) (now : Instant) (word : ℕ) (ip : IpRepr) (s : Segment) whe
       go false = refused_back r
       go true = inside_back numbered (counted_control s.control (accepted_window r v) s.seq_number (length s.payload)) (offset_in r) (bytes_in r)
 
+  told_back : (r : Rules) (x : Option Segment) → GoesBack s x → GoesBack s (duplicate_told r v s x)
+  told_back rules.Smoltcp x h = h
+  told_back rules.Rfc None h = h
+  told_back rules.Rfc (Some x) h = h
+
   by_verdict_back : (r : Rules) (x : Verdict) → GoesBack s (by_verdict r x v (arrival now (tuple_of ip s) word s)).reply
   by_verdict_back r verdicts.Drop = tt
   by_verdict_back r verdicts.Reset = (refl, refl)
@@ -427,7 +433,7 @@ module _ (v : View) (now : Instant) (word : ℕ) (ip : IpRepr) (s : Segment) whe
       let o = tested_by r (has_window v.state) v (arrival now (tuple_of ip s) word s) in
       let h = tested_back r (has_window v.state) in
       let j = recovered_as (λ o. GoesBack s o.reply) r v now s o h h in
-      closed_as (λ o. GoesBack s o.reply) r (recovered_by r v now s o) j j
+      told_back r (closed_then r (recovered_by r v now s o)).reply (closed_as (λ o. GoesBack s o.reply) r (recovered_by r v now s o) j j)
 
 -- ---- the whole, of a segment with the window that it counts as telling
 

@@ -18,7 +18,7 @@ use Rattle.sock_tcp.specs.Arrival.{arrival}
 use Rattle.sock_tcp.specs.Acked.{acked_at, acked_of, is_fin_acked}
 use Rattle.sock_tcp.specs.Advance.{advance_in, advanced, counted_control, moved_to, nothing_new_by, waiting}
 use Rattle.sock_tcp.specs.Due.{data_due, flight, may_wait}
-use Rattle.sock_tcp.specs.Process.{Outcome, challenged, close_restarted, outside, bytes_taken, tuple_of, after_advance, after_table, processed_inside, has_window, tested_by, by_verdict, closed_then, processed, processed_by}
+use Rattle.sock_tcp.specs.Process.{Outcome, challenged, close_restarted, outside, bytes_taken, tuple_of, after_advance, after_table, processed_inside, has_window, tested_by, by_verdict, closed_then, processed, processed_by, told_then}
 use Rattle.sock_tcp.specs.Replies.{ack_kept}
 use Rattle.sock_tcp.specs.Steps.{scale_of, window_of, window_taken, released, is_duplicate, is_last_ack, is_window_changed, duplicate_counted, ack_counted, una_advanced, acknowledged, timestamp_taken, timer_set, heard, joined, ack_delayed}
 use Rattle.sock_tcp.specs.Rfc.Checks.{verdict_by}
@@ -162,7 +162,7 @@ module _ (r : Rules) (v : View) (now : Instant) (word : ℕ) (ip : IpRepr) (s : 
   inside_as st b = after_table (advance_in st b a.fin u (arrival now (tuple_of ip s) word s) a.len) (arrival now (tuple_of ip s) word s) a cut.offset (cut_bytes cut s.payload)
 
   -- behind the test of the window
-  in_window : has_window v.state ≡ true → is_inside (accepted_window r v) s.seq_number (length s.payload) ≡ true → by_verdict r verdicts.Pass v (arrival now (tuple_of ip s) word s) ≡ closed_then r (recovered_by r v now s (inside_as v.state c))
+  in_window : has_window v.state ≡ true → is_inside (accepted_window r v) s.seq_number (length s.payload) ≡ true → by_verdict r verdicts.Pass v (arrival now (tuple_of ip s) word s) ≡ told_then r v s (closed_then r (recovered_by r v now s (inside_as v.state c)))
   unfolding processed_inside advanced
   in_window has i = rw (has, i) refl
 
@@ -202,7 +202,7 @@ module _ (r : Rules) (v : View) (now : Instant) (word : ℕ) (ip : IpRepr) (s : 
   recovered_tells o h = h
 
   tells_inside : hears_window v.state ≡ true → is_inside (accepted_window r v) s.seq_number (length s.payload) ≡ true → c ≡ control.None → Tells (by_verdict r verdicts.Pass v (arrival now (tuple_of ip s) word s))
-  tells_inside hears inside no_bit = let t : Tells (inside_as v.state c) = rw no_bit (row_tells v.state a.fin hears) in let j = recovered_as Tells r v now s (inside_as v.state c) t (recovered_tells (inside_as v.state c) t) in rw (in_window (has v.state hears) inside) (closed_as Tells r (recovered_by r v now s (inside_as v.state c)) j j)
+  tells_inside hears inside no_bit = let t : Tells (inside_as v.state c) = rw no_bit (row_tells v.state a.fin hears) in let j = recovered_as Tells r v now s (inside_as v.state c) t (recovered_tells (inside_as v.state c) t) in subst Tells (sym (in_window (has v.state hears) inside)) (closed_as Tells r (recovered_by r v now s (inside_as v.state c)) j j)
 
   abbrev Fast : Outcome → Type 0
   Fast x = x.view.timer ≡ timer.FastRetransmit
@@ -336,4 +336,4 @@ third_duplicate_wakes v now word ip s k r numbered h d =
     let of_y = ap (acked_of v s.control) same in
     let timer = heard_third now y (u v.rules v now word ip y) (a v.rules v now word ip y) k (same ∙ d.number) (ap (λ (x : Acked). x.all) of_y ∙ all) (ap (λ (x : Acked). x.len) of_y ∙ d.nothing.bytes) d.two_before d.duplicate (not_zero _ (some_window s.control (told_by v.rules v s) v.remote_win_scale h.window)) in
     let fast : Fast v.rules v now word ip y (inside_as v.rules v now word ip y v.state (c v.rules v now word ip y)) = rw (h.no_bit, ap (λ (x : Acked). x.fin) of_y ∙ d.nothing.fin) (row_fast v.rules v now word ip y v.state h.hears timer) in
-    rw (passed_as v.rules v now word ip s h.passes, in_window v.rules v now word ip y (has v.rules v now word ip y v.state h.hears) h.inside) (fast_resends v.rules v now y (inside_as v.rules v now word ip y v.state (c v.rules v now word ip y)) fast)
+    rw (passed_as v.rules v now word ip s h.passes) (subst (λ (x : Outcome). Resends v.rules x.view.timer) (sym (in_window v.rules v now word ip y (has v.rules v now word ip y v.state h.hears) h.inside)) (fast_resends v.rules v now y (inside_as v.rules v now word ip y v.state (c v.rules v now word ip y)) fast))

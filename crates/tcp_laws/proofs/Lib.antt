@@ -34,9 +34,12 @@ pub mod Timed
 pub mod Clocks
 pub mod Speaking
 pub mod LossSaid
+pub mod HeldRanges
+pub mod Duplicates
 pub mod Telling
 pub mod LossFollows
 pub mod Undoing
+pub mod Below
 pub mod Late
 pub mod Pointed
 pub mod OwnWindows

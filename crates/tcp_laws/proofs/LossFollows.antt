@@ -10,7 +10,7 @@ use Rattle.sock_tcp.specs.Content.{carries_data}
 use Rattle.sock_tcp.specs.Process.{ack_sent, by_verdict, challenged, has_window, processed_by, stopped, tested_by, tuple_of}
 use Rattle.sock_tcp.specs.Replies.{ack_kept}
 use Rattle.sock_tcp.specs.Rfc.Checks.{verdict_by}
-use Rattle.sock_tcp.specs.Rfc.Recovery.{before_of, is_telling, recovered, sacked_by, sent_of}
+use Rattle.sock_tcp.specs.Rfc.Recovery.{before_of, is_telling, recovered, sacked_by, tellable}
 use Rattle.sock_tcp.specs.Rfc.Scoreboard.{block_moved, moved, nothing_told}
 use Rattle.sock_tcp.specs.Rfc.Windows.{windowed}
 use Rattle.sock_tcp.specs.Timers.{after, challenge_interval}
@@ -65,11 +65,11 @@ module _ (v : View) (s : Segment) (small : v.local_seq_no.0 < 2 ^ 32) where
       d : ℕ
       d = seq_sub w.local_seq_no v.local_seq_no
 
-      came : (t : Bool) → Tells (sacked_by t v s) (x + d) → Tells v.sacked (x + d) ⊎ IsInAny (sent_of v) v.local_seq_no s.sack_ranges (x + d)
-      came true e = tells_only_what_came v.sacked (sent_of v) v.local_seq_no s.sack_ranges (x + d) e
+      came : (t : Bool) → Tells (sacked_by t v s) (x + d) → Tells v.sacked (x + d) ⊎ IsInAny (tellable v) v.local_seq_no s.sack_ranges (x + d)
+      came true e = tells_only_what_came v.sacked (tellable v) v.local_seq_no s.sack_ranges (x + d) e
       came false e = inl e
 
-      go : (b : Bool) → Tells (if b then moved (sacked_by (is_telling v s) v s) d else nothing_told) x → Tells v.sacked (x + d) ⊎ IsInAny (sent_of v) v.local_seq_no s.sack_ranges (x + d)
+      go : (b : Bool) → Tells (if b then moved (sacked_by (is_telling v s) v s) d else nothing_told) x → Tells v.sacked (x + d) ⊎ IsInAny (tellable v) v.local_seq_no s.sack_ranges (x + d)
       go true e = came (is_telling v s) (moved_tells _ d x e)
       go false e = absurd (tells_nothing x e)
 

@@ -14,7 +14,7 @@ use Rattle.sock_tcp.specs.Acked.{acked_of}
 use Rattle.sock_tcp.specs.Advance.{Advance, advance_in, advanced, counted_control}
 use Rattle.sock_tcp.specs.Draw.{draws, Draws}
 use Rattle.sock_tcp.specs.Opening.{endpoints, connect_answer, after_connect, Connects}
-use Rattle.sock_tcp.specs.Process.{Outcome, AcceptsIn, Accepts, after_advance, after_table, by_verdict, closed_then, cut_inside, has_window, outside, processed, processed_by, processed_inside, tested_by, tuple_of}
+use Rattle.sock_tcp.specs.Process.{Outcome, AcceptsIn, Accepts, after_advance, after_table, by_verdict, closed_then, cut_inside, has_window, outside, processed, processed_by, processed_inside, tested_by, told_then, tuple_of}
 use Rattle.tcp_laws.specs.SocketRun.{Counts, Step, Process, Connect, IsNumbered, after_segment, starting_if}
 use Rattle.sock_tcp.specs.Verdict.{verdict_of}
 use Rattle.sock_tcp.specs.Rfc.Windows.{ack_heeded, windowed}
@@ -94,7 +94,7 @@ module _ (now : Instant) (m n : ℕ) (ip : IpRepr) (s : Segment) where
   verdict_alike r v verdicts.Drop e = refl
   verdict_alike r v verdicts.Reset e = refl
   verdict_alike r v verdicts.Challenge e = refl
-  verdict_alike r v verdicts.Pass e = ap (λ o. closed_then r (recovered_by r v now s o)) (tested_alike r v (has_window v.state) refl e)
+  verdict_alike r v verdicts.Pass e = ap (λ o. told_then r v s (closed_then r (recovered_by r v now s o))) (tested_alike r v (has_window v.state) refl e)
 
 processed_alike : (now : Instant) (m n : ℕ) (ip : IpRepr) (s : Segment) (r : Rules) (v : View) → draws (verdict_of v s.control s.ack_number) v.state s.control ≡ false → processed_by r v now m ip s ≡ processed_by r v now n ip s
 unfolding processed_by

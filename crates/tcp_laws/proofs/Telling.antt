@@ -1,19 +1,16 @@
 -- What a socket tells by SACK is what it holds.
-use Rattle.std.proofs.Common.{◌≡◌, ℕ, ◌+◌, ◌-◌, ◌<◌, ◌≤◌, Bool, true, false, refl, sym, ap, subst, ◌∙◌, arith, List, [], ◌∷◌, length, Option, Some, None, is_some, ◌||◌, ◌&&◌}
-use Rattle.std.specs.Prelude.{int_lt, nat_lt, ◌==◌, if◌then◌else◌, slice_get, option_map, zero, suc}
-use Rattle.std.proofs.lemmas.Bool.Decides.{nat_tests}
+use Rattle.std.proofs.Common.{◌≡◌, ℕ, ◌+◌, ◌-◌, Bool, true, false, refl, sym, ap, subst, ◌∙◌, arith, List, [], ◌∷◌, length, Option, Some, None, ◌||◌, ◌&&◌, inl, inr}
+use Rattle.std.specs.Prelude.{int_lt, nat_lt, ◌==◌, if◌then◌else◌, slice_get, option_map}
 use Rattle.std.proofs.lemmas.Option.{none-some}
 use Rattle.ip_wire.specs.declared.repr.IpRepr.{IpRepr}
-use Rattle.net_base.specs.Ranges.{Apart, edges, is_held, is_within}
-use Rattle.net_base.specs.declared.assembler.Range.{Range}
+use Rattle.net_base.specs.Ranges.{edges}
 use Rattle.net_base.specs.declared.time.Instant.{Instant}
 use Rattle.control_wire.specs.Segment.{Segment}
-use Rattle.control_wire.specs.Seq.{seq_add, seq_sub}
-use Rattle.control_wire.specs.declared.seq_number.TcpSeqNumber.{TcpSeqNumber}
+use Rattle.control_wire.specs.Seq.{seq_add}
 use Rattle.control_wire.specs.declared.tcp.TcpControl.{TcpControl}
 use Rattle.control_wire.specs.declared.tcp.TcpControl.TheVariants as control
 use Rattle.sock_core.specs.Facts.{Facts}
-use Rattle.sock_core.specs.Received.{byte_at, holds_nothing, lies_around, makes_fifth_range, range_around, ranges_of}
+use Rattle.sock_core.specs.Received.{holds_nothing, makes_fifth_range, ranges_of}
 use Rattle.sock_core.proofs.Receiving.{ranges_are}
 use Rattle.sock_tcp.specs.Acked.{acked_of}
 use Rattle.sock_tcp.specs.Advance.{advance_in, advanced, counted_control}
@@ -21,9 +18,10 @@ use Rattle.sock_tcp.specs.Arrival.{Arrival, arrival}
 use Rattle.sock_tcp.specs.Begin.{before_emit, peer_of}
 use Rattle.sock_tcp.specs.Content.{Sending, content, emission_kind, filled, of_kind, plain_segment, sent_as}
 use Rattle.sock_tcp.specs.Closing.{closed_from}
-use Rattle.sock_tcp.specs.Process.{Outcome, ack_sent, after_advance, by_verdict, bytes_taken, challenged, close_restarted, cut_inside, gap_answered, has_window, outside, outside_by, processed_by, processed_inside, stopped, tested_by, tuple_of, without_place}
-use Rattle.sock_tcp.specs.Replies.{ack_kept, ack_segment, chosen_range, first_of, is_same, sack_ranges, second_range, third_range, told_by, told_of, wire_edges}
+use Rattle.sock_tcp.specs.Process.{Outcome, ack_sent, after_advance, by_verdict, bytes_taken, challenged, close_restarted, closed_then, cut_inside, gap_answered, has_window, outside, outside_by, processed_by, processed_inside, stopped, tested_by, tuple_of, without_place}
+use Rattle.sock_tcp.specs.Replies.{ack_kept, ack_segment, chosen_range, rst_segment, is_same, sack_ranges, second_range, third_range, told_by, told_of, wire_edges}
 use Rattle.sock_tcp.specs.Rfc.Checks.{verdict_by}
+use Rattle.sock_tcp.specs.Rfc.Duplicates.{duplicate_told}
 use Rattle.sock_tcp.specs.Rfc.Recovery.{before_of, recovered, recovered_by}
 use Rattle.sock_tcp.specs.Rfc.Refused.{refused}
 use Rattle.sock_tcp.specs.Rfc.Windows.{windowed}
@@ -50,61 +48,16 @@ use Rattle.sock_tcp.specs.Due.{own_mss, ranges_or, sent_ranges, tells_ranges}
 use Rattle.sock_tcp.specs.Sack.{tells_by}
 use Rattle.sock_tcp.specs.Sent.{after_any, after_probe, snd_nxt_moved}
 use Rattle.tcp_laws.proofs.Kept.{KeptBySending, sends_kept}
+use Rattle.tcp_laws.proofs.HeldRanges.{AllOf, AnyOf, all_of, chosen_of, got_of}
+use Rattle.tcp_laws.proofs.Duplicates.{SaysHeld, duplicate_says}
 use Rattle.tcp_laws.proofs.Ruled.{before_ruled}
 use Rattle.tcp_laws.specs.SocketRun.{Dispatched, SendsTo}
 use Rattle.tcp_laws.specs.Telling.{AllHeld, TellsHeld}
 
--- ---- one range of those that are held
-
--- it is not empty, and all of its offsets are held
-record IsOf (hs : List (Option ℕ)) (r : ℕ × ℕ) : Type 0 where
-  some : r.0 < r.1
-  held : (k : ℕ) → r.0 ≤ k → k < r.1 → is_some (byte_at hs k) ≡ true
-
-abbrev AllOf : List (Option ℕ) → List (ℕ × ℕ) → Type 0
-AllOf hs [] = Unit {0}
-AllOf hs (r ∷ rs) = IsOf hs r × AllOf hs rs
-
-abbrev AnyOf : List (Option ℕ) → Option (ℕ × ℕ) → Type 0
-AnyOf hs None = Unit {0}
-AnyOf hs (Some r) = IsOf hs r
-
-all_of : (hs : List (Option ℕ)) (b : ℕ) (rs : List Range) → Apart b rs → ((k : ℕ) → is_held rs k ≡ true → is_some (byte_at hs k) ≡ true) → AllOf hs (edges rs)
-all_of hs b [] a h = tt
-all_of hs b (r ∷ rs) a h = (
-  record { some = a.1; held = λ k from to. h k (ap (λ t. t || is_held rs k) (let here : is_within r.start r.end k ≡ true = grind (arith, nat_tests, from, to) in here)) },
-  all_of hs (r.end + 1) rs a.2 (λ k e. h k (or_second (is_within r.start r.end k) (is_held rs k) e)),
-)
-  where
-    or_second : (a b : Bool) → b ≡ true → (a || b) ≡ true
-    or_second true b e = refl
-    or_second false b e = e
-
-got_of : (hs : List (Option ℕ)) (rs : List (ℕ × ℕ)) (i : ℕ) → AllOf hs rs → AnyOf hs (slice_get rs i)
-got_of hs [] i a = tt
-got_of hs (r ∷ rs) zero a = a.0
-got_of hs (r ∷ rs) (suc i) a = got_of hs rs i a.1
-
-around_of : (hs : List (Option ℕ)) (rs : List (ℕ × ℕ)) (d : ℕ) → AllOf hs rs → AnyOf hs (range_around rs d)
-around_of hs [] d a = tt
-around_of hs (r ∷ rs) d a = go (lies_around r d) (around_of hs rs d a.1)
-  where
-    go : (b : Bool) → AnyOf hs (range_around rs d) → AnyOf hs (if b then Some r else range_around rs d)
-    go true later = a.0
-    go false later = later
-
-first_of_them : (hs : List (Option ℕ)) (r s : Option (ℕ × ℕ)) → AnyOf hs r → AnyOf hs s → AnyOf hs (first_of r s)
-first_of_them hs None s a b = b
-first_of_them hs (Some r) s a b = a
-
-chosen_of : (hs : List (Option ℕ)) (rs : List (ℕ × ℕ)) (nxt : TcpSeqNumber) (last : Option TcpSeqNumber) → AllOf hs rs → AnyOf hs (chosen_range rs nxt last)
-chosen_of hs rs nxt None a = got_of hs rs 0 a
-chosen_of hs rs nxt (Some n) a = first_of_them hs (range_around rs (seq_sub n nxt)) (slice_get rs 0) (around_of hs rs (seq_sub n nxt) a) (got_of hs rs 0 a)
-
 -- ---- an acknowledgement tells it
 
 abbrev Says : Outcome → Type 0
-Says o = TellsHeld o.view o.reply
+Says o = SaysHeld o.view o.reply
 
 -- beside the chosen one: any two of them
 if_of : (hs : List (Option ℕ)) (b : Bool) (r s : Option (ℕ × ℕ)) → AnyOf hs r → AnyOf hs s → AnyOf hs (if b then r else s)
@@ -255,7 +208,7 @@ module _ (now : Instant) (word : ℕ) (ip : IpRepr) (s : Segment) where
   unfolding recovered
   recovered_says v o h = go o.reply h
     where
-      go : (r : Option Segment) → TellsHeld o.view r → TellsHeld (recovered (before_of v s) o.view now) r
+      go : (r : Option Segment) → SaysHeld o.view r → SaysHeld (recovered (before_of v s) o.view now) r
       go None h = tt
       go (Some x) h = h
 
@@ -263,19 +216,39 @@ module _ (now : Instant) (word : ℕ) (ip : IpRepr) (s : Segment) where
   closed_says : (o : Outcome) → Says o → Says (record { view = record o.view { state = closed_from o.view.state }; reply = o.reply })
   closed_says o h = go o.reply h
     where
-      go : (r : Option Segment) → TellsHeld o.view r → TellsHeld (record o.view { state = closed_from o.view.state }) r
+      go : (r : Option Segment) → SaysHeld o.view r → SaysHeld (record o.view { state = closed_from o.view.state }) r
       go None h = tt
       go (Some x) h = h
 
-  verdict_says : (r : Rules) (v : View) (x : Verdict) → Says (by_verdict r x v come)
-  verdict_says r v verdicts.Drop = tt
-  verdict_says r v verdicts.Reset = tt
-  verdict_says r v verdicts.Challenge = challenged_says s now v
-  verdict_says r v verdicts.Pass = let o = tested_by r (has_window v.state) v come in let h = tested_says r v (has_window v.state) in let j = recovered_as Says r v now s o h (recovered_says v o h) in closed_as Says r (recovered_by r v now s o) j (closed_says (recovered_by r v now s o) j)
+  passed_says : (r : Rules) (v : View) → Says (closed_then r (recovered_by r v now s (tested_by r (has_window v.state) v come)))
+  passed_says r v = let o = tested_by r (has_window v.state) v come in let h = tested_says r v (has_window v.state) in let j = recovered_as Says r v now s o h (recovered_says v o h) in closed_as Says r (recovered_by r v now s o) j (closed_says (recovered_by r v now s o) j)
 
-pub process_says : (r : Rules) (v : View) (now : Instant) (word : ℕ) (ip : IpRepr) (s : Segment) → TellsHeld (processed_by r v now word ip s).view (processed_by r v now word ip s).reply
+  only_held : (r : Rules) (v w : View) (x : Option Segment) → SaysHeld w x → TellsHeld r v s w x
+  only_held r v w None h = tt
+  only_held rules.Smoltcp v w (Some x) h = h
+  only_held rules.Rfc v w (Some x) h = inl h
+
+  then_says : (r : Rules) (v w : View) (x : Option Segment) → SaysHeld w x → TellsHeld r v s w (duplicate_told r v s x)
+  then_says rules.Smoltcp v w x h = only_held rules.Smoltcp v w x h
+  then_says rules.Rfc v w None h = tt
+  then_says rules.Rfc v w (Some x) h = duplicate_says v s w x h
+
+  verdict_says : (r : Rules) (v : View) (x : Verdict) → TellsHeld r v s (by_verdict r x v come).view (by_verdict r x v come).reply
+  verdict_says r v verdicts.Drop = tt
+  verdict_says r v verdicts.Reset = only_held r v v (Some (rst_segment s)) tt
+  verdict_says r v verdicts.Challenge = only_held r v (challenged v now s).view (challenged v now s).reply (challenged_says s now v)
+  verdict_says r v verdicts.Pass = let o = closed_then r (recovered_by r v now s (tested_by r (has_window v.state) v come)) in then_says r v o.view o.reply (passed_says r v)
+
+as_it_came : (r : Rules) (q : Rules) (v w : View) (s : Segment) (x : Option Segment) → TellsHeld q v (windowed r v s) w x → TellsHeld q v s w x
+as_it_came r q v w s None h = tt
+as_it_came r rules.Smoltcp v w s (Some x) h = h
+as_it_came r rules.Rfc v w s (Some x) (inl h) = inl h
+as_it_came r rules.Rfc v w s (Some x) (inr t) =
+    inr (record { first = t.first; others = t.others; are = t.are; heeds = t.heeds; twice = record { len = t.twice.len; some = t.twice.some; carried = t.twice.carried; begins = t.twice.begins; ends = t.twice.ends; came = t.twice.came }; held = t.held })
+
+pub process_says : (r : Rules) (v : View) (now : Instant) (word : ℕ) (ip : IpRepr) (s : Segment) → TellsHeld r v s (processed_by r v now word ip s).view (processed_by r v now word ip s).reply
 unfolding processed_by
-process_says r v now word ip s = verdict_says now word ip (windowed r v s) r v (verdict_by r v now s)
+process_says r v now word ip s = as_it_came r r v (processed_by r v now word ip s).view s (processed_by r v now word ip s).reply (verdict_says now word ip (windowed r v s) r v (verdict_by r v now s))
 
 -- ---- what a dispatch sends
 

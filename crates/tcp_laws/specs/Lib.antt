@@ -14,3 +14,4 @@ pub mod Late
 pub mod Telling
 pub mod Windows
 pub mod Honored
+pub mod Below

@@ -6,7 +6,7 @@ use Rattle.control_wire.specs.Segment.{Segment}
 use Rattle.control_wire.specs.Seq.{seq_sub}
 use Rattle.control_wire.specs.declared.seq_number.TcpSeqNumber.{TcpSeqNumber}
 use Rattle.sock_tcp.specs.Process.{processed_by}
-use Rattle.sock_tcp.specs.Rfc.Recovery.{sent_of}
+use Rattle.sock_tcp.specs.Rfc.Recovery.{tellable}
 use Rattle.sock_tcp.specs.Rfc.Scoreboard.{all_told, block_from, is_credible}
 use Rattle.sock_tcp.specs.View.{View}
 use Rattle.sock_tcp.specs.declared.rules.Rules.TheVariants as rules
@@ -53,7 +53,7 @@ una_moved v w = seq_sub w.local_seq_no v.local_seq_no
 abbrev pub FollowsSegment : View → Segment → View → Type 0
 FollowsSegment v s w = (x : ℕ)
     → Tells w.sacked x
-    → Tells v.sacked (x + una_moved v w) ⊎ IsInAny (sent_of v) v.local_seq_no s.sack_ranges (x + una_moved v w)
+    → Tells v.sacked (x + una_moved v w) ⊎ IsInAny (tellable v) v.local_seq_no s.sack_ranges (x + una_moved v w)
 
 abbrev pub ScoreboardFollowsSegments : Type 0
 ScoreboardFollowsSegments =

@@ -1,4 +1,5 @@
 //! Laws on what a sender knows of a loss, and on what a receiver tells of it.
+ghost use Rattle.tcp_laws.specs.Below.{DuplicatesBelowChangeNoLoss};
 ghost use Rattle.tcp_laws.specs.Loss.{ScoreboardFollowsSegments, TellsOnlyWhatCame, TellsTheNewest};
 ghost use Rattle.tcp_laws.specs.Late.{LateHoleGoesOut, NoLossIsForgotten, NothingSeenNothingIsLate};
 ghost use Rattle.tcp_laws.specs.Late.{NothingSeenNothingWaits, WaitsForARoundTripAtMost};
@@ -41,6 +42,14 @@ pub fn recoveries_for_nothing_are_undone()
     ensures undoes { UndoesWhatWasForNothing }
     ensures decides { FirstEchoDecides }
     ensures once { NothingIsUndoneTwice }
+{}
+
+/// By the RFCs' rules: a duplicate acknowledgement of a peer that tells by SACK, none of whose blocks begins behind
+/// SND.UNA, as a D-SACK (RFC 2883), and which undoes nothing: the count of duplicates, the congestion window, the
+/// recovery, what was told, what is marked, and how long a loss is waited for, are as they were (RFC 6675, section 2). No
+/// fast retransmission is due then that was not due before.
+pub fn duplicates_below_change_no_loss()
+    ensures { DuplicatesBelowChangeNoLoss }
 {}
 
 /// By the RFCs' rules: where a segment tells of a loss while no recovery goes on, and something is in flight, a fast

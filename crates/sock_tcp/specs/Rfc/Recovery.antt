@@ -68,17 +68,21 @@ highest_of (recovery.Timeout point) nxt = later_of nxt point
 abbrev pub sent_of : View → ℕ
 sent_of v = seq_sub (highest_of v.recovery v.remote_last_seq) v.local_seq_no
 
+-- how many of them the peer may have: no more than are queued, and the FIN
+abbrev pub tellable : View → ℕ
+tellable v = min (sent_of v) (length v.tx_buffer.bytes + 1)
+
 -- the peer said that it tells, and the segment lies in the window in which it is taken
 abbrev pub may_tell : View → Segment → Bool
 may_tell v s = v.remote_has_sack && is_inside (honored_window v) s.seq_number (length s.payload)
 
 -- the segment has a block with something new
 unfoldable pub is_telling : View → Segment → Bool
-is_telling v s = any_news v.sacked (sent_of v) v.local_seq_no s.sack_ranges && may_tell v s
+is_telling v s = any_news v.sacked (tellable v) v.local_seq_no s.sack_ranges && may_tell v s
 
 abbrev pub sacked_by : Bool → View → Segment → Scoreboard
 sacked_by false v s = v.sacked
-sacked_by true v s = all_told v.sacked (sent_of v) v.local_seq_no s.sack_ranges
+sacked_by true v s = all_told v.sacked (tellable v) v.local_seq_no s.sack_ranges
 
 -- ---- what the acknowledgement of a tail-loss probe says (RFC 8985, section 7.4.2)
 

@@ -10,6 +10,7 @@ use Rattle.sock_core.specs.Received.{room_of}
 use Rattle.sock_core.specs.Seq.{is_not_after}
 use Rattle.sock_tcp.specs.Arrival.{Arrival}
 use Rattle.sock_tcp.specs.Inside.{Outcome, acked_by, outside, processed_inside, stopped}
+pub use Rattle.sock_tcp.specs.Rfc.Duplicates.{is_plain_control}
 use Rattle.sock_tcp.specs.View.{View}
 use Rattle.sock_tcp.specs.Window.{honored_window}
 use Rattle.sock_tcp.specs.declared.acked.Acked.{Acked}
@@ -30,12 +31,6 @@ abbrev pub is_next_fin : TcpControl → Window → TcpSeqNumber → ℕ → Bool
 is_next_fin c w number n = is_fin c && seq_eq (seq_add number n) w.start
 
 -- ---- an acknowledgement that comes outside (RFC 9293, section 3.10.7.4)
-
--- neither an RST nor a SYN
-abbrev pub is_plain_control : TcpControl → Bool
-is_plain_control control.Rst = false
-is_plain_control control.Syn = false
-is_plain_control _ = true
 
 -- bytes or the own FIN
 abbrev pub acks_something : Acked → Bool

@@ -12,7 +12,7 @@ pub use crate::proved::sock_core::{RttEstimator, before, congestion, later, not_
 #[doc(hidden)]
 pub use proved::tuple;
 pub use proved::{
-    Answer, CongestionControl, ConnectError, Ended, Generator, ListenError, Negotiated, RecvError, Reply,
+    CongestionControl, ConnectError, Ended, Generator, ListenError, Negotiated, RecvError, Reply, Response,
     Row, Rules, RulesError, SendError, SocketBuffer, State, TsvalSource,
 };
 
@@ -272,7 +272,7 @@ impl<'a, G> Socket<'a, G> {
 impl<'a, G: TsvalSource> Socket<'a, G> {
     /// The first half of [`Socket::process`], as the proved call of this name.
     #[inline(always)]
-    pub fn take_segment<C: Context>(&mut self, cx: &mut C, ip_repr: &IpRepr, repr: &TcpRepr<'_>) -> Answer {
+    pub fn take_segment<C: Context>(&mut self, cx: &mut C, ip_repr: &IpRepr, repr: &TcpRepr<'_>) -> Response {
         if TOLD {
             match self.proved.explain(cx, ip_repr, repr) {
                 Row::Opens | Row::Fin | Row::InOrder | Row::BareAck => {}
@@ -290,8 +290,8 @@ impl<'a, G: TsvalSource> Socket<'a, G> {
     #[inline(always)]
     pub fn process<C: Context>(&mut self, cx: &mut C, ip_repr: &IpRepr, repr: &TcpRepr<'_>) -> Option<Reply> {
         match self.take_segment(cx, ip_repr, repr) {
-            Answer::Nothing => None,
-            answer => self.proved.reply_by(answer, ip_repr, repr),
+            Response::Nothing => None,
+            response => self.proved.reply_by(response, ip_repr, repr),
         }
     }
 

@@ -6,7 +6,7 @@ use crate::proved::net_host::limit::Limit;
 use crate::proved::net_host::replies::put_reply;
 use crate::proved::net_host::segments::keep_within;
 use crate::proved::net_host::slot::Slot;
-use crate::sockets::sock_tcp::{Answer, TsvalSource};
+use crate::sockets::sock_tcp::{Response, TsvalSource};
 use crate::sockets::wire::{IpRepr, TcpRepr};
 use crate::sockets::{Context, Socket, tcp};
 
@@ -17,13 +17,13 @@ fn put_answer<C: Context, G: TsvalSource>(
     tcp: &mut tcp::Socket<'_, G>,
     cx: &C,
     limit: &mut Limit,
-    answer: Answer,
+    response: Response,
     ip: &IpRepr,
     repr: &TcpRepr<'_>,
     out: &mut [u8],
 ) -> usize {
     let caps = cx.checksum_caps();
-    let mut reply = tcp.reply_by(answer, ip, repr);
+    let mut reply = tcp.reply_by(response, ip, repr);
     keep_within(limit, cx.now(), ip, &mut reply);
     put_reply(&reply, out, &caps)
 }
@@ -41,9 +41,9 @@ impl<'a, G: TsvalSource> Slot<'a, G> {
     ) -> usize {
         match &mut self.socket {
             Some(Socket::Tcp(tcp)) => match tcp.take_segment(cx, ip, repr) {
-                Answer::Nothing => 0,
-                Answer::Ack => put_answer(tcp, cx, limit, Answer::Ack, ip, repr, out),
-                Answer::Rst => put_answer(tcp, cx, limit, Answer::Rst, ip, repr, out),
+                Response::Nothing => 0,
+                Response::Ack(count) => put_answer(tcp, cx, limit, Response::Ack(count), ip, repr, out),
+                Response::Rst => put_answer(tcp, cx, limit, Response::Rst, ip, repr, out),
             },
             _ => 0,
         }

@@ -43,7 +43,7 @@ impl<'a> ControlBlock<'a> {
         }
     }
 
-    fn is_heeding(&self) -> bool {
+    pub(crate) fn is_heeding(&self) -> bool {
         !matches!(self.state, State::Closed | State::Listen | State::SynSent | State::SynReceived)
     }
 

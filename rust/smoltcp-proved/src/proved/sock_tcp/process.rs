@@ -7,6 +7,7 @@ use crate::proved::net_base::time::Instant;
 use crate::proved::sock_core::Context;
 use crate::proved::sock_tcp::advance::Next;
 use crate::proved::sock_tcp::control_block::ControlBlock;
+use crate::proved::sock_tcp::duplicates::Response;
 use crate::proved::sock_tcp::rules::Rules;
 use crate::proved::sock_tcp::state::State;
 use crate::proved::sock_tcp::timer::{CHALLENGE_INTERVAL, Timer, after};
@@ -14,14 +15,14 @@ use crate::proved::sock_tcp::tuple::Tuple;
 use crate::proved::sock_tcp::verdict::Verdict;
 use crate::proved::sock_tcp::window::Window;
 
-/// How a segment is answered.
-#[derive(Debug, Clone, Copy, PartialEq, Eq)]
+// How a segment is answered.
+#[derive(Clone, Copy)]
 pub enum Answer {
-    /// Not at all.
+    // Not at all.
     Nothing,
-    /// By an acknowledgement.
+    // By an acknowledgement.
     Ack,
-    /// By an RST.
+    // By an RST.
     Rst,
 }
 
@@ -220,6 +221,20 @@ impl<'a> ControlBlock<'a> {
         answer
     }
 
+    // And the answer tells what came twice.
+    #[inline(always)]
+    fn process_and_tell<C: Context>(
+        &mut self,
+        cx: &mut C,
+        now: Instant,
+        ip_repr: &IpRepr,
+        repr: &TcpRepr<'_>,
+    ) -> Response {
+        let count = self.came_before(repr);
+        let answer = self.process_and_close(cx, now, ip_repr, repr);
+        answer.telling(count)
+    }
+
     // By the socket's rules.
     #[inline(always)]
     fn process_by_rules<C: Context>(
@@ -228,23 +243,28 @@ impl<'a> ControlBlock<'a> {
         now: Instant,
         ip_repr: &IpRepr,
         repr: &TcpRepr<'_>,
-    ) -> Answer {
+    ) -> Response {
         match crate::kit::in_force(self.rules) {
             Rules::Smoltcp => {
                 let window = self.receive_window();
-                self.process_passed(cx, now, window, ip_repr, repr)
+                self.process_passed(cx, now, window, ip_repr, repr).plain()
             }
-            Rules::Rfc => self.process_and_close(cx, now, ip_repr, repr),
+            Rules::Rfc => self.process_and_tell(cx, now, ip_repr, repr),
         }
     }
 
     #[inline(always)]
-    pub(crate) fn process<C: Context>(&mut self, cx: &mut C, ip_repr: &IpRepr, repr: &TcpRepr<'_>) -> Answer {
+    pub(crate) fn process<C: Context>(
+        &mut self,
+        cx: &mut C,
+        ip_repr: &IpRepr,
+        repr: &TcpRepr<'_>,
+    ) -> Response {
         let now = cx.now();
         match self.verdict_by_rules(now, repr) {
-            Verdict::Drop => Answer::Nothing,
-            Verdict::Reset => Answer::Rst,
-            Verdict::Challenge => self.challenge(now),
+            Verdict::Drop => Response::Nothing,
+            Verdict::Reset => Response::Rst,
+            Verdict::Challenge => self.challenge(now).plain(),
             Verdict::Pass => self.process_by_rules(cx, now, ip_repr, repr),
         }
     }

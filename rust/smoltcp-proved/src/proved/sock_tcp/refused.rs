@@ -22,7 +22,7 @@ fn is_next_fin(window: &Window, repr: &TcpRepr<'_>) -> bool {
     }
 }
 
-fn is_plain(control: TcpControl) -> bool {
+pub(crate) fn is_plain(control: TcpControl) -> bool {
     !matches!(control, TcpControl::Rst | TcpControl::Syn)
 }
 

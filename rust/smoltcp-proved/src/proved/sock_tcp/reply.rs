@@ -4,8 +4,8 @@
 use crate::proved::control_wire::{TcpControl, TcpRepr, TcpSeqNumber, TcpTimestampRepr};
 use crate::proved::ip_wire::{IpProtocol, IpRepr};
 use crate::proved::sock_tcp::control_block::ControlBlock;
+use crate::proved::sock_tcp::duplicates::Response;
 use crate::proved::sock_tcp::generator::TsvalSource;
-use crate::proved::sock_tcp::process::Answer;
 use crate::proved::sock_tcp::rules::Rules;
 use crate::proved::sock_tcp::socket::Socket;
 
@@ -129,6 +129,17 @@ impl<'a> ControlBlock<'a> {
     }
 }
 
+// The acknowledgement of a segment of which so many bytes came before.
+fn with_duplicate(count: u32, repr: &TcpRepr<'_>, reply: TcpRepr<'static>) -> TcpRepr<'static> {
+    let mut reply = reply;
+    if count > 0 {
+        let number = repr.seq_number;
+        let block = (number.plus(0).0, number.plus(count as usize).0);
+        reply.sack_ranges = [Some(block), reply.sack_ranges[0], reply.sack_ranges[1]];
+    }
+    reply
+}
+
 impl<'a> ControlBlock<'a> {
     // What the timestamp of a reply echoes: what came, or by the RFCs' rules TS.Recent (RFC 7323, section 4.3).
     fn echoed(&self, came: Option<TcpTimestampRepr>) -> Option<u32> {
@@ -165,15 +176,16 @@ impl<'a, G: TsvalSource> Socket<'a, G> {
     /// The answer can be written as a packet.
     // Not inlined: most segments have no reply, and the space for one is cleared where it is made.
     #[inline(never)]
-    pub fn reply_by(&mut self, answer: Answer, ip_repr: &IpRepr, repr: &TcpRepr<'_>) -> Option<Reply> {
-        match answer {
-            Answer::Nothing => None,
-            Answer::Ack => {
+    pub fn reply_by(&mut self, response: Response, ip_repr: &IpRepr, repr: &TcpRepr<'_>) -> Option<Reply> {
+        match response {
+            Response::Nothing => None,
+            Response::Ack(count) => {
                 let reply = self.control_block.ack_reply(repr);
+                let reply = with_duplicate(count, repr, reply);
                 let reply = self.control_block.number_reply(reply);
                 Some(self.answer(ip_repr, repr, reply))
             }
-            Answer::Rst => Some(self.answer(ip_repr, repr, rst_segment(repr))),
+            Response::Rst => Some(self.answer(ip_repr, repr, rst_segment(repr))),
         }
     }
 }

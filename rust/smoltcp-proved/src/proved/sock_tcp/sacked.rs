@@ -176,16 +176,21 @@ impl<'a> ControlBlock<'a> {
         self.recovery.get().highest(self.remote_last_seq).since(self.local_seq_no)
     }
 
+    // How many of them the peer may have.
+    fn tellable(&self) -> usize {
+        self.sent().min(self.tx_buffer.len() + 1)
+    }
+
     // Whether the segment tells something new by SACK: the peer said that it tells, and it lies in the window.
     pub(crate) fn is_telling(&self, repr: &TcpRepr<'_>) -> bool {
-        let news = self.sacked.get().any_news(self.sent(), self.local_seq_no, &repr.sack_ranges);
+        let news = self.sacked.get().any_news(self.tellable(), self.local_seq_no, &repr.sack_ranges);
         news && (self.remote_has_sack && self.honored_window().is_inside(repr.seq_number, repr.payload.len()))
     }
 
     // What was told by SACK, with what the segment tells.
     pub(crate) fn sacked_by(&self, telling: bool, repr: &TcpRepr<'_>) -> Scoreboard {
         if telling {
-            self.sacked.get().all_told(self.sent(), self.local_seq_no, &repr.sack_ranges)
+            self.sacked.get().all_told(self.tellable(), self.local_seq_no, &repr.sack_ranges)
         } else {
             self.sacked.get()
         }

@@ -6,10 +6,10 @@ use crate::proved::ip_wire::{IpEndpoint, IpListenEndpoint, IpRepr};
 use crate::proved::net_base::ring_buffer::RingBuffer;
 use crate::proved::sock_core::Context;
 use crate::proved::sock_tcp::control_block::ControlBlock;
+use crate::proved::sock_tcp::duplicates::Response;
 use crate::proved::sock_tcp::ended::{Ended, by_segment};
 use crate::proved::sock_tcp::error::{ConnectError, ListenError, RecvError, SendError};
 use crate::proved::sock_tcp::generator::{Generator, TsvalSource};
-use crate::proved::sock_tcp::process::Answer;
 use crate::proved::sock_tcp::reply::Reply;
 use crate::proved::sock_tcp::state::State;
 use core::fmt;
@@ -246,7 +246,7 @@ impl<'a, G: TsvalSource> Socket<'a, G> {
     ///
     /// Unless that is by nothing, the next call is [`Socket::reply_by`], which gives the answer.
     #[inline(always)]
-    pub fn take_segment<C: Context>(&mut self, cx: &mut C, ip_repr: &IpRepr, repr: &TcpRepr<'_>) -> Answer {
+    pub fn take_segment<C: Context>(&mut self, cx: &mut C, ip_repr: &IpRepr, repr: &TcpRepr<'_>) -> Response {
         let (before, ended) = (self.control_block.state, self.ended);
         let answer = self.control_block.process(cx, ip_repr, repr);
         let stamps = self.control_block.stamps();
@@ -265,9 +265,9 @@ impl<'a, G: TsvalSource> Socket<'a, G> {
     #[inline(always)]
     pub fn process<C: Context>(&mut self, cx: &mut C, ip_repr: &IpRepr, repr: &TcpRepr<'_>) -> Option<Reply> {
         match self.take_segment(cx, ip_repr, repr) {
-            Answer::Nothing => None,
-            Answer::Ack => self.reply_by(Answer::Ack, ip_repr, repr),
-            Answer::Rst => self.reply_by(Answer::Rst, ip_repr, repr),
+            Response::Nothing => None,
+            Response::Ack(count) => self.reply_by(Response::Ack(count), ip_repr, repr),
+            Response::Rst => self.reply_by(Response::Rst, ip_repr, repr),
         }
     }
 }

@@ -13,7 +13,7 @@ pub returns-in-Pass-clause-table : goal.returns-in-Pass-clause-table
 returns-in-Pass-clause-table g c = passes _ c.args.self.now.rules c.args.self.now c.now-now.result (g.C.Context.word_at c.args.cx.now 0) c.args.ip_repr.now (segment_of c.args.repr.now) (sym c.verdict_by_rules.ensures.value ∙ c.in-Pass.is) c.process_by_rules.ensures.table ∙ (λ i. processed_by c.args.self.now.rules c.args.self.now (record { micros = c.now-now.ensures.value i }) (g.C.Context.word_at c.args.cx.now 0) c.args.ip_repr.now (segment_of c.args.repr.now))
 
 pub returns-in-Challenge-clause-table : goal.returns-in-Challenge-clause-table
-returns-in-Challenge-clause-table g c = challenges _ c.args.self.now.rules c.args.self.now c.now-now.result (g.C.Context.word_at c.args.cx.now 0) c.args.ip_repr.now (segment_of c.args.repr.now) (sym c.verdict_by_rules.ensures.value ∙ c.in-Challenge.is) (c.challenge.ensures.table (segment_of c.args.repr.now)) ∙ (λ i. processed_by c.args.self.now.rules c.args.self.now (record { micros = c.now-now.ensures.value i }) (g.C.Context.word_at c.args.cx.now 0) c.args.ip_repr.now (segment_of c.args.repr.now))
+returns-in-Challenge-clause-table g c = challenges _ c.args.self.now.rules c.args.self.now c.now-now.result (g.C.Context.word_at c.args.cx.now 0) c.args.ip_repr.now (segment_of c.args.repr.now) (sym c.verdict_by_rules.ensures.value ∙ c.in-Challenge.is) (c.plain.ensures c.challenge.new.self (segment_of c.args.repr.now) ∙ c.challenge.ensures.table (segment_of c.args.repr.now)) ∙ (λ i. processed_by c.args.self.now.rules c.args.self.now (record { micros = c.now-now.ensures.value i }) (g.C.Context.word_at c.args.cx.now 0) c.args.ip_repr.now (segment_of c.args.repr.now))
 
 pub returns-in-Reset-clause-table : goal.returns-in-Reset-clause-table
 returns-in-Reset-clause-table g c = resets _ c.args.self.now.rules c.args.self.now c.now-now.result (g.C.Context.word_at c.args.cx.now 0) c.args.ip_repr.now (segment_of c.args.repr.now) (sym c.verdict_by_rules.ensures.value ∙ c.in-Reset.is) refl ∙ (λ i. processed_by c.args.self.now.rules c.args.self.now (record { micros = c.now-now.ensures.value i }) (g.C.Context.word_at c.args.cx.now 0) c.args.ip_repr.now (segment_of c.args.repr.now))
