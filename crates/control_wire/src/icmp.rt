@@ -157,6 +157,7 @@ impl<'a> Icmpv4Repr<'a> {
 
     /// The message that the bytes spell.
     ///
+    /// # Errors
     /// An error unless there are 8 bytes of one of the four types, an echo has code 0, an error quotes a header of IPv4
     /// and at least 8 bytes behind it, and, where received checksums are tested, the checksum verifies. The lengths in
     /// a quoted header are not tested; its payload length is the count of bytes that are quoted behind it.
@@ -317,6 +318,7 @@ impl<'a> Icmpv6Repr<'a> {
 
     /// The message that the bytes spell.
     ///
+    /// # Errors
     /// An error unless there are 8 bytes of one of the five types, an echo has code 0, an error quotes a header of IPv6
     /// and at least 8 bytes behind it, and, where received checksums are tested, the checksum verifies. The lengths in
     /// a quoted header are not tested; its payload length is the count of bytes that are quoted behind it.

@@ -57,6 +57,9 @@ impl Outbox {
     }
 
     /// Adds an IP packet with this segment, and says whether its header counts it; where not, nothing is added.
+    ///
+    /// # Errors
+    /// An error where there is no memory for it; nothing is added then.
     pub fn emit_tcp(
         &mut self,
         ip: &IpRepr,
@@ -92,6 +95,9 @@ impl Outbox {
     }
 
     /// Adds a packet with this UDP datagram. False where the header does not carry it: then nothing is added.
+    ///
+    /// # Errors
+    /// An error where there is no memory for it; nothing is added then.
     pub fn emit_udp(
         &mut self,
         ip: &IpRepr,
@@ -115,6 +121,9 @@ impl Outbox {
     }
 
     /// Adds an IP packet with this payload, whatever it is.
+    ///
+    /// # Errors
+    /// An error where there is no memory for it; nothing is added then.
     pub fn emit_raw(
         &mut self,
         ip: &IpRepr,
@@ -131,6 +140,9 @@ impl Outbox {
     }
 
     /// Adds an IP packet with this ICMP message; one of the other version than the header's is dropped.
+    ///
+    /// # Errors
+    /// An error where there is no memory for it; nothing is added then.
     pub fn emit_icmp(
         &mut self,
         ip: &IpRepr,

@@ -77,6 +77,10 @@ impl Groups {
     }
 
     /// Joins the group; one that was joined is as it was.
+    ///
+    /// # Errors
+    /// `GroupTableFull` where four others were joined, `Unaddressable` where the address is none of a group; nothing
+    /// changes then.
     pub fn join(&mut self, group: IpAddress) -> Result<(), MulticastError>
         ensures answer { result ≡ join_answer ⟦<IpAddress as PartialEq>⟧.eq self.old group }
         ensures value { self.new ≡ joined ⟦<IpAddress as PartialEq>⟧.eq self.old group }
@@ -92,6 +96,9 @@ impl Groups {
     }
 
     /// Leaves the group, if it was joined.
+    ///
+    /// # Errors
+    /// `Unaddressable` where the address is none of a group.
     pub fn leave(&mut self, group: &IpAddress) -> Result<(), MulticastError>
         ensures answer { result ≡ leave_answer group.now }
         ensures value { self.new ≡ left ⟦<IpAddress as PartialEq>⟧.eq self.old group.now }

@@ -87,7 +87,7 @@ pub fn behind_headers(next: u8, bytes: &[u8]) -> Behind<'_>
     read(MOST_HEADERS, next, bytes)
 }
 
-// The same where so many headers may follow.
+// What stands behind the extension headers, of which at most so many are passed over.
 #[tactic(auto, using(crate::proofs::Reading::none_left))]
 fn read(most: usize, next: u8, bytes: &[u8]) -> Behind<'_>
     ensures { behind_of result ≡ read most next bytes.now }

@@ -88,6 +88,7 @@ pub struct Ipv4Packet<'a> {
 impl<'a> Ipv4Packet<'a> {
     /// The packet at the beginning of `buffer`.
     ///
+    /// # Errors
     /// An error unless the header has at least 20 bytes, and is no longer than the total length, which is no longer
     /// than `buffer`. The version is not looked at.
     pub fn new_checked(buffer: &'a [u8]) -> Result<Ipv4Packet<'a>, Error>
@@ -166,6 +167,7 @@ pub struct Ipv6Packet<'a> {
 impl<'a> Ipv6Packet<'a> {
     /// The packet at the beginning of `buffer`.
     ///
+    /// # Errors
     /// An error unless the header of 40 bytes and the payload length fit into `buffer`. The version is not looked at.
     pub fn new_checked(buffer: &'a [u8]) -> Result<Ipv6Packet<'a>, Error>
         ensures exact { IsOk result ↔ IsIpv6 buffer.now }
@@ -195,6 +197,7 @@ impl<'a> Ipv6Packet<'a> {
 impl Ipv4Repr {
     /// The header of a packet, without its options.
     ///
+    /// # Errors
     /// An error for another version than 4, and where received checksums are tested for one that does not verify. Not
     /// looked at are the options, the hop limit, the addresses, and the flags and the offset: also the header of a
     /// fragment is read, whose payload is a piece of another packet's.
@@ -237,7 +240,10 @@ fn verifies(packet: &Ipv4Packet<'_>) -> bool
 }
 
 impl Ipv6Repr {
-    /// The header of a packet. An error for another version than 6.
+    /// The header of a packet.
+    ///
+    /// # Errors
+    /// An error for another version than 6.
     pub fn parse(packet: &Ipv6Packet<'_>) -> Result<Ipv6Repr, Error>
         ensures { result_ok result ≡ ipv6_parsed packet.now.buffer.now }
     {

@@ -285,7 +285,7 @@ fn addresses_sum(src: &IpAddress, dst: &IpAddress) -> u64
     }
 }
 
-// The same of IPv6. Not inlined, so that a sum over IPv4 keeps no registers for the words of IPv6.
+// The sum of two addresses of IPv6. Not inlined, so that a sum over IPv4 keeps no registers for these words.
 #[inline(never)]
 fn long_addresses_sum(src: &IpAddress, dst: &IpAddress) -> u64
     ensures value { (total : ℕ) → sum_after (sum_after (word_of total) (octets_of src.now)) (octets_of dst.now)

@@ -10,7 +10,7 @@ pub const PIECE: usize = 4096;
 // After how many bytes the numbers come again.
 const NUMBERS: usize = 251;
 
-// The same of the lines: 95 of them, of 72 characters and a line end.
+// After how many bytes the lines come again: 95 of them, of 72 characters and a line end.
 const LINES: usize = 95 * 74;
 
 // Room for a piece from each of these bytes on.

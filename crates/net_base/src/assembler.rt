@@ -82,6 +82,7 @@ impl Assembler {
     /// Adds the `size` offsets from `offset` on. Then the run of offsets from 0 on is taken out and its length
     /// answered, and the other offsets fall by this length. The length is 0 where offset 0 was not added.
     ///
+    /// # Errors
     /// Refused exactly where `offset` is not 0 and the addition would make a fifth range; then nothing changes.
     #[tactic(auto, using(crate::proofs::Sets::additions))]
     pub fn add_then_remove_front(

@@ -22,6 +22,7 @@ impl<'a, H> PacketBuffer<'a, H> {
 impl<'a, H: Copy> PacketBuffer<'a, H> {
     /// Appends a packet, and lends its `size` bytes for writing. What stands in them as the borrow ends is the packet.
     ///
+    /// # Errors
     /// `Full` where no place is left, or `size` bytes in one piece are not; nothing changes then.
     pub fn enqueue(&mut self, size: usize, header: H) -> Result<&mut [u8], Full>
         ensures* after { sem 𝓛 (LendsPacket H.row size header self.entry result) }

@@ -75,7 +75,7 @@ fn shows(rt: &(impl Abort), alloc: Global, lines: &str, parts: &[&str]) -> Resul
     pictures(rt, alloc, lines, CHART, parts)
 }
 
-// The same of any picture.
+// A picture has these parts, in this order.
 fn pictures(
     rt: &(impl Abort),
     alloc: Global,

@@ -2,7 +2,8 @@
 use Rattle.std.specs.Prelude.{ℕ, ◌≡◌, ◌+◌, ◌%◌, ◌^◌, ◌<◌, ◌⊎◌, Bool, true, false, []}
 use Rattle.std.specs.declared.option.Option.{Option}
 use Rattle.std.specs.declared.option.Option.TheVariants.{Some, None}
-use Rattle.pair_core.specs.StreamViews.{Listening, SynSent, SynReceived, Open, FinQueued, Dead, SocketView, StreamSegment}
+use Rattle.pair_core.specs.StreamViews.{Listening, SynSent, SynReceived, Open, FinQueued, Dead, SocketView}
+use Rattle.pair_core.specs.StreamViews.{StreamSegment}
 use Rattle.pair_core.specs.StreamViews.{HasIss, KnowsPeer, IsSynchronized}
 use Rattle.pair_core.specs.StreamEffects.{HearsData, HearsAck, SndNxtWithin, MaySend, StaysSending}
 

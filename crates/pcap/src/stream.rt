@@ -53,8 +53,10 @@ pub struct Record {
 }
 
 impl Format {
-    /// Reads the header of a stream: `Magic` where it begins with none of the four magic numbers, `LinkType` where its
-    /// packets are not raw IP.
+    /// Reads the header of a stream.
+    ///
+    /// # Errors
+    /// `Magic` where it begins with none of the four magic numbers, `LinkType` where its packets are not raw IP.
     #[tactic(auto, unfolding(crate::specs::Pcap::format_of))]
     pub fn of_header(header: &[u8]) -> Result<Format, PcapError>
         requires { length header.now ≡ 24 }
@@ -68,7 +70,10 @@ impl Format {
         }
     }
 
-    /// Reads the header of a record: `TooLong` where more than 65535 bytes follow.
+    /// Reads the header of a record.
+    ///
+    /// # Errors
+    /// `TooLong` where more than 65535 bytes follow.
     #[tactic(auto, unfolding(crate::specs::Pcap::record_of))]
     pub fn record(&self, header: &[u8]) -> Result<Record, PcapError>
         requires { length header.now ≡ 16 }

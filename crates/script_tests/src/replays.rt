@@ -186,7 +186,7 @@ fn is_done_by_reads(rt: &(impl Abort), alloc: Global, text: &[u8], reads: usize)
     false
 }
 
-// The same of the writer. Where it fails, the output's beginning is written.
+// Whether a replay is done before the writer fails at this call. Where it is not, the output's beginning is written.
 fn is_done_by_writes(
     rt: &(impl Abort),
     alloc: Global,

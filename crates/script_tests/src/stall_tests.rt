@@ -92,7 +92,7 @@ fn stays_awake(
     Ok(())
 }
 
-// As PROBE, where the copies of 6 tell nothing new to a sender that hears of SACK (RFC 6675, section 2): nothing goes
+// PROBE where the copies of 6 tell nothing new to a sender that hears of SACK (RFC 6675, section 2): nothing goes
 // out at 80, and each number behind that is one less.
 const PROBE_BY_RFC: &str =
     "send a z\ndispatch a 10\ndeliver 3 20 0\nrecv b 1\ndispatch b 40\ndeliver 4 50 0\n\
@@ -131,7 +131,7 @@ const SYN_GOES: &str = "deliver 4 5000 0\ndeliver 5 5000 0\n";
 const LAST_ACK_GOES: &str = "dispatch a 10000\ndeliver 10 10000 0\ndispatch b 11000\n\
     deliver 11 11000 0\ndispatch a 11000\ndeliver 12 11000 0\ndispatch b 12000\ndeliver 13 12000 0\n";
 
-// As `stall_empty_probe`, whose probes have a byte by these rules.
+// `stall_empty_probe`, whose probes have a byte by these rules.
 const EMPTY_PROBE: &str =
     "send a z\ndispatch a 10\ndeliver 3 20 0\nrecv b 1\ndispatch b 40\ndeliver 4 50 0\n\
     send a abcdefgh\ndispatch a 60\nsend a ijk\ndeliver 3 70 0\ndeliver 6 71 0\ndeliver 6 72 0\n\
@@ -141,7 +141,7 @@ const EMPTY_PROBE: &str =
 const EMPTY_PROBE_GOES: &str = "deliver 9 5000 0\ndispatch b 6000\ndeliver 10 6000 0\n\
     dispatch a 6000\ndeliver 11 6000 0\n";
 
-// As `endless_acks`, where nothing goes out without end by these rules.
+// `endless_acks`, where nothing goes out without end by these rules.
 const ENDLESS: &str = "send a abcde\ndispatch a 0\ndeliver 3 0 0\ndispatch b 10\ndeliver 4 10 0\n\
     close a\nrecv b 1\ndispatch b 10\ndispatch a 1010\n";
 

@@ -113,6 +113,7 @@ fn write_checksum(
 
 /// The segment that the bytes spell, between these two addresses.
 ///
+/// # Errors
 /// An error unless the header has at least 20 bytes and no more than there are, no port is 0, one at most of FIN, SYN
 /// and RST is set, the options are whole up to an END, as [`read_options`], and, where received checksums are tested,
 /// the checksum verifies. PSH beside one of the three is not kept, nor are URG and its pointer, as smoltcp.
@@ -131,6 +132,9 @@ pub fn parse<'a>(
 }
 
 /// The segment that the bytes spell behind this IP header, as [`parse`] between its addresses.
+///
+/// # Errors
+/// As [`parse`] says.
 pub fn parse_behind<'a>(
     ip: &IpRepr,
     bytes: &'a [u8],

@@ -69,7 +69,7 @@ pub fn clean_transfers(
     Ok(())
 }
 
-// The same, and in how many of a thousand moments the applications read.
+// Transfers over a wire that loses, and in how many of a thousand moments the applications read.
 const LOSSY_SIZES: [[usize; 7]; 7] = [
     [1500, 64 * KB, 9000, 8192, 180, 0, 1000],
     [1500, MB, 30_000, 65_536, 220, 0, 1000],

@@ -111,7 +111,7 @@ impl Reno {
         }
     }
 
-    // The same, counted in bytes (RFC 3465, sections 2.1 and 2.3; RFC 9406, section 4.2).
+    // How far the window opens, counted in bytes (RFC 3465, sections 2.1 and 2.3; RFC 9406, section 4.2).
     fn growth_in_bytes(&self, len: usize, careful: bool) -> usize
         ensures { result ≡ growth_in_bytes self.now len careful }
     {
@@ -195,7 +195,7 @@ impl Reno {
         self.grow(self.growth(len));
     }
 
-    // The same, counted in bytes.
+    // An acknowledgement of `len` bytes, counted in bytes.
     #[tactic(auto, unfolding(crate::specs::Congestion::reno_counted))]
     fn count(&mut self, len: usize, careful: bool)
         ensures { self.new ≡ reno_counted self.old len careful }

@@ -43,7 +43,7 @@ fn append<M: Copy>(buffer: &mut PacketBuffer<'_, M>, meta: M, data: &[u8]) -> bo
     true
 }
 
-// The same, and what then waits. Inlined, so that the metadata is made where it stays.
+// Appends a packet, and says what then waits. Inlined, so that the metadata is made where it stays.
 #[inline(always)]
 #[tactic(auto, using(crate::proofs::Storing::stored_queue))]
 pub(crate) fn store<M: Copy>(buffer: &mut PacketBuffer<'_, M>, meta: M, data: &[u8]) -> bool

@@ -38,7 +38,7 @@ impl<'a> Tcp<'a> {
         )
     }
 
-    // The same of what is received.
+    // Whether more may come, whether some waits, how much room there is for all, and how many bytes wait.
     pub(crate) fn receiving(&self) -> (bool, bool, usize, usize) {
         (
             self.0.may_recv(),

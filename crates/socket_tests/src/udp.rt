@@ -61,7 +61,7 @@ fn shows(socket: &mut Socket<'_>, payload: &[u8]) -> bool {
     matches!(socket.peek(), Ok((lent, meta)) if lent == payload && *meta == CAME)
 }
 
-// The same of the datagram that a call takes.
+// Whether the datagram that a call takes has these bytes and came from the other side.
 fn gives(socket: &mut Socket<'_>, payload: &[u8]) -> bool {
     matches!(socket.recv(), Ok((lent, meta)) if lent == payload && meta == CAME)
 }

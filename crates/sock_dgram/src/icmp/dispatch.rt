@@ -116,6 +116,7 @@ impl<'a> Socket<'a> {
     /// happens; a message over IPv4 for which the context has no source address, and a malformed one, leave the queue
     /// without an emit. The checksum of a message is not tested.
     ///
+    /// # Errors
     /// The error that `emit` answers is passed on; the message then stays first, and the next `dispatch` offers it
     /// again.
     #[tactic(auto, using(crate::proofs::Emitting::dequeues_skipped))]

@@ -13,7 +13,10 @@ use crate::queue::take_into;
 use ip_wire::IpAddress;
 
 impl<'a> Socket<'a> {
-    /// Takes the first message of the receive queue, and lends its bytes. `Exhausted` where there is none.
+    /// Takes the first message of the receive queue, and lends its bytes.
+    ///
+    /// # Errors
+    /// `Exhausted` where there is none.
     pub fn recv(&mut self) -> Result<(&[u8], IpAddress), RecvError>
         ensures* after { sem 𝓛 (TakesFirst lender (λ v. v.rx_buffer) with_rx self.entry) }
         ensures answer { answered result ≡ take_answer (first_packet self.old.rx_buffer) }
@@ -26,8 +29,9 @@ impl<'a> Socket<'a> {
     /// Takes the first message of the receive queue and copies its bytes into `data`. Answers how many they are, and
     /// where it came from.
     ///
-    /// `Exhausted` where there is none; `Truncated` where `data` is too short: the message is gone then, and `data`
-    /// as it was.
+    /// # Errors
+    /// `Exhausted` where there is none; `Truncated` where `data` is too short: the message is gone then, and `data` as
+    /// it was.
     pub fn recv_slice(&mut self, data: &mut [u8]) -> Result<(usize, IpAddress), RecvError>
         ensures answer { result ≡ copy_answer (first_packet self.old.rx_buffer) (length «data».old) }
         ensures bytes { «data».new ≡ copied (first_packet self.old.rx_buffer) «data».old }

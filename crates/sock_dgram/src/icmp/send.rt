@@ -35,6 +35,7 @@ impl<'a> Socket<'a> {
     /// Puts an ICMP message of `size` bytes into the transmit queue, and lends its bytes. What stands in them as the
     /// borrow ends is the message.
     ///
+    /// # Errors
     /// `Unaddressable` and `BufferFull` as `send_slice`; the queue then stays as it was.
     pub fn send(&mut self, size: usize, endpoint: IpAddress) -> Result<&mut [u8], SendError>
         ensures* after { sem 𝓛 (LendsMessage size endpoint self.entry result) }
@@ -56,6 +57,7 @@ impl<'a> Socket<'a> {
     /// Puts an ICMP message whose bytes `f` writes into the transmit queue: `f` is lent `max_size` bytes and answers
     /// how many of them, from the first on, are the message. This count is answered.
     ///
+    /// # Errors
     /// `Unaddressable` and `BufferFull` as `send_slice`, for a message of `max_size` bytes; the queue then stays as it
     /// was.
     pub fn send_with<F: FnOnce(&mut [u8]) -> usize>(
@@ -84,6 +86,7 @@ impl<'a> Socket<'a> {
 
     /// Puts an ICMP message of these bytes into the transmit queue.
     ///
+    /// # Errors
     /// `Unaddressable` where the destination is unspecified; else `BufferFull` where the transmit buffer has no room
     /// for it. A refusal leaves the queue as it was. The socket need not be open.
     pub fn send_slice(&mut self, data: &[u8], endpoint: IpAddress) -> Result<(), SendError>

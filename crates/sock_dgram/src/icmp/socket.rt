@@ -69,6 +69,7 @@ impl<'a> Socket<'a> {
 
     /// Opens the socket for the messages that the endpoint names.
     ///
+    /// # Errors
     /// `Unaddressable` where it names none (`Endpoint::is_specified`); else `InvalidState` where the socket is open. A
     /// refusal changes nothing.
     pub fn bind(&mut self, endpoint: Endpoint) -> Result<(), BindError>

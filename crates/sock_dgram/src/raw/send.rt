@@ -26,6 +26,7 @@ impl<'a> Socket<'a> {
     /// Puts a packet of `size` bytes, its IP header included, into the transmit queue, and lends its bytes. What stands
     /// in them as the borrow ends is the packet.
     ///
+    /// # Errors
     /// `BufferFull` as `send_slice`; the queue then stays as it was.
     pub fn send(&mut self, size: usize) -> Result<&mut [u8], SendError>
         ensures* after { sem 𝓛 (LendsPacket size self.entry result) }
@@ -44,6 +45,7 @@ impl<'a> Socket<'a> {
     /// Puts a packet whose bytes `f` writes into the transmit queue: `f` is lent `max_size` bytes and answers how many
     /// of them, from the first on, are the packet. This count is answered.
     ///
+    /// # Errors
     /// `BufferFull` as `send_slice`, for a packet of `max_size` bytes; the queue then stays as it was.
     pub fn send_with<F: FnOnce(&mut [u8]) -> usize>(
         &mut self,
@@ -67,6 +69,7 @@ impl<'a> Socket<'a> {
 
     /// Puts a packet of these bytes, its IP header first, into the transmit queue.
     ///
+    /// # Errors
     /// `BufferFull` where the transmit buffer has no room for it; the queue then stays as it was.
     pub fn send_slice(&mut self, data: &[u8]) -> Result<(), SendError>
         ensures answer { result ≡ send_answer self.old (length «data».now) }

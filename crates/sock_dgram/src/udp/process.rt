@@ -46,7 +46,7 @@ impl<'a> Socket<'a> {
         let _ = self.queue_datagram(ip_repr, repr, payload);
     }
 
-    /// The same, and whether there was room for it.
+    /// Does what `process` does, and returns whether there was room for the datagram.
     pub fn queue_datagram(&mut self, ip_repr: &IpRepr, repr: &UdpRepr, payload: &[u8]) -> bool
         ensures room { result ≡ takes (length payload.now) self.old.rx_buffer }
         ensures view { self.new ≡ record self.old {

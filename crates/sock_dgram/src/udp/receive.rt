@@ -12,7 +12,10 @@ use crate::queue::{copy_first, take_into};
 use crate::udp::socket::{Socket, UdpMetadata};
 
 impl<'a> Socket<'a> {
-    /// Takes the first datagram of the receive queue, and lends its bytes. `Exhausted` where there is none.
+    /// Takes the first datagram of the receive queue, and lends its bytes.
+    ///
+    /// # Errors
+    /// `Exhausted` where there is none.
     pub fn recv(&mut self) -> Result<(&[u8], UdpMetadata), RecvError>
         ensures* after { sem 𝓛 (TakesFirst lender (λ v. v.rx_buffer) with_rx self.entry) }
         ensures answer { answered result ≡ take_answer (first_packet self.old.rx_buffer) }
@@ -22,7 +25,10 @@ impl<'a> Socket<'a> {
         Ok((self.rx_buffer.part(from, size), meta))
     }
 
-    /// Lends the bytes of the first datagram of the receive queue, which stays. `Exhausted` where there is none.
+    /// Lends the bytes of the first datagram of the receive queue, which stays.
+    ///
+    /// # Errors
+    /// `Exhausted` where there is none.
     pub fn peek(&mut self) -> Result<(&[u8], &UdpMetadata), RecvError>
         ensures* after { sem 𝓛 (KeepsFirst lender (λ v. v.rx_buffer) with_rx self.entry) }
         ensures answer { answered result ≡ take_answer (first_packet self.old.rx_buffer) }
@@ -36,6 +42,7 @@ impl<'a> Socket<'a> {
     /// Copies the bytes of the first datagram of the receive queue into `data`; the datagram stays. Answers how many
     /// they are, and where it came from.
     ///
+    /// # Errors
     /// `Exhausted` where there is none; `Truncated` where `data` is too short, which then stays as it was.
     pub fn peek_slice(&mut self, data: &mut [u8]) -> Result<(usize, &UdpMetadata), RecvError>
         ensures* after { sem 𝓛 (KeepsFirst lender (λ v. v.rx_buffer) with_rx self.entry) }
@@ -49,8 +56,9 @@ impl<'a> Socket<'a> {
     /// Takes the first datagram of the receive queue and copies its bytes into `data`. Answers how many they are, and
     /// where it came from.
     ///
-    /// `Exhausted` where there is none; `Truncated` where `data` is too short: the datagram is gone then, and `data`
-    /// as it was.
+    /// # Errors
+    /// `Exhausted` where there is none; `Truncated` where `data` is too short: the datagram is gone then, and `data` as
+    /// it was.
     pub fn recv_slice(&mut self, data: &mut [u8]) -> Result<(usize, UdpMetadata), RecvError>
         ensures answer { result ≡ copy_answer (first_packet self.old.rx_buffer) (length «data».old) }
         ensures bytes { «data».new ≡ copied (first_packet self.old.rx_buffer) «data».old }

@@ -101,6 +101,7 @@ impl<'a> Socket<'a> {
 
     /// Opens the socket for datagrams to this port, and to this address where one is given.
     ///
+    /// # Errors
     /// `Unaddressable` where the port is zero; else `InvalidState` where the socket is open. A refusal changes nothing.
     pub fn bind(&mut self, endpoint: IpListenEndpoint) -> Result<(), BindError>
         ensures answer { result ≡ bind_answer self.old endpoint }

@@ -118,7 +118,7 @@ pub fn is_text(word: &[u8]) -> bool
     few_are_text(&word[at..])
 }
 
-// The same, byte by byte.
+// Whether a short word is text, byte by byte.
 fn few_are_text(word: &[u8]) -> bool
     ensures { result ≡ list_all (λ b. nat_le 33 b && nat_le b 126) word.now }
 {

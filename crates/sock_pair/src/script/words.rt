@@ -23,7 +23,7 @@ pub fn len_before(bytes: &[u8], stop: u8) -> usize
     at + few_before(&bytes[at..], stop)
 }
 
-// The same, byte by byte.
+// What `len_before` returns, byte by byte.
 fn few_before(bytes: &[u8], stop: u8) -> usize
     ensures value { result ≡ position_or_len (λ b. b == stop) bytes.now }
     ensures within { result ≤ length bytes.now }

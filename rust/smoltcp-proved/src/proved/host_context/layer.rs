@@ -14,6 +14,7 @@ use crate::proved::sock_tcp::{Reply, TsvalSource};
 
 /// Emits at most one packet of the socket, into the outbox.
 ///
+/// # Errors
 /// Where memory is wanting for it, the packets in the outbox are those of before, and the socket offers it again.
 pub fn dispatch_tcp<W: Words, G: TsvalSource>(
     socket: &mut Socket<'_, G>,
@@ -40,9 +41,11 @@ fn put_tcp<W: Words>(
 
 /// Offers a packet to the socket, and says whether the socket took it. What the socket answers goes into the outbox.
 ///
-/// A packet that is malformed, or that carries no segment, is for no socket; nothing changes then. Where memory is
-/// wanting for the answer, the socket has taken the segment, the packets in the outbox are those of before, and the
-/// answer is lost, as a packet may be.
+/// A packet that is malformed, or that carries no segment, is for no socket; nothing changes then.
+///
+/// # Errors
+/// Where memory is wanting for the answer, the socket has taken the segment, the packets in the outbox are those of
+/// before, and the answer is lost, as a packet may be.
 pub fn receive_tcp<W: Words, G: TsvalSource>(
     socket: &mut Socket<'_, G>,
     interface: &mut Interface<W, Outbox>,

@@ -59,6 +59,10 @@ impl Groups {
     }
 
     /// Joins the group; one that was joined is as it was.
+    ///
+    /// # Errors
+    /// `GroupTableFull` where four others were joined, `Unaddressable` where the address is none of a group; nothing
+    /// changes then.
     pub fn join(&mut self, group: IpAddress) -> Result<(), MulticastError> {
         if !group.is_multicast() {
             return Err(MulticastError::Unaddressable);
@@ -67,6 +71,9 @@ impl Groups {
     }
 
     /// Leaves the group, if it was joined.
+    ///
+    /// # Errors
+    /// `Unaddressable` where the address is none of a group.
     pub fn leave(&mut self, group: &IpAddress) -> Result<(), MulticastError> {
         self.first = without(&self.first, group);
         self.second = without(&self.second, group);

@@ -64,7 +64,7 @@ pub fn behind_headers(next: u8, bytes: &[u8]) -> Behind<'_> {
     read(MOST_HEADERS, next, bytes)
 }
 
-// The same where so many headers may follow.
+// What stands behind the extension headers, of which at most so many are passed over.
 fn read(most: usize, next: u8, bytes: &[u8]) -> Behind<'_> {
     match decided(next, bytes) {
         Some(known) => known,

@@ -13,6 +13,7 @@ pub enum IpVersion {
 impl IpVersion {
     /// The version of a packet, by the high half of its first octet (RFC 791, section 3.1).
     ///
+    /// # Errors
     /// An error where that is neither 4 nor 6, and for an empty packet.
     pub fn of_packet(packet: &[u8]) -> Result<IpVersion, Error> {
         match packet.first() {

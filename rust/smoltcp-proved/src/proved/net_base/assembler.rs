@@ -49,6 +49,7 @@ impl Assembler {
     /// Adds the `size` offsets from `offset` on. Then the run of offsets from 0 on is taken out and its length
     /// answered, and the other offsets fall by this length. The length is 0 where offset 0 was not added.
     ///
+    /// # Errors
     /// Refused exactly where `offset` is not 0 and the addition would make a fifth range; then nothing changes.
     pub fn add_then_remove_front(&mut self, offset: usize, size: usize) -> Result<usize, TooManyHoles> {
         let joined = with_range(&self.ranges[..self.count], offset, offset + size);

@@ -140,7 +140,7 @@ impl<'a, H: Copy> PacketBuffer<'a, H> {
         true
     }
 
-    // The same where no payload byte is taken: all of the storage is free.
+    // Room for `size` bytes where no payload byte is taken: all of the storage is free.
     fn restart_for(&mut self, size: usize) -> bool {
         if self.payload_capacity() < size {
             return false;
@@ -188,6 +188,7 @@ impl<'a, H: Copy> PacketBuffer<'a, H> {
     /// Appends a packet whose bytes `f` writes: it is lent `max_size` bytes and answers how many of them, from the
     /// first on, to keep. This count is answered.
     ///
+    /// # Errors
     /// `Full` where no place is left, or `max_size` bytes in one piece are not; nothing changes then.
     pub fn enqueue_with_infallible<F: FnOnce(&mut [u8]) -> usize>(
         &mut self,
@@ -230,7 +231,10 @@ impl<'a, H: Copy> PacketBuffer<'a, H> {
         &self.payload[from..from + size]
     }
 
-    /// The header and the bytes of the first packet, where no padding stands first. `Empty` where there is none.
+    /// The header and the bytes of the first packet, where no padding stands first.
+    ///
+    /// # Errors
+    /// `Empty` where there is none.
     pub fn first(&self) -> Result<(&H, &[u8]), Empty> {
         match self.metadata.get_allocated(0, 1).first() {
             Some(PacketMetadata { size, header: Some(header) }) => Ok((header, self.part(self.start, *size))),
@@ -238,7 +242,10 @@ impl<'a, H: Copy> PacketBuffer<'a, H> {
         }
     }
 
-    /// Lends the header and the bytes of the first packet, which stays. `Empty` where there is none.
+    /// Lends the header and the bytes of the first packet, which stays.
+    ///
+    /// # Errors
+    /// `Empty` where there is none.
     pub fn peek(&mut self) -> Result<(&H, &[u8]), Empty> {
         self.skip_padding();
         self.first()
@@ -259,7 +266,10 @@ impl<'a, H: Copy> PacketBuffer<'a, H> {
         Some((header?, place))
     }
 
-    /// Takes the first packet, and lends its bytes. `Empty` where there is none.
+    /// Takes the first packet, and lends its bytes.
+    ///
+    /// # Errors
+    /// `Empty` where there is none.
     pub fn dequeue_packet(&mut self) -> Result<(H, &[u8]), Empty> {
         let taken = self.take_first();
         self.lent(taken)
@@ -290,6 +300,7 @@ impl<'a, H: Copy> PacketBuffer<'a, H> {
     /// Lends `f` the header and the bytes of the first packet, these for writing. Where `f` answers `Ok`, the packet
     /// leaves; where it answers `Err`, it stays first, with its bytes as `f` left them. `f`'s answer is passed on.
     ///
+    /// # Errors
     /// `Empty` where there is no packet.
     pub fn dequeue_packet_with<R, E, F: FnOnce(&H, &mut [u8]) -> Result<R, E>>(
         &mut self,

@@ -45,14 +45,19 @@ pub struct Record {
 }
 
 impl Format {
-    /// Reads the header of a stream: `Magic` where it begins with none of the four magic numbers, `LinkType` where its
-    /// packets are not raw IP.
+    /// Reads the header of a stream.
+    ///
+    /// # Errors
+    /// `Magic` where it begins with none of the four magic numbers, `LinkType` where its packets are not raw IP.
     pub fn of_header(header: &[u8]) -> Result<Format, PcapError> {
         let format = of_magic(be32_at(header, 0))?;
         if format.number_at(header, 20) % 0x1000_0000 == RAW { Ok(format) } else { Err(PcapError::LinkType) }
     }
 
-    /// Reads the header of a record: `TooLong` where more than 65535 bytes follow.
+    /// Reads the header of a record.
+    ///
+    /// # Errors
+    /// `TooLong` where more than 65535 bytes follow.
     pub fn record(&self, header: &[u8]) -> Result<Record, PcapError> {
         let len = self.number_at(header, 8) as usize;
         if len > LONGEST {

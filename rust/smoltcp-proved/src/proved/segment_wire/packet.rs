@@ -39,7 +39,7 @@ pub fn emit_tcp_front(ip: &IpRepr, repr: &TcpRepr<'_>, buffer: &mut [u8], caps: 
     emit_headers(ip, repr, repr.header_len(), buffer, caps);
 }
 
-// The same with the length of the segment's header.
+// Writes both headers, where the segment's has this length.
 fn emit_headers(
     ip: &IpRepr,
     repr: &TcpRepr<'_>,
@@ -62,6 +62,7 @@ pub fn emit_udp(ip: &IpRepr, repr: &UdpRepr, payload: &[u8], buffer: &mut [u8], 
 
 /// The header of a packet and the segment that it carries.
 ///
+/// # Errors
 /// An error where its lengths do not fit, a tested checksum of its IPv4 header fails, it is a fragment, its protocol is
 /// not TCP, or [`tcp::parse`] refuses the segment. Options of IPv4 are skipped; an extension header of IPv6, also that
 /// of a fragment, is another protocol. No address is looked at.
@@ -145,6 +146,7 @@ fn whole_v6(packet: &[u8]) -> Option<(Ipv6Repr, &[u8])> {
 
 /// The header of a packet, and the header and the payload of the datagram that it carries.
 ///
+/// # Errors
 /// An error where its lengths do not fit, a tested checksum of its IPv4 header fails, it is a fragment, its protocol is
 /// not UDP, or [`udp::parse`] refuses the datagram. Options, extension headers and addresses as in [`parse_tcp`].
 pub fn parse_udp<'a>(

@@ -66,6 +66,7 @@ fn ones_if_zero(sum: u16) -> u16 {
 
 /// The header and the payload of the datagram that the bytes spell, between these two addresses.
 ///
+/// # Errors
 /// An error unless its length is from 8 to the bytes that there are, its destination port is not 0, and, where received
 /// checksums are tested, its checksum verifies; 0 passes over IPv4 alone. Bytes behind the length are ignored.
 pub fn parse<'a>(

@@ -72,6 +72,7 @@ impl Ranges {
     /// Adds the `len` offsets from `offset` on, counted from the front. Then the run of offsets from 0 on is taken out:
     /// the front moves behind it, and its length is answered. The length is 0 where offset 0 was not added.
     ///
+    /// # Errors
     /// Refused exactly where `offset` is not 0 and the addition would make a fifth range; then nothing changes.
     pub fn add_then_remove_front(&mut self, offset: usize, len: usize) -> Result<usize, TooManyRanges> {
         if offset == 0 {

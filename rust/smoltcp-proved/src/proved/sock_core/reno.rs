@@ -62,7 +62,7 @@ impl Reno {
         }
     }
 
-    // The same, counted in bytes (RFC 3465, sections 2.1 and 2.3; RFC 9406, section 4.2).
+    // How far the window opens, counted in bytes (RFC 3465, sections 2.1 and 2.3; RFC 9406, section 4.2).
     fn growth_in_bytes(&self, len: usize, careful: bool) -> usize {
         if self.cwnd < self.ssthresh {
             len.min(self.most_growth(careful))
@@ -118,7 +118,7 @@ impl Reno {
         self.grow(self.growth(len));
     }
 
-    // The same, counted in bytes.
+    // An acknowledgement of `len` bytes, counted in bytes.
     fn count(&mut self, len: usize, careful: bool) {
         if len > 0 {
             self.grow(self.growth_in_bytes(len, careful));

@@ -29,7 +29,7 @@ fn append<M: Copy>(buffer: &mut PacketBuffer<'_, M>, meta: M, data: &[u8]) -> bo
     true
 }
 
-// The same, and what then waits. Inlined, so that the metadata is made where it stays.
+// Appends a packet, and says what then waits. Inlined, so that the metadata is made where it stays.
 #[inline(always)]
 pub(crate) fn store<M: Copy>(buffer: &mut PacketBuffer<'_, M>, meta: M, data: &[u8]) -> bool {
     append(buffer, meta, data)

@@ -44,8 +44,11 @@ impl<'a> Socket<'a> {
     /// socket's, leaves the queue without an emit.
     ///
     /// The checksum of an IPv4 header is filled before, or set to 0 where the context's settings leave it to the
-    /// device. The error that `emit` answers is passed on; the packet then stays first, and the next `dispatch` offers
-    /// it again.
+    /// device.
+    ///
+    /// # Errors
+    /// The error that `emit` answers is passed on; the packet then stays first, and the next `dispatch` offers it
+    /// again.
     pub fn dispatch<C: Context, E, F: FnOnce(&mut C, (IpRepr, &[u8])) -> Result<(), E>>(
         &mut self,
         cx: &mut C,

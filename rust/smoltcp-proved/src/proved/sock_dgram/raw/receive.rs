@@ -6,13 +6,19 @@ use crate::proved::sock_dgram::queue::{copy_first, take_into};
 use crate::proved::sock_dgram::raw::socket::Socket;
 
 impl<'a> Socket<'a> {
-    /// Takes the first packet of the receive queue, and lends its bytes. `Exhausted` where there is none.
+    /// Takes the first packet of the receive queue, and lends its bytes.
+    ///
+    /// # Errors
+    /// `Exhausted` where there is none.
     pub fn recv(&mut self) -> Result<&[u8], RecvError> {
         let (_, (from, size)) = self.rx_buffer.take_first().ok_or(RecvError::Exhausted)?;
         Ok(self.rx_buffer.part(from, size))
     }
 
-    /// Lends the bytes of the first packet of the receive queue, which stays. `Exhausted` where there is none.
+    /// Lends the bytes of the first packet of the receive queue, which stays.
+    ///
+    /// # Errors
+    /// `Exhausted` where there is none.
     pub fn peek(&mut self) -> Result<&[u8], RecvError> {
         self.rx_buffer.skip_padding();
         let (_, bytes) = self.rx_buffer.first().map_err(|_| RecvError::Exhausted)?;
@@ -22,6 +28,7 @@ impl<'a> Socket<'a> {
     /// Copies the bytes of the first packet of the receive queue into `data`; the packet stays. Answers how many they
     /// are.
     ///
+    /// # Errors
     /// `Exhausted` where there is none; `Truncated` where `data` is too short, which then stays as it was.
     pub fn peek_slice(&mut self, data: &mut [u8]) -> Result<usize, RecvError> {
         self.rx_buffer.skip_padding();
@@ -31,6 +38,7 @@ impl<'a> Socket<'a> {
 
     /// Takes the first packet of the receive queue and copies its bytes into `data`. Answers how many they are.
     ///
+    /// # Errors
     /// `Exhausted` where there is none; `Truncated` where `data` is too short: the packet is gone then, and `data` as
     /// it was.
     pub fn recv_slice(&mut self, data: &mut [u8]) -> Result<usize, RecvError> {

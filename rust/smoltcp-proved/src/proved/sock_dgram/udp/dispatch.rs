@@ -57,10 +57,10 @@ impl<'a> Socket<'a> {
     }
 
     /// Emits the first datagram of the transmit queue: calls `emit` once with it. Where the queue is empty, nothing
-    /// happens; a datagram without a source address (none given, none bound, and the context has none) leaves the
-    /// queue without an emit.
-    /// A source of another version of IP than the destination counts as none.
+    /// happens; a datagram without a source address (none given, none bound, and the context has none) leaves the queue
+    /// without an emit. A source of another version of IP than the destination counts as none.
     ///
+    /// # Errors
     /// The error that `emit` answers is passed on; the datagram then stays first, and the next `dispatch` offers it
     /// again.
     pub fn dispatch<C: Context, E, F: FnOnce(&mut C, (IpRepr, UdpRepr, &[u8])) -> Result<(), E>>(

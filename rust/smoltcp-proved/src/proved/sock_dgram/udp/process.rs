@@ -29,7 +29,7 @@ impl<'a> Socket<'a> {
         let _ = self.queue_datagram(ip_repr, repr, payload);
     }
 
-    /// The same, and whether there was room for it.
+    /// Does what `process` does, and returns whether there was room for the datagram.
     pub fn queue_datagram(&mut self, ip_repr: &IpRepr, repr: &UdpRepr, payload: &[u8]) -> bool {
         let meta = UdpMetadata {
             endpoint: IpEndpoint { addr: ip_repr.src_addr(), port: repr.src_port },

@@ -42,6 +42,7 @@ impl<'a> Socket<'a> {
     /// Puts a datagram of `size` bytes into the transmit queue, and lends its bytes. What stands in them as the borrow
     /// ends is the payload.
     ///
+    /// # Errors
     /// `Unaddressable` and `BufferFull` as `send_slice`; the queue then stays as it was.
     pub fn send(&mut self, size: usize, meta: impl Into<UdpMetadata>) -> Result<&mut [u8], SendError> {
         let meta = meta.into();
@@ -58,6 +59,7 @@ impl<'a> Socket<'a> {
     /// Puts a datagram whose bytes `f` writes into the transmit queue: `f` is lent `max_size` bytes and answers how
     /// many of them, from the first on, are the payload. This count is answered.
     ///
+    /// # Errors
     /// `Unaddressable` and `BufferFull` as `send_slice`, for a datagram of `max_size` bytes; the queue then stays as it
     /// was.
     pub fn send_with<F: FnOnce(&mut [u8]) -> usize>(
@@ -75,6 +77,7 @@ impl<'a> Socket<'a> {
 
     /// Puts a datagram of these bytes into the transmit queue.
     ///
+    /// # Errors
     /// `Unaddressable` where the socket is not open, the destination's address is unspecified or its port zero, or the
     /// source (the address given, else the bound one) is of another version of IP than the destination; else
     /// `BufferFull` where the transmit buffer has no room for it. A refusal leaves the queue as it was.

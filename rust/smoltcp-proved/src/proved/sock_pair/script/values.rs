@@ -79,7 +79,7 @@ pub fn is_text(word: &[u8]) -> bool {
     few_are_text(&word[at..])
 }
 
-// The same, byte by byte.
+// Whether a short word is text, byte by byte.
 fn few_are_text(word: &[u8]) -> bool {
     word.iter().all(|b| 33 <= *b && *b <= 126)
 }

@@ -16,7 +16,7 @@ pub fn len_before(bytes: &[u8], stop: u8) -> usize {
     at + few_before(&bytes[at..], stop)
 }
 
-// The same, byte by byte.
+// What `len_before` returns, byte by byte.
 fn few_before(bytes: &[u8], stop: u8) -> usize {
     bytes.iter().take_while(|b| **b != stop).count()
 }
