@@ -1,6 +1,7 @@
-//! The packets of a script, as one of its sides sees them: a pcap stream.
+//! What is told of a script's events in place of their lines: packets, as a pcap stream, or reasons.
 ghost use Rattle.sock_pair.specs.ReplayScripts.{IsPlayable};
 
+use crate::why::{put_reason, reason_of};
 use ip_wire::ChecksumCapabilities;
 use pcap::stream::{RECORD, put_record_header, stream_header};
 use segment_wire::packet::emit_tcp;
@@ -9,18 +10,27 @@ use sock_pair::{Event, Moment, Outcome, Pair, Segment, Side};
 use std::alloc::Global;
 use std::io::Write;
 
-/// Runs a text as a script, and writes the packets that this side sent and those that came to it, each at its moment.
+/// What is written of a script's events.
+#[derive(Debug, Clone, Copy)]
+pub enum Told {
+    /// The packets that this side sent and those that came to it, each at its moment.
+    Packets(Side),
+    /// What becomes of each segment that is delivered, and why.
+    Reasons,
+}
+
+/// Runs a text as a script, and writes what is told of it.
 ///
-/// Where the text is no script, nothing is written. Where memory ran out, the packets are those of the events before.
-pub fn capture<W: Write>(alloc: Global, text: &[u8], side: Side, out: &mut W) -> End {
+/// Where the text is no script, nothing is written. Where memory ran out, it is told of the events before.
+pub fn capture<W: Write>(alloc: Global, text: &[u8], told: Told, out: &mut W) -> End {
     match parse(alloc, text) {
-        Ok(script) => capture_script(alloc, &script, side, out),
+        Ok(script) => capture_script(alloc, &script, told, out),
         Err(ScriptError::Memory) => End::Memory,
         Err(error) => End::Script(error),
     }
 }
 
-fn capture_script<W: Write>(alloc: Global, script: &Script, side: Side, out: &mut W) -> End
+fn capture_script<W: Write>(alloc: Global, script: &Script, told: Told, out: &mut W) -> End
     requires { IsPlayable script.now.sizes script.now.limit }
 {
     let Ok(buffers) = Buffers::new(alloc, script.sizes) else {
@@ -35,7 +45,7 @@ fn capture_script<W: Write>(alloc: Global, script: &Script, side: Side, out: &mu
     let (arx, atx) = (arx.as_mut_slice(), atx.as_mut_slice());
     let (brx, btx) = (brx.as_mut_slice(), btx.as_mut_slice());
     let mut pair = begin(alloc, arx, atx, brx, btx, script.limit);
-    match capture_events(alloc, &mut pair, script.events.as_slice(), side, out) {
+    match capture_events(alloc, &mut pair, script.events.as_slice(), told, out) {
         Ok(()) => End::Done,
         Err(end) => end,
     }
@@ -45,20 +55,38 @@ fn capture_events<W: Write>(
     alloc: Global,
     pair: &mut Pair<'_, NoTimestamps>,
     events: &[Event],
-    side: Side,
+    told: Told,
     out: &mut W,
 ) -> Result<(), End> {
-    put(out, &stream_header())?;
+    if let Told::Packets(_) = told {
+        put(out, &stream_header())?;
+    }
     for event in events {
+        let reason = reason_of(pair, event);
         let Ok(outcome) = pair.step(event) else {
             return Err(End::Memory);
         };
-        let (came, went) = packets_of(event, &outcome);
-        let micros = micros_of(event);
-        put_segment(alloc, micros, sent_by(pair, side.other(), came), out)?;
-        put_segment(alloc, micros, sent_by(pair, side, went), out)?;
+        match told {
+            Told::Packets(side) => put_packets(alloc, pair, event, &outcome, side, out)?,
+            Told::Reasons => put_reason(alloc, reason, out)?,
+        }
     }
     Ok(())
+}
+
+// Writes the packets of an event that this side sees.
+fn put_packets<W: Write>(
+    alloc: Global,
+    pair: &Pair<'_, NoTimestamps>,
+    event: &Event,
+    outcome: &Outcome,
+    side: Side,
+    out: &mut W,
+) -> Result<(), End> {
+    let (came, went) = packets_of(event, outcome);
+    let micros = micros_of(event);
+    put_segment(alloc, micros, sent_by(pair, side.other(), came), out)?;
+    put_segment(alloc, micros, sent_by(pair, side, went), out)
 }
 
 // The indexes of the segment that was delivered, and of the one that was emitted, in an event.
@@ -129,7 +157,8 @@ fn put_segment<W: Write>(
     put(out, packet.as_slice())
 }
 
-fn put<W: Write>(out: &mut W, bytes: &[u8]) -> Result<(), End> {
+/// Writes these bytes.
+pub fn put<W: Write>(out: &mut W, bytes: &[u8]) -> Result<(), End> {
     match out.write_all(bytes) {
         Ok(()) => Ok(()),
         Err(_) => Err(End::Write),

@@ -1,6 +1,7 @@
 // Made from crates/pair_replay/src/capture.rt by rust/translate: change it there.
-//! The packets of a script, as one of its sides sees them: a pcap stream.
+//! What is told of a script's events in place of their lines: packets, as a pcap stream, or reasons.
 
+use crate::why::{put_reason, reason_of};
 use smoltcp_proved::kit::alloc::Global;
 use smoltcp_proved::kit::io::Write;
 use smoltcp_proved::kit::vec;
@@ -12,18 +13,27 @@ use smoltcp_proved::proved::sock_pair::script::{
 };
 use smoltcp_proved::proved::sock_pair::{Event, Moment, Outcome, Pair, Segment, Side};
 
-/// Runs a text as a script, and writes the packets that this side sent and those that came to it, each at its moment.
+/// What is written of a script's events.
+#[derive(Debug, Clone, Copy)]
+pub enum Told {
+    /// The packets that this side sent and those that came to it, each at its moment.
+    Packets(Side),
+    /// What becomes of each segment that is delivered, and why.
+    Reasons,
+}
+
+/// Runs a text as a script, and writes what is told of it.
 ///
-/// Where the text is no script, nothing is written. Where memory ran out, the packets are those of the events before.
-pub fn capture<W: Write>(alloc: Global, text: &[u8], side: Side, out: &mut W) -> End {
+/// Where the text is no script, nothing is written. Where memory ran out, it is told of the events before.
+pub fn capture<W: Write>(alloc: Global, text: &[u8], told: Told, out: &mut W) -> End {
     match parse(alloc, text) {
-        Ok(script) => capture_script(alloc, &script, side, out),
+        Ok(script) => capture_script(alloc, &script, told, out),
         Err(ScriptError::Memory) => End::Memory,
         Err(error) => End::Script(error),
     }
 }
 
-fn capture_script<W: Write>(alloc: Global, script: &Script, side: Side, out: &mut W) -> End {
+fn capture_script<W: Write>(alloc: Global, script: &Script, told: Told, out: &mut W) -> End {
     let Ok(buffers) = Buffers::new(alloc, script.sizes) else {
         return End::Memory;
     };
@@ -31,7 +41,7 @@ fn capture_script<W: Write>(alloc: Global, script: &Script, side: Side, out: &mu
     let (arx, atx) = (arx.as_mut_slice(), atx.as_mut_slice());
     let (brx, btx) = (brx.as_mut_slice(), btx.as_mut_slice());
     let mut pair = begin(alloc, arx, atx, brx, btx, script.limit);
-    match capture_events(alloc, &mut pair, script.events.as_slice(), side, out) {
+    match capture_events(alloc, &mut pair, script.events.as_slice(), told, out) {
         Ok(()) => End::Done,
         Err(end) => end,
     }
@@ -41,20 +51,38 @@ fn capture_events<W: Write>(
     alloc: Global,
     pair: &mut Pair<'_, NoTimestamps>,
     events: &[Event],
-    side: Side,
+    told: Told,
     out: &mut W,
 ) -> Result<(), End> {
-    put(out, &stream_header())?;
+    if let Told::Packets(_) = told {
+        put(out, &stream_header())?;
+    }
     for event in events {
+        let reason = reason_of(pair, event);
         let Ok(outcome) = pair.step(event) else {
             return Err(End::Memory);
         };
-        let (came, went) = packets_of(event, &outcome);
-        let micros = micros_of(event);
-        put_segment(alloc, micros, sent_by(pair, side.other(), came), out)?;
-        put_segment(alloc, micros, sent_by(pair, side, went), out)?;
+        match told {
+            Told::Packets(side) => put_packets(alloc, pair, event, &outcome, side, out)?,
+            Told::Reasons => put_reason(alloc, reason, out)?,
+        }
     }
     Ok(())
+}
+
+// Writes the packets of an event that this side sees.
+fn put_packets<W: Write>(
+    alloc: Global,
+    pair: &Pair<'_, NoTimestamps>,
+    event: &Event,
+    outcome: &Outcome,
+    side: Side,
+    out: &mut W,
+) -> Result<(), End> {
+    let (came, went) = packets_of(event, outcome);
+    let micros = micros_of(event);
+    put_segment(alloc, micros, sent_by(pair, side.other(), came), out)?;
+    put_segment(alloc, micros, sent_by(pair, side, went), out)
 }
 
 // The indexes of the segment that was delivered, and of the one that was emitted, in an event.
@@ -112,7 +140,8 @@ fn put_segment<W: Write>(
     put(out, packet.as_slice())
 }
 
-fn put<W: Write>(out: &mut W, bytes: &[u8]) -> Result<(), End> {
+/// Writes these bytes.
+pub fn put<W: Write>(out: &mut W, bytes: &[u8]) -> Result<(), End> {
     match out.write_all(bytes) {
         Ok(()) => Ok(()),
         Err(_) => Err(End::Write),

@@ -7,21 +7,21 @@ use smoltcp_proved::kit::{HostRuntime, String};
 
 mod capture;
 mod options;
+mod why;
 
-use crate::capture::capture;
+use crate::capture::{Told, capture};
 use crate::options::{Task, task_of};
 use smoltcp_proved::kit::io;
 use smoltcp_proved::kit::io::{BufWriter, Write};
 use smoltcp_proved::proved::script_program::fault::{Fault, exit_code, fault_of};
 use smoltcp_proved::proved::script_program::input::{print, read_script};
 use smoltcp_proved::proved::script_program::streams::{Input, Output};
-use smoltcp_proved::proved::sock_pair::Side;
 use smoltcp_proved::proved::sock_pair::script::replay;
 use std::process::ExitCode;
 
 // What `--help` prints.
 const HELP: &str = "\
-usage: pair_replay [--pcap a|b] [FILE]
+usage: pair_replay [--pcap a|b | --why] [FILE]
 
 Runs the script of FILE, or of standard input, over two TCP sockets, and prints
 a line for each event, and at the end the state of each side and how many bytes
@@ -30,6 +30,8 @@ number of its line and what would be right, a stream that fails with 2.
 
 --pcap a|b   writes the packets that this side sent and received in place of
              lines, each at its moment, as a pcap stream
+--why        prints of each segment that is delivered, in place of lines, to
+             which side, its number, and what becomes of it
 ";
 
 fn main() -> ExitCode {
@@ -41,7 +43,8 @@ fn run(rt: &HostRuntime) -> Result<(), Fault> {
     match task_of(rt)? {
         Task::Help => print(rt, HELP),
         Task::Replay(file) => replay_script(rt, file),
-        Task::Capture(side, file) => capture_script(rt, side, file),
+        Task::Reasons(file) => capture_script(rt, Told::Reasons, file),
+        Task::Capture(side, file) => capture_script(rt, Told::Packets(side), file),
     }
 }
 
@@ -59,13 +62,13 @@ fn replay_script(rt: &HostRuntime, file: Option<String>) -> Result<(), Fault> {
     }
 }
 
-// Writes the packets of the script that this side sees.
-fn capture_script(rt: &HostRuntime, side: Side, file: Option<String>) -> Result<(), Fault> {
+// Writes what is told of the script.
+fn capture_script(rt: &HostRuntime, told: Told, file: Option<String>) -> Result<(), Fault> {
     let text = read_script(rt, file)?;
     let Ok(mut output) = BufWriter::new(rt.alloc(), io::writer(rt)) else {
         return Err(Fault::Memory);
     };
-    let end = capture(rt.alloc(), text.as_slice(), side, &mut output);
+    let end = capture(rt.alloc(), text.as_slice(), told, &mut output);
     match output.flush() {
         Ok(()) => fault_of(rt.alloc(), end, text.as_slice()),
         Err(_) => Err(Fault::Write),

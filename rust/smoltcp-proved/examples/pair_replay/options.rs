@@ -6,7 +6,7 @@ use smoltcp_proved::kit::{HostRuntime, String};
 use smoltcp_proved::proved::script_program::fault::Fault;
 use smoltcp_proved::proved::sock_pair::Side;
 
-const USAGE: &str = "pair_replay [--pcap a|b] [FILE]";
+const USAGE: &str = "pair_replay [--pcap a|b | --why] [FILE]";
 
 /// What the arguments ask for: of the script of a file, or of standard input where none is named.
 pub enum Task {
@@ -14,6 +14,8 @@ pub enum Task {
     Help,
     /// The lines of the script's events.
     Replay(Option<String>),
+    /// What becomes of each segment that is delivered, and why.
+    Reasons(Option<String>),
     /// The packets that this side sent and received.
     Capture(Side, Option<String>),
 }
@@ -26,6 +28,7 @@ pub fn task_of(rt: &HostRuntime) -> Result<Task, Fault> {
     let _program = args.next();
     match args.next() {
         Some(word) if word.as_str() == "--help" => Ok(Task::Help),
+        Some(word) if word.as_str() == "--why" => Ok(Task::Reasons(last(args.next(), args.next())?)),
         Some(word) if word.as_str() == "--pcap" => {
             let side = side_of(args.next())?;
             Ok(Task::Capture(side, last(args.next(), args.next())?))
