@@ -92,8 +92,9 @@ size_t smoltcp_host_size(void);
 /* Makes a host in the memory, with count addresses and room for capacity sockets. Its tables take some 1,800 bytes of
  * the heap for one socket, and some 850 a socket for ten or more. Its moment is 0, its MTU 1500 bytes, and its guards
  * are 30 seconds for a handshake, a minute for closing and for timeout, and two minutes for window. The key is what
- * initial sequence numbers are made of (RFC 6528): no two hosts have the same. SMOLTCP_ERROR_ADDRESS where an address
- * is of no version, SMOLTCP_ERROR_MEMORY where the heap has too little; nothing is kept then, and no host is there.
+ * initial sequence numbers are made of (RFC 6528): no two hosts have the same. The key of answers is a constant: set a
+ * random one by smoltcp_host_set_answer_key. SMOLTCP_ERROR_ADDRESS where an address is of no version,
+ * SMOLTCP_ERROR_MEMORY where the heap has too little; nothing is kept then, and no host is there.
  * What lies in the memory is not looked at: a host that was not released loses its tables, which stay allocated.
  *
  * Errors: SMOLTCP_ERROR_ADDRESS, SMOLTCP_ERROR_MEMORY, SMOLTCP_ERROR_VERSION, SMOLTCP_ERROR_NULL. */
@@ -126,7 +127,9 @@ int64_t smoltcp_host_set_guards(struct smoltcp_host *host, const struct smoltcp_
 
 /* From the next packet on a SYN may be answered without a socket, under this key, which is another than that of init
  * (RFC 4987, section 3.6): so a flood of SYNs takes no socket. The sockets from the place kept_from on are kept for
- * peers that answer: where none before it listens for a SYN, and one of these does, the SYN is answered so.
+ * peers that answer: where none before it listens for a SYN, and one of these does, the SYN is answered so. What such a
+ * connection has of window scale, SACK and timestamps stands in the answer's timestamp: it has none of them where the
+ * peer or the listening socket sends no timestamps. Sockets that listen on one port have buffers of one size, then.
  *
  * Errors: SMOLTCP_ERROR_NULL. */
 int64_t smoltcp_host_set_syn_cookies(struct smoltcp_host *host, const struct smoltcp_key *key, size_t kept_from);

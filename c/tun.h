@@ -39,6 +39,7 @@ static inline uint32_t tun_random(void) {
 static inline int tun_open(struct tun *t, const char *name, const char *own, size_t sockets) {
     struct smoltcp_cidr address;
     struct smoltcp_key key;
+    uint64_t answers;
     struct ifreq request;
     memset(&request, 0, sizeof request);
     request.ifr_flags = IFF_TUN | IFF_NO_PI;
@@ -49,7 +50,9 @@ static inline int tun_open(struct tun *t, const char *name, const char *own, siz
            && smoltcp_address_from(own, &address.address) == SMOLTCP_OK
            && (address.prefix_len = address.address.version == 4 ? 24 : 64) > 0
            && getrandom(&key, sizeof key, 0) == sizeof key
-           && smoltcp_host_init(&t->host, sockets, &address, 1, &key) == SMOLTCP_OK;
+           && getrandom(&answers, sizeof answers, 0) == sizeof answers
+           && smoltcp_host_init(&t->host, sockets, &address, 1, &key) == SMOLTCP_OK
+           && smoltcp_host_set_answer_key(&t->host, answers) == SMOLTCP_OK;
 }
 
 static inline void tun_write(struct tun *t, const uint8_t *packet, int64_t len) {

@@ -6,5 +6,5 @@ use Rattle.host_cookies.specs.declared.call.Call.{Call}
 
 abbrev pub AnswersAreRecognised : Type 0
 AnswersAreRecognised =
-    (key : List ℕ) (c : Call) (mss : Option ℕ) (sent heard : ℕ) → (heard ≡ sent) ⊎ (heard ≡ sent + 1)
-    → recognised key c heard (number_at key c sent (class_of mss)) ≡ Some (class_of mss)
+    (key : List ℕ) (c : Call) (mss : Option ℕ) (told sent heard : ℕ) → (heard ≡ sent) ⊎ (heard ≡ sent + 1)
+    → recognised key c heard told (number_at key c sent (class_of mss) told) ≡ Some (class_of mss)

@@ -1,3 +1,4 @@
 pub mod Classes
 pub mod Laws
 pub mod Numbers
+pub mod Offers

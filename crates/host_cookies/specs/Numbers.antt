@@ -44,19 +44,21 @@ abbrev pub awaited : Option ℤ → ℤ → Bool
 awaited None micros = false
 awaited (Some at) micros = nat_le (step_of micros) (step_of at + 1)
 
--- a class in the three highest bits, and what the key makes of the call, the step and the class
-abbrev pub numbered : List ℕ → (tag step class : ℕ) → ℕ
-numbered key tag step class = class * 536870912 + mixed key tag (step * 8 + class) % 536870912
+-- A class in the three highest bits, and what the key makes of the call, the step, the class and what else the answer
+-- told (`Offers.antt`, below 65536): who acknowledges another offer than was told is not recognised.
+abbrev pub numbered : List ℕ → (tag step class told : ℕ) → ℕ
+numbered key tag step class told =
+    class * 536870912 + mixed key tag ((step * 8 + class) * 65536 + told) % 536870912
 
-abbrev pub number_at : List ℕ → Call → (step class : ℕ) → ℕ
-number_at key c step class = numbered key (tag_of key c) step class
+abbrev pub number_at : List ℕ → Call → (step class told : ℕ) → ℕ
+number_at key c step class told = numbered key (tag_of key c) step class told
 
 -- the class that a number tells, where it is of this step or of the last one
-abbrev pub recognised_by : List ℕ → (tag step n : ℕ) → Option ℕ
-recognised_by key tag step n =
-    if (n == numbered key tag step (n / 536870912)) || (n == numbered key tag (step - 1) (n / 536870912))
+abbrev pub recognised_by : List ℕ → (tag step told n : ℕ) → Option ℕ
+recognised_by key tag step told n =
+    if (n == numbered key tag step (n / 536870912) told) || (n == numbered key tag (step - 1) (n / 536870912) told)
     then Some (n / 536870912)
     else None
 
-abbrev pub recognised : List ℕ → Call → (step n : ℕ) → Option ℕ
-recognised key c step n = recognised_by key (tag_of key c) step n
+abbrev pub recognised : List ℕ → Call → (step told n : ℕ) → Option ℕ
+recognised key c step told n = recognised_by key (tag_of key c) step told n

@@ -18,6 +18,8 @@ mod limits;
 #[cfg(test)]
 mod lost;
 #[cfg(test)]
+mod offers;
+#[cfg(test)]
 mod sizes;
 #[cfg(test)]
 mod sources;

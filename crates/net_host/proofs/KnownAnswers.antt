@@ -14,7 +14,7 @@ use Rattle.sock_tcp.specs.declared.duplicates.Response.{Response}
 use Rattle.sock_tcp.specs.declared.socket.Socket as tcp
 use Rattle.smoltcp_socket.specs.declared.socket.Socket.TheVariants as socket
 use Rattle.net_host.specs.Answered.{HearsOut, PutsAnswer}
-use Rattle.net_host.specs.Cookies.{AnswersSegment, IsAgain, course_of, noted_on}
+use Rattle.net_host.specs.Cookies.{AnswersSegment, IsAgain, course_among, noted_on, own_of}
 use Rattle.net_host.specs.Crowding.{begins}
 use Rattle.net_host.specs.Receiving.{TakesSegment, counted_on, facts_of, words_of}
 use Rattle.net_host.specs.Segments.{IsTaker, SendsWithin, SocketHears, as_is}
@@ -73,7 +73,7 @@ none_begins e = cc
 -- what is for a connection goes on by no cookie, begins none, and is not counted
 pub known_taken : {W G : Type 0} (is : IpAddress → IpAddress → Bool) (word_at : W → ℕ → ℕ) (tells : G → ℕ → Type 0) (i : Interface W) (inner : InterfaceInner W) (l : Limit) (ss us ts : List (Slot G)) (k : ℕ) (ip : IpRepr) (s : Segment) (out out' : List ℕ) (n : ℕ) → IsTaker ss ip s (taker.Connection k) → us ≡ ss → AnswersSegment (facts_of is word_at tells) (words_of is word_at tells) tells course.Plain (taker.Connection k) taker.Nobody us i.inner i.resets ip s out n ts inner l out' → TakesSegment is word_at tells ip s i ss out n (record i { inner = inner; resets = l }) ts out'
 known_taken is word_at tells i inner l ss us ts k ip s out out' n takes same h =
-    let plain : course.Plain ≡ course_of i.cookies (taker.Connection k) taker.Nobody (facts_of is word_at tells i.inner).now ip s = connection_is_plain i.cookies k taker.Nobody _ ip s in
+    let plain : course.Plain ≡ course_among ss i.cookies (taker.Connection k) taker.Nobody (facts_of is word_at tells i.inner).now ip s = connection_is_plain i.cookies (own_of ss (taker.Connection k)) k taker.Nobody _ ip s in
     record {
       taker = taker.Connection k;
       takes = takes;

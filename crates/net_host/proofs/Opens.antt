@@ -34,14 +34,14 @@ module _ {G : Type 0} (ss : List (Slot G)) (ip : IpRepr) (s : Segment) (again : 
   kept_opens true k n = tt
   kept_opens false k n = tt
 
-  pub opens_on : (o : Option SynCookies) (t : Taker) (now : ℤ) → IsAgain (class_if o t now s) ss ip s again → OpensOn (course_of o t again now ip s) ss ip s again
-  opens_on None t now h = tt
-  opens_on (Some c) taker.Nobody now h = tested_opens (awaited c.answered now) (is_anybody again) c now (acked_by s) refl h
-  opens_on (Some c) (taker.Listener k) now h = kept_opens _ k _
-  opens_on (Some c) (taker.Connection k) now h = tt
-  opens_on (Some c) (taker.Reopened k) now h = tt
-  opens_on (Some c) (taker.Reused k) now h = tt
-  opens_on (Some c) taker.Busy now h = tt
+  pub opens_on : (o : Option SynCookies) (own : Option ℕ) (t : Taker) (now : ℤ) → IsAgain (class_if o t now s) ss ip s again → OpensOn (course_of o own t again now ip s) ss ip s again
+  opens_on None own t now h = tt
+  opens_on (Some c) own taker.Nobody now h = tested_opens (awaited c.answered now) (is_anybody again) c now (acked_by s) refl h
+  opens_on (Some c) own (taker.Listener k) now h = kept_opens _ k _
+  opens_on (Some c) own (taker.Connection k) now h = tt
+  opens_on (Some c) own (taker.Reopened k) now h = tt
+  opens_on (Some c) own (taker.Reused k) now h = tt
+  opens_on (Some c) own taker.Busy now h = tt
 
 -- also where it is dropped
 pub opens_if : {G : Type 0} (ss : List (Slot G)) (ip : IpRepr) (s : Segment) (again : Taker) (b : Bool) (c : Course) → OpensOn c ss ip s again → OpensOn (dropped_if b c) ss ip s again

@@ -13,7 +13,7 @@ use Rattle.segment_wire.specs.Tcp.{tcp_parsed}
 use Rattle.sock_core.specs.Facts.{Facts}
 use Rattle.segment_wire.specs.Udp.{Datagram, udp_parsed}
 use Rattle.net_host.specs.Arrivals.{kind_of, refusal}
-use Rattle.net_host.specs.Cookies.{AnswersSegment, IsAgain, class_if, course_of, noted_on}
+use Rattle.net_host.specs.Cookies.{AnswersSegment, IsAgain, class_if, course_among, noted_on}
 use Rattle.net_host.specs.Counts.{counted, sent, taken, wrong}
 use Rattle.net_host.specs.Crowding.{IsLimited, dropped_if}
 use Rattle.net_host.specs.Datagrams.{HeardBy, TakesDatagram}
@@ -82,8 +82,9 @@ module _ {W G : Type 0} (is : IpAddress → IpAddress → Bool) (word_at : W →
     pub sockets : ts ≡ ss
     pub reply : out' ≡ out
 
-  abbrev pub course_in : Interface W → (dropped : Bool) → (t again : Taker) → IpRepr → Segment → Course
-  course_in i dropped t again ip s = dropped_if dropped (course_of i.cookies t again (facts_of i.inner).now ip s)
+  abbrev pub course_in : Interface W → List (Slot G) → (dropped : Bool) → (t again : Taker) → IpRepr → Segment → Course
+  course_in i ss dropped t again ip s =
+      dropped_if dropped (course_among ss i.cookies t again (facts_of i.inner).now ip s)
 
   -- the segment goes to its taker, or is refused, or what cookies want is done
   pub record TakesSegment (ip : IpRepr) (s : Segment) (i : Interface W) (ss : List (Slot G)) (out : List ℕ) (n : ℕ)
@@ -93,14 +94,14 @@ module _ {W G : Type 0} (is : IpAddress → IpAddress → Bool) (word_at : W →
     pub again : Taker
     pub believes : IsAgain (class_if i.cookies taker (facts_of i.inner).now s) ss ip s again
     pub dropped : Bool
-    pub limited : IsLimited i.most_of_source ss ip s taker (course_in i false taker again ip s) dropped
-    pub answers : AnswersSegment facts_of words_of tells (course_in i dropped taker again ip s) taker again ss i.inner
+    pub limited : IsLimited i.most_of_source ss ip s taker (course_in i ss false taker again ip s) dropped
+    pub answers : AnswersSegment facts_of words_of tells (course_in i ss dropped taker again ip s) taker again ss i.inner
         i.resets ip s out n ts j.inner j.resets out'
-    pub counters : j.counters ≡ counted_on (course_in i dropped taker again ip s) taker again i.counters
+    pub counters : j.counters ≡ counted_on (course_in i ss dropped taker again ip s) taker again i.counters
     pub turn : j.turn ≡ i.turn
     pub errors : j.errors ≡ i.errors
     pub guards : j.guards ≡ i.guards
-    pub cookies : j.cookies ≡ noted_on (course_in i dropped taker again ip s) (facts_of i.inner).now i.cookies
+    pub cookies : j.cookies ≡ noted_on (course_in i ss dropped taker again ip s) (facts_of i.inner).now i.cookies
     pub groups : j.groups ≡ i.groups
     pub most : j.most_of_source ≡ i.most_of_source
 

@@ -8,17 +8,21 @@ ghost use Rattle.sock_tcp.specs.Due.{ip_header_len, mtu_for};
 ghost use Rattle.sock_tcp.specs.Process.{reply_of};
 ghost use Rattle.host_cookies.specs.Numbers.{awaited};
 ghost use Rattle.net_host.specs.Cookies.{AnswersAreBelieved, BelievesAwaited, acked_by, answer_number, answer_of};
-ghost use Rattle.net_host.specs.Cookies.{answer_segment, kept_or};
+ghost use Rattle.net_host.specs.Cookies.{AnswersSyn, OffersAreHeard, kept_or, plain_answer};
 ghost use Rattle.net_host.specs.Cookies.{call_of, class_awaited, class_if, class_told, course_of, course_under};
 ghost use Rattle.net_host.specs.Cookies.{doubted_by, is_anybody, is_garbage, noted};
 ghost use Rattle.net_host.specs.Cookies.{noted_on, opening_of, room_at, room_in, syn_before, tested_if};
 ghost use Rattle.net_host.specs.Resting.{is_opening};
 
+use crate::offers::{
+    add_options, clock_at, clock_brought, own_at, sack_brought, scale_brought, told_by, told_to,
+};
 use crate::rest::opens;
 use crate::segments::Taker;
 use crate::slot::Slot;
 use control_wire::TcpSeqNumber;
 use host_cookies::cookies::{answers_are_recognised, class_in};
+use host_cookies::offer::offers_come_back;
 use host_cookies::{Call, SynCookies, class_of, mss_of};
 use smoltcp_socket::time::Instant;
 use smoltcp_socket::wire::{
@@ -26,7 +30,7 @@ use smoltcp_socket::wire::{
     TcpRepr,
 };
 use smoltcp_socket::{Context, Socket};
-use sock_tcp::Reply;
+use sock_tcp::{Reply, TsvalSource};
 
 /// What becomes of a segment where SYNs may be answered without a socket.
 #[derive(Debug, Clone, Copy, PartialEq, Eq)]
@@ -114,7 +118,7 @@ fn acked_by(repr: &TcpRepr<'_>) -> Option<TcpSeqNumber>
     }
 }
 
-/// The SYN before an acknowledgement, which told this class.
+/// The SYN before an acknowledgement, which told this class, with the options that its timestamp brings back.
 pub(crate) fn syn_before(repr: &TcpRepr<'_>, class: u8) -> TcpRepr<'static>
     ensures segment { segment_of result ≡ syn_before (segment_of repr.now) class }
     ensures bare { result.payload.now ≡ [] }
@@ -124,6 +128,9 @@ pub(crate) fn syn_before(repr: &TcpRepr<'_>, class: u8) -> TcpRepr<'static>
     syn.seq_number = repr.seq_number.minus(1);
     syn.window_len = repr.window_len;
     syn.max_seg_size = mss_of(class);
+    syn.window_scale = scale_brought(repr.timestamp);
+    syn.sack_permitted = sack_brought(repr.timestamp);
+    syn.timestamp = clock_brought(repr.timestamp);
     syn
 }
 
@@ -138,7 +145,7 @@ fn class_told(
     ensures { result ≡ class_told cookies.now now.micros ip.now (segment_of repr.now) number }
 {
     let call = call_of(ip, repr, repr.seq_number.minus(1));
-    cookies.recognised(&call, number.0, now.micros)
+    cookies.recognised(&call, told_by(repr.timestamp), number.0, now.micros)
 }
 
 fn doubted_by(cookies: &SynCookies, now: Instant, ip: &IpRepr, repr: &TcpRepr<'_>) -> Course
@@ -252,17 +259,19 @@ pub(crate) fn opening_of<'p>(repr: &TcpRepr<'p>) -> TcpRepr<'p>
 
 fn kept_or(
     cookies: &SynCookies,
+    own: Option<u8>,
     place: usize,
     now: Instant,
     ip: &IpRepr,
     repr: &TcpRepr<'_>,
 ) -> Course
     ensures { result ≡ kept_or (nat_le cookies.now.kept_from place && is_opening (segment_of repr.now)) place
-        (answer_number cookies.now now.micros ip.now (segment_of repr.now)) }
+        (answer_number cookies.now own now.micros ip.now (segment_of repr.now)) }
 {
     if cookies.kept_from() <= place && opens(repr) {
         let call = call_of(ip, repr, repr.seq_number);
-        let number = cookies.number(&call, class_of(repr.max_seg_size), now.micros);
+        let class = class_of(repr.max_seg_size);
+        let number = cookies.number(&call, class, told_to(own, repr), now.micros);
         Course::Answered(place, number)
     } else {
         Course::Plain
@@ -271,35 +280,38 @@ fn kept_or(
 
 fn course_under(
     cookies: &SynCookies,
+    own: Option<u8>,
     taker: Taker,
     again: Taker,
     now: Instant,
     ip: &IpRepr,
     repr: &TcpRepr<'_>,
 ) -> Course
-    ensures { result ≡ course_under cookies.now taker again now.micros ip.now (segment_of repr.now) }
+    ensures { result ≡ course_under cookies.now own taker again now.micros ip.now (segment_of repr.now) }
 {
     match taker {
-        Taker::Listener(place) => kept_or(cookies, place, now, ip, repr),
+        Taker::Listener(place) => kept_or(cookies, own, place, now, ip, repr),
         Taker::Nobody => tested(cookies, again, now, ip, repr),
         _ => Course::Plain,
     }
 }
 
-/// What becomes of a segment that this taker has, and the SYN before it this one.
+/// What becomes of a segment that this taker has, and the SYN before it this one. `own` is the taker's window scale
+/// (`own_of`).
 pub(crate) fn course_of<C: Context>(
     cookies: &Option<SynCookies>,
+    own: Option<u8>,
     taker: Taker,
     again: Taker,
     cx: &C,
     ip: &IpRepr,
     repr: &TcpRepr<'_>,
 ) -> Course
-    ensures { result ≡ course_of cookies.now taker again (C.facts cx.now).now ip.now (segment_of repr.now) }
+    ensures { result ≡ course_of cookies.now own taker again (C.facts cx.now).now ip.now (segment_of repr.now) }
 {
     match cookies {
         None => Course::Plain,
-        Some(cookies) => course_under(cookies, taker, again, cx.now(), ip, repr),
+        Some(cookies) => course_under(cookies, own, taker, again, cx.now(), ip, repr),
     }
 }
 
@@ -316,8 +328,8 @@ impl<G> Slot<'_, G> {
     }
 }
 
-/// How many bytes the receive buffer of the socket at this place holds.
-pub(crate) fn room_at<G>(slots: &[Slot<'_, G>], place: usize) -> usize
+// How many bytes the receive buffer of the socket at this place holds.
+fn room_at<G>(slots: &[Slot<'_, G>], place: usize) -> usize
     ensures { result ≡ room_at (slice_get slots.now place) }
 {
     match slots.get(place) {
@@ -337,14 +349,14 @@ fn own_mss<C: Context>(cx: &C, own: &IpAddress) -> u16
     }
 }
 
-fn answer_segment<C: Context>(
+fn plain_answer<C: Context>(
     cx: &C,
     room: usize,
     number: u32,
     ip: &IpRepr,
     repr: &TcpRepr<'_>,
 ) -> TcpRepr<'static>
-    ensures segment { segment_of result ≡ answer_segment (C.facts cx.now) room number ip.now (segment_of repr.now) }
+    ensures segment { segment_of result ≡ plain_answer (C.facts cx.now) room number ip.now (segment_of repr.now) }
     ensures bare { result.payload.now ≡ [] }
 {
     let mut answer = TcpRepr::bare(repr.dst_port, repr.src_port);
@@ -356,22 +368,24 @@ fn answer_segment<C: Context>(
     answer
 }
 
-/// The SYN|ACK that answers a SYN with this number.
-// Not inlined, as few segments come here.
-#[inline(never)]
+// The SYN|ACK that answers a SYN with this number, by a listener with this window scale and this clock.
 #[tactic(auto, using(crate::proofs::CookieAnswers::answer_fits))]
-pub(crate) fn answer_of<C: Context>(
+fn answer_of<C: Context>(
     cx: &C,
+    own: Option<u8>,
+    clock: Option<u32>,
     room: usize,
     number: u32,
     ip: &IpRepr,
     repr: &TcpRepr<'_>,
 ) -> Reply
-    ensures reply { reply_of result ≡ answer_of (C.facts cx.now) room number ip.now (segment_of repr.now) }
+    requires { IfSome own (λ n. n ≤ 14) }
+    ensures reply { reply_of result ≡ answer_of (C.facts cx.now) own clock room number ip.now (segment_of repr.now) }
     ensures bare { result.1.payload.now ≡ [] }
     ensures fits { FitsPacket result.0 (segment_of result.1) }
 {
-    let answer = answer_segment(cx, room, number, ip, repr);
+    let mut answer = plain_answer(cx, room, number, ip, repr);
+    add_options(own, clock, repr, &mut answer);
     let header = IpRepr::new(
         ip.dst_addr(),
         ip.src_addr(),
@@ -382,12 +396,36 @@ pub(crate) fn answer_of<C: Context>(
     (header, answer)
 }
 
+/// The SYN|ACK of the listener at this place, with this number.
+// Not inlined, as few segments come here.
+#[inline(never)]
+pub(crate) fn answer_at<C: Context, G: TsvalSource>(
+    slots: &[Slot<'_, G>],
+    place: usize,
+    cx: &C,
+    number: u32,
+    ip: &IpRepr,
+    repr: &TcpRepr<'_>,
+) -> Reply
+    ensures reply { AnswersSyn G.tells (C.facts cx.now) (slice_get slots.now place) number ip.now (segment_of repr.now)
+        (Some (reply_of result)) }
+    ensures bare { result.1.payload.now ≡ [] }
+    ensures fits { FitsPacket result.0 (segment_of result.1) }
+{
+    let own = own_at(slots, place);
+    let clock = clock_at(slots, place);
+    answer_of(cx, own, clock, room_at(slots, place), number, ip, repr)
+}
+
 /// Where no socket takes it, the acknowledgement of an answer is believed within 64 seconds: as of the class that the
-/// SYN told, and of the number of the answer. None is believed once no answer is awaited, 128 seconds after the last,
-/// nor where the SYN before it is for nobody.
+/// SYN told, and of the number of the answer; and the SYN that the socket hears before it has the window scale, the SACK
+/// permission and the timestamp that it offered, where the answer has a timestamp. None is believed once no answer is
+/// awaited, 128 seconds after the last, nor where the SYN before it is for nobody.
 pub fn answers_are_believed()
     ensures believed { AnswersAreBelieved }
+    ensures heard { OffersAreHeard }
     ensures awaited { BelievesAwaited }
 {
     answers_are_recognised();
+    offers_come_back();
 }

@@ -5,7 +5,7 @@ ghost use Rattle.control_wire.specs.Fits.{FitsPacket};
 ghost use Rattle.control_wire.specs.Segment.{segment_of};
 ghost use Rattle.sock_tcp.specs.Process.{reply_of};
 ghost use Rattle.net_host.specs.Cookies.{AnswersSegment, BelievedBy, HearsBoth, HearsIf, HearsSyn, IsAgain, OpensOn};
-ghost use Rattle.net_host.specs.Cookies.{TakenOn, class_if, course_of, syn_before};
+ghost use Rattle.net_host.specs.Cookies.{TakenOn, class_if, course_among, syn_before};
 ghost use Rattle.net_host.specs.Crowding.{IsLimited, dropped_if};
 ghost use Rattle.net_host.specs.Filing.{keys_of};
 ghost use Rattle.net_host.specs.Indexing.{IsSettled};
@@ -14,12 +14,11 @@ ghost use Rattle.net_host.specs.Segments.{IsTaker, TakesSegment, as_is};
 ghost use Rattle.net_host.specs.Touching.{Touches};
 
 use crate::answered::hear_out_there;
-use crate::cookies::{
-    Course, Told, answer_of, class_if, course_of, opening_of, room_at, syn_before,
-};
+use crate::cookies::{Course, Told, answer_at, class_if, course_of, opening_of, syn_before};
 use crate::crowding::{dropped_if, is_limited};
 use crate::filing::connection_key;
 use crate::limit::Limit;
+use crate::offers::own_of;
 use crate::replies::put_reply;
 use crate::segments::{Taker, hear_anew_at, hear_at, keep_within, take_segment, who_takes};
 use crate::set::SocketSet;
@@ -284,8 +283,7 @@ fn take_heard<C: Context, G: TsvalSource>(
             take_segment(sockets, cx, heard.taker, ip, repr, reply);
         }
         Course::Answered(place, number) => {
-            let room = room_at(&sockets.slots, place);
-            *reply = Some(answer_of(cx, room, number, ip, repr));
+            *reply = Some(answer_at(&sockets.slots, place, cx, number, ip, repr));
         }
         Course::Believed(class, number) => {
             let opening = opening_of(repr);
@@ -306,10 +304,11 @@ fn heard_by<C: Context, G: TsvalSource>(
 ) -> Heard
     requires { IsSettled (λ s. keys_of s) sockets.now.complete sockets.now.slots.items sockets.now.index
         sockets.now.free }
-    ensures course { result.course ≡ dropped_if result.dropped (course_of cookies.now result.taker result.again
-        (C.facts cx.now).now ip.now (segment_of repr.now)) }
-    ensures dropped { IsLimited most sockets.now.slots.items ip.now (segment_of repr.now) result.taker (course_of
-        cookies.now result.taker result.again (C.facts cx.now).now ip.now (segment_of repr.now)) result.dropped }
+    ensures course { result.course ≡ dropped_if result.dropped (course_among sockets.now.slots.items cookies.now
+        result.taker result.again (C.facts cx.now).now ip.now (segment_of repr.now)) }
+    ensures dropped { IsLimited most sockets.now.slots.items ip.now (segment_of repr.now) result.taker (course_among
+        sockets.now.slots.items cookies.now result.taker result.again (C.facts cx.now).now ip.now
+        (segment_of repr.now)) result.dropped }
     ensures taker { IsTaker sockets.now.slots.items ip.now (segment_of repr.now) result.taker }
     ensures again { IsAgain (class_if cookies.now result.taker (C.facts cx.now).now (segment_of repr.now))
         sockets.now.slots.items ip.now (segment_of repr.now) result.again }
@@ -317,7 +316,8 @@ fn heard_by<C: Context, G: TsvalSource>(
     let taker = who_takes(sockets, cx, ip, repr);
     let class = class_if(cookies, taker, cx, repr);
     let again = who_again(sockets, cx, class, ip, repr);
-    let course = course_of(cookies, taker, again, cx, ip, repr);
+    let own = own_of(&sockets.slots, taker);
+    let course = course_of(cookies, own, taker, again, cx, ip, repr);
     let dropped = is_limited(sockets, most, taker, course, ip, repr);
     Heard {
         course: dropped_if(dropped, course),
@@ -370,11 +370,11 @@ pub(crate) fn hear_sought<C: Context, G: TsvalSource>(
     requires small { length repr.now.payload.now ≤ 65535 }
     requires room { 100 ≤ length out.old }
     ensures within { result.1 ≤ length out.old }
-    ensures course { result.0.course ≡ dropped_if result.0.dropped (course_of cookies.now result.0.taker
-        result.0.again (C.facts cx.old).now ip.now (segment_of repr.now)) }
-    ensures dropped { IsLimited most sockets.old.slots.items ip.now (segment_of repr.now) result.0.taker (course_of
-        cookies.now result.0.taker result.0.again (C.facts cx.old).now ip.now (segment_of repr.now))
-        result.0.dropped }
+    ensures course { result.0.course ≡ dropped_if result.0.dropped (course_among sockets.old.slots.items cookies.now
+        result.0.taker result.0.again (C.facts cx.old).now ip.now (segment_of repr.now)) }
+    ensures dropped { IsLimited most sockets.old.slots.items ip.now (segment_of repr.now) result.0.taker (course_among
+        sockets.old.slots.items cookies.now result.0.taker result.0.again (C.facts cx.old).now ip.now
+        (segment_of repr.now)) result.0.dropped }
     ensures taker { IsTaker sockets.old.slots.items ip.now (segment_of repr.now) result.0.taker }
     ensures again { IsAgain (class_if cookies.now result.0.taker (C.facts cx.old).now (segment_of repr.now))
         sockets.old.slots.items ip.now (segment_of repr.now) result.0.again }

@@ -73,8 +73,9 @@ impl<W: Words> Interface<W> {
     /// it. With SYN cookies (RFC 4987, section 3.6) a SYN for which only a socket that is kept listens is answered, and
     /// no socket takes it; the acknowledgement of that answer, within 64 seconds, takes a socket, which hears the SYN
     /// as it was told again, dispatches its SYN|ACK into nothing, as that has gone out, and then hears the
-    /// acknowledgement, without the octet of a keep-alive (RFC 9293, section 3.8.4). None is believed once no SYN was
-    /// answered so for 128 seconds. A SYN of a source that has as many connections as `set_most_of_source` allows is
+    /// acknowledgement, without the octet of a keep-alive (RFC 9293, section 3.8.4). The SYN has its window scale, SACK
+    /// permission and timestamp where the answer had a timestamp, in which they come back (RFC 7323). None is believed
+    /// once no SYN was answered so for 128 seconds. A SYN of a source that has as many connections as `set_most_of_source` allows is
     /// dropped, and so is what a cookie would open. A segment for no socket is answered by an RST (RFC 9293, section
     /// 3.10.7.1), unless it is one. Of RSTs at most `ANSWERS_A_SECOND` go out to a source in a second, with those of
     /// sockets whose handshake is not over (section 3.10.7.4). A datagram goes to the first UDP socket that accepts
@@ -241,7 +242,8 @@ impl<W> Interface<W> {
     ghost use Rattle.std.specs.Borrow.{sem};
     ghost use Rattle.net_host.specs.LendingContext.{LendsContext};
 
-    /// An interface with these addresses, at moment 0. Its MTU is 1500 bytes, and all checksums are computed here.
+    /// An interface with these addresses, at moment 0. Its MTU is 1500 bytes, and all checksums are computed here. The
+    /// key of its answers is a constant: set a random one by `set_answer_key`.
     pub fn new(addresses: Vec<IpCidr>, words: W) -> Interface<W>
         ensures addresses { result.inner.environment.addresses ≡ addresses }
         ensures now { result.inner.environment.now.micros ≡ pos 0 }
@@ -326,6 +328,12 @@ impl<W> Interface<W> {
 
     /// Sets whether SYNs may be answered without a socket, and how: from the next packet on. A new interface does not.
     /// Of answers that went out before none is believed.
+    ///
+    /// The answer has a timestamp where the SYN has one and the listener is to send them (`set_tsval_source`). Its five
+    /// lowest bits tell what the SYN offers, so it may be 31 ticks of the clock old, and the answer tells the window
+    /// scale and SACK as that of a socket would. Without timestamps a connection by cookie has neither. A peer that
+    /// changes the bits is not believed. Sockets that listen on one port have receive buffers of one size, as the window
+    /// scale was told of the one that listened first.
     pub fn set_syn_cookies(&mut self, cookies: Option<SynCookies>)
         ensures cookies { self.new.cookies ≡ cookies }
         ensures same { (self.new.inner ≡ self.old.inner) × (self.new.turn ≡ self.old.turn)

@@ -30,6 +30,7 @@ pub mod limit;
 pub mod limits;
 pub mod looking;
 pub mod messages;
+pub mod offers;
 pub mod opening;
 pub mod passing;
 pub mod poll;

@@ -77,8 +77,8 @@ impl<'a> Socket<'a> {
 }
 
 impl<'a, G: TsvalSource> Socket<'a, G> {
-    // The value of the socket's clock, where it has one.
-    pub(crate) fn tsval(&self) -> Option<u32>
+    /// The value of the clock that the socket's timestamps are of, where it has one.
+    pub fn tsval(&self) -> Option<u32>
         ensures told { MatchOption self.now.tsval_generator (result ≡ None)
             (λ g. IsSomeAnd result (λ t. G.tells g t)) }
         ensures stamps { is_some result ≡ self.now.control_block.stamps }

@@ -1,5 +1,5 @@
 //! What the two sides of a connection agreed on.
-ghost use Rattle.std.specs.Prelude.{◌≡◌};
+ghost use Rattle.std.specs.Prelude.{◌≡◌, ◌≤◌};
 ghost use Rattle.sock_tcp.specs.Negotiated.{negotiated};
 
 use crate::socket::Socket;
@@ -41,5 +41,14 @@ impl<'a, G> Socket<'a, G> {
                 remote_window: block.remote_win_len,
             }),
         }
+    }
+
+    /// By how many bits the own window fields are shifted, in each state: in LISTEN what the SYN|ACK will tell, where the
+    /// peer's SYN has the option (RFC 7323, section 2).
+    pub fn local_win_scale(&self) -> u8
+        ensures value { result ≡ self.now.control_block.remote_win_shift }
+        ensures bound { result ≤ 14 }
+    {
+        self.control_block.remote_win_shift
     }
 }

@@ -1,7 +1,7 @@
 use Rattle.std.proofs.Common.{◌∙◌, ap, subst, sym, option_map, rules}
 use Rattle.control_wire.specs.Segment.{segment_of}
 use Rattle.sock_tcp.specs.Process.{reply_of}
-use Rattle.net_host.specs.Cookies.{IsAgain, OpensOn, TakenOn, class_if, course_of}
+use Rattle.net_host.specs.Cookies.{IsAgain, OpensOn, TakenOn, class_if, course_among, own_of}
 use Rattle.net_host.specs.Crowding.{IsLimited}
 use Rattle.net_host.specs.Segments.{IsTaker}
 use Rattle.net_host.specs.Wire.{with_reply}
@@ -16,7 +16,7 @@ returns-clause-again g c = subst (λ s. IsAgain (class_if c.args.cookies.now c.h
 
 pub take_heard-requires-clause-opens : goal.take_heard-requires-clause-opens
 take_heard-requires-clause-opens g c = subst (λ k. OpensOn k c.settle_for.new.self.slots.items c.args.ip.now (segment_of c.args.repr.now) c.heard_by-heard.result.again) (sym c.heard_by-heard.ensures.course)
-    (opens_if c.settle_for.new.self.slots.items c.args.ip.now (segment_of c.args.repr.now) c.heard_by-heard.result.again c.heard_by-heard.result.dropped _ (opens_on c.settle_for.new.self.slots.items c.args.ip.now (segment_of c.args.repr.now) c.heard_by-heard.result.again c.args.cookies.now c.heard_by-heard.result.taker (g.C.Context.facts c.args.cx.now).now c.heard_by-heard.ensures.again))
+    (opens_if c.settle_for.new.self.slots.items c.args.ip.now (segment_of c.args.repr.now) c.heard_by-heard.result.again c.heard_by-heard.result.dropped _ (opens_on c.settle_for.new.self.slots.items c.args.ip.now (segment_of c.args.repr.now) c.heard_by-heard.result.again c.args.cookies.now (own_of c.settle_for.new.self.slots.items c.heard_by-heard.result.taker) c.heard_by-heard.result.taker (g.C.Context.facts c.args.cx.now).now c.heard_by-heard.ensures.again))
 
 pub returns-clause-heard : goal.returns-clause-heard
 returns-clause-heard g c = record {
@@ -29,4 +29,4 @@ returns-clause-heard g c = record {
 }
 
 pub returns-clause-dropped : goal.returns-clause-dropped
-returns-clause-dropped g c = subst (λ s. IsLimited c.args.most s.items c.args.ip.now (segment_of c.args.repr.now) c.heard_by-heard.result.taker (course_of c.args.cookies.now c.heard_by-heard.result.taker c.heard_by-heard.result.again (g.C.Context.facts c.args.cx.now).now c.args.ip.now (segment_of c.args.repr.now)) c.heard_by-heard.result.dropped) c.settle_for.ensures.slots c.heard_by-heard.ensures.dropped
+returns-clause-dropped g c = subst (λ s. IsLimited c.args.most s.items c.args.ip.now (segment_of c.args.repr.now) c.heard_by-heard.result.taker (course_among s.items c.args.cookies.now c.heard_by-heard.result.taker c.heard_by-heard.result.again (g.C.Context.facts c.args.cx.now).now c.args.ip.now (segment_of c.args.repr.now)) c.heard_by-heard.result.dropped) c.settle_for.ensures.slots c.heard_by-heard.ensures.dropped

@@ -46,18 +46,19 @@ impl SynCookies {
     }
 
     /// The number of the answer to a SYN that told a largest segment of this class, at this moment in microseconds.
-    pub fn number(&self, call: &Call, class: u8, micros: i64) -> u32 {
+    /// `told` stands for what else the answer tells of the SYN (`told_number`, or 0).
+    pub fn number(&self, call: &Call, class: u8, told: u16, micros: i64) -> u32 {
         let mut words = ChaCha20Rng::from_seed(self.key);
         let tag = tag_of(&mut words, call);
-        numbered(&mut words, tag, step_of(micros), class)
+        numbered(&mut words, tag, step_of(micros), class, told)
     }
 
     /// The class of the SYN that a number of this moment, or of up to 64 seconds before, answers, where it is that of
-    /// an answer to this call.
-    pub fn recognised(&self, call: &Call, number: u32, micros: i64) -> Option<u8> {
+    /// an answer to this call that told the same.
+    pub fn recognised(&self, call: &Call, told: u16, number: u32, micros: i64) -> Option<u8> {
         let mut words = ChaCha20Rng::from_seed(self.key);
         let tag = tag_of(&mut words, call);
-        recognised(&mut words, tag, step_of(micros), number)
+        recognised(&mut words, tag, step_of(micros), told, number)
     }
 }
 
@@ -65,15 +66,16 @@ fn step_of(micros: i64) -> u64 {
     ((i128::from(micros) + 9_223_372_036_854_775_808).unsigned_abs() / STEP) as u64
 }
 
-fn numbered(words: &mut ChaCha20Rng, tag: u64, step: u64, class: u8) -> u32 {
-    let mix = mixed(words, tag, step * 8 + u64::from(class)) % 536_870_912;
+fn numbered(words: &mut ChaCha20Rng, tag: u64, step: u64, class: u8, told: u16) -> u32 {
+    let place = (step * 8 + u64::from(class)) * 65536 + u64::from(told);
+    let mix = mixed(words, tag, place) % 536_870_912;
     u32::from(class) * 536_870_912 + mix as u32
 }
 
-fn recognised(words: &mut ChaCha20Rng, tag: u64, step: u64, number: u32) -> Option<u8> {
+fn recognised(words: &mut ChaCha20Rng, tag: u64, step: u64, told: u16, number: u32) -> Option<u8> {
     let class = class_in(number);
-    if number == numbered(words, tag, step, class)
-        || number == numbered(words, tag, step.saturating_sub(1), class)
+    if number == numbered(words, tag, step, class, told)
+        || number == numbered(words, tag, step.saturating_sub(1), class, told)
     {
         Some(class)
     } else {
@@ -86,6 +88,6 @@ pub fn class_in(number: u32) -> u8 {
     (number / 536_870_912) as u8
 }
 
-/// Within 64 seconds the number of an answer is recognised, as of the class of its SYN: of the same step of time, or of
-/// the next one.
+/// Within 64 seconds the number of an answer is recognised, as of the class of its SYN and of what it told: of the same
+/// step of time, or of the next one.
 pub fn answers_are_recognised() {}

@@ -5,7 +5,9 @@ pub mod call;
 pub mod class;
 pub mod cookies;
 pub mod mix;
+pub mod offer;
 
 pub use call::Call;
 pub use class::{class_of, mss_of};
 pub use cookies::SynCookies;
+pub use offer::{offer_bits, sack_in, scale_in, stamped, told_number};

@@ -3,11 +3,15 @@
 
 use crate::proved::control_wire::TcpSeqNumber;
 use crate::proved::host_cookies::cookies::{answers_are_recognised, class_in};
+use crate::proved::host_cookies::offer::offers_come_back;
 use crate::proved::host_cookies::{Call, SynCookies, class_of, mss_of};
+use crate::proved::net_host::offers::{
+    add_options, clock_at, clock_brought, own_at, sack_brought, scale_brought, told_by, told_to,
+};
 use crate::proved::net_host::rest::opens;
 use crate::proved::net_host::segments::Taker;
 use crate::proved::net_host::slot::Slot;
-use crate::sockets::sock_tcp::Reply;
+use crate::sockets::sock_tcp::{Reply, TsvalSource};
 use crate::sockets::time::Instant;
 use crate::sockets::wire::{
     ChecksumCapabilities, IpAddress, IpProtocol, IpRepr, Ipv4Address, Ipv6Address, TcpControl, TcpRepr,
@@ -91,13 +95,16 @@ fn acked_by(repr: &TcpRepr<'_>) -> Option<TcpSeqNumber> {
     }
 }
 
-/// The SYN before an acknowledgement, which told this class.
+/// The SYN before an acknowledgement, which told this class, with the options that its timestamp brings back.
 pub(crate) fn syn_before(repr: &TcpRepr<'_>, class: u8) -> TcpRepr<'static> {
     let mut syn = TcpRepr::bare(repr.src_port, repr.dst_port);
     syn.control = TcpControl::Syn;
     syn.seq_number = repr.seq_number.minus(1);
     syn.window_len = repr.window_len;
     syn.max_seg_size = mss_of(class);
+    syn.window_scale = scale_brought(repr.timestamp);
+    syn.sack_permitted = sack_brought(repr.timestamp);
+    syn.timestamp = clock_brought(repr.timestamp);
     syn
 }
 
@@ -110,7 +117,7 @@ fn class_told(
     number: TcpSeqNumber,
 ) -> Option<u8> {
     let call = call_of(ip, repr, repr.seq_number.minus(1));
-    cookies.recognised(&call, number.0, now.micros)
+    cookies.recognised(&call, told_by(repr.timestamp), number.0, now.micros)
 }
 
 fn doubted_by(cookies: &SynCookies, now: Instant, ip: &IpRepr, repr: &TcpRepr<'_>) -> Course {
@@ -192,10 +199,18 @@ pub(crate) fn opening_of<'p>(repr: &TcpRepr<'p>) -> TcpRepr<'p> {
     opening
 }
 
-fn kept_or(cookies: &SynCookies, place: usize, now: Instant, ip: &IpRepr, repr: &TcpRepr<'_>) -> Course {
+fn kept_or(
+    cookies: &SynCookies,
+    own: Option<u8>,
+    place: usize,
+    now: Instant,
+    ip: &IpRepr,
+    repr: &TcpRepr<'_>,
+) -> Course {
     if cookies.kept_from() <= place && opens(repr) {
         let call = call_of(ip, repr, repr.seq_number);
-        let number = cookies.number(&call, class_of(repr.max_seg_size), now.micros);
+        let class = class_of(repr.max_seg_size);
+        let number = cookies.number(&call, class, told_to(own, repr), now.micros);
         Course::Answered(place, number)
     } else {
         Course::Plain
@@ -204,6 +219,7 @@ fn kept_or(cookies: &SynCookies, place: usize, now: Instant, ip: &IpRepr, repr: 
 
 fn course_under(
     cookies: &SynCookies,
+    own: Option<u8>,
     taker: Taker,
     again: Taker,
     now: Instant,
@@ -211,15 +227,17 @@ fn course_under(
     repr: &TcpRepr<'_>,
 ) -> Course {
     match taker {
-        Taker::Listener(place) => kept_or(cookies, place, now, ip, repr),
+        Taker::Listener(place) => kept_or(cookies, own, place, now, ip, repr),
         Taker::Nobody => tested(cookies, again, now, ip, repr),
         _ => Course::Plain,
     }
 }
 
-/// What becomes of a segment that this taker has, and the SYN before it this one.
+/// What becomes of a segment that this taker has, and the SYN before it this one. `own` is the taker's window scale
+/// (`own_of`).
 pub(crate) fn course_of<C: Context>(
     cookies: &Option<SynCookies>,
+    own: Option<u8>,
     taker: Taker,
     again: Taker,
     cx: &C,
@@ -228,7 +246,7 @@ pub(crate) fn course_of<C: Context>(
 ) -> Course {
     match cookies {
         None => Course::Plain,
-        Some(cookies) => course_under(cookies, taker, again, cx.now(), ip, repr),
+        Some(cookies) => course_under(cookies, own, taker, again, cx.now(), ip, repr),
     }
 }
 
@@ -243,8 +261,8 @@ impl<G> Slot<'_, G> {
     }
 }
 
-/// How many bytes the receive buffer of the socket at this place holds.
-pub(crate) fn room_at<G>(slots: &[Slot<'_, G>], place: usize) -> usize {
+// How many bytes the receive buffer of the socket at this place holds.
+fn room_at<G>(slots: &[Slot<'_, G>], place: usize) -> usize {
     match slots.get(place) {
         Some(slot) => slot.room(),
         None => 0,
@@ -260,7 +278,7 @@ fn own_mss<C: Context>(cx: &C, own: &IpAddress) -> u16 {
     }
 }
 
-fn answer_segment<C: Context>(
+fn plain_answer<C: Context>(
     cx: &C,
     room: usize,
     number: u32,
@@ -276,24 +294,43 @@ fn answer_segment<C: Context>(
     answer
 }
 
-/// The SYN|ACK that answers a SYN with this number.
-// Not inlined, as few segments come here.
-#[inline(never)]
-pub(crate) fn answer_of<C: Context>(
+// The SYN|ACK that answers a SYN with this number, by a listener with this window scale and this clock.
+fn answer_of<C: Context>(
     cx: &C,
+    own: Option<u8>,
+    clock: Option<u32>,
     room: usize,
     number: u32,
     ip: &IpRepr,
     repr: &TcpRepr<'_>,
 ) -> Reply {
-    let answer = answer_segment(cx, room, number, ip, repr);
+    let mut answer = plain_answer(cx, room, number, ip, repr);
+    add_options(own, clock, repr, &mut answer);
     let header = IpRepr::new(ip.dst_addr(), ip.src_addr(), IpProtocol::Tcp, answer.buffer_len(), 64);
     (header, answer)
 }
 
+/// The SYN|ACK of the listener at this place, with this number.
+// Not inlined, as few segments come here.
+#[inline(never)]
+pub(crate) fn answer_at<C: Context, G: TsvalSource>(
+    slots: &[Slot<'_, G>],
+    place: usize,
+    cx: &C,
+    number: u32,
+    ip: &IpRepr,
+    repr: &TcpRepr<'_>,
+) -> Reply {
+    let own = own_at(slots, place);
+    let clock = clock_at(slots, place);
+    answer_of(cx, own, clock, room_at(slots, place), number, ip, repr)
+}
+
 /// Where no socket takes it, the acknowledgement of an answer is believed within 64 seconds: as of the class that the
-/// SYN told, and of the number of the answer. None is believed once no answer is awaited, 128 seconds after the last,
-/// nor where the SYN before it is for nobody.
+/// SYN told, and of the number of the answer; and the SYN that the socket hears before it has the window scale, the SACK
+/// permission and the timestamp that it offered, where the answer has a timestamp. None is believed once no answer is
+/// awaited, 128 seconds after the last, nor where the SYN before it is for nobody.
 pub fn answers_are_believed() {
     answers_are_recognised();
+    offers_come_back();
 }

@@ -4,11 +4,12 @@
 use crate::proved::host_cookies::SynCookies;
 use crate::proved::net_host::answered::hear_out_there;
 use crate::proved::net_host::cookies::{
-    Course, Told, answer_of, class_if, course_of, opening_of, room_at, syn_before,
+    Course, Told, answer_at, class_if, course_of, opening_of, syn_before,
 };
 use crate::proved::net_host::crowding::{dropped_if, is_limited};
 use crate::proved::net_host::filing::connection_key;
 use crate::proved::net_host::limit::Limit;
+use crate::proved::net_host::offers::own_of;
 use crate::proved::net_host::replies::put_reply;
 use crate::proved::net_host::segments::{Taker, hear_anew_at, hear_at, keep_within, take_segment, who_takes};
 use crate::proved::net_host::set::SocketSet;
@@ -176,8 +177,7 @@ fn take_heard<C: Context, G: TsvalSource>(
             take_segment(sockets, cx, heard.taker, ip, repr, reply);
         }
         Course::Answered(place, number) => {
-            let room = room_at(&sockets.slots, place);
-            *reply = Some(answer_of(cx, room, number, ip, repr));
+            *reply = Some(answer_at(&sockets.slots, place, cx, number, ip, repr));
         }
         Course::Believed(class, number) => {
             let opening = opening_of(repr);
@@ -199,7 +199,8 @@ fn heard_by<C: Context, G: TsvalSource>(
     let taker = who_takes(sockets, cx, ip, repr);
     let class = class_if(cookies, taker, cx, repr);
     let again = who_again(sockets, cx, class, ip, repr);
-    let course = course_of(cookies, taker, again, cx, ip, repr);
+    let own = own_of(&sockets.slots, taker);
+    let course = course_of(cookies, own, taker, again, cx, ip, repr);
     let dropped = is_limited(sockets, most, taker, course, ip, repr);
     Heard { course: dropped_if(dropped, course), taker, again, dropped }
 }

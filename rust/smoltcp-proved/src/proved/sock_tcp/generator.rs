@@ -59,8 +59,8 @@ impl<'a> Socket<'a> {
 }
 
 impl<'a, G: TsvalSource> Socket<'a, G> {
-    // The value of the socket's clock, where it has one.
-    pub(crate) fn tsval(&self) -> Option<u32> {
+    /// The value of the clock that the socket's timestamps are of, where it has one.
+    pub fn tsval(&self) -> Option<u32> {
         match &self.tsval_generator {
             None => None,
             Some(generator) => Some(generator.tsval()),
