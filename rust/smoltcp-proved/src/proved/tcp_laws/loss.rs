@@ -25,6 +25,12 @@ pub fn answers_tell_what_is_held() {}
 /// a D-SACK, changes nothing then.
 pub fn recoveries_for_nothing_are_undone() {}
 
+/// By the RFCs' rules: a duplicate acknowledgement of a peer that tells by SACK, none of whose blocks begins behind
+/// SND.UNA, as a D-SACK (RFC 2883), and which undoes nothing: the count of duplicates, the congestion window, the
+/// recovery, what was told, what is marked, and how long a loss is waited for, are as they were (RFC 6675, section 2). No
+/// fast retransmission is due then that was not due before.
+pub fn duplicates_below_change_no_loss() {}
+
 /// By the RFCs' rules: where a segment tells of a loss while no recovery goes on, and something is in flight, a fast
 /// retransmission is due at once, or the timer is over after as many quarters of a round trip as reordering was seen,
 /// at most four (RFC 8985, section 6.2). A dispatch then comes to its emit with a fast recovery from SND.UNA on, of
