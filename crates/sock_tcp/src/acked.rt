@@ -56,7 +56,7 @@ impl<'a> ControlBlock<'a> {
         }
     }
 
-    // The same, where the verdict is known: no more bytes than are there.
+    // What it acknowledges where the verdict is known: no more bytes than are there.
     pub(crate) fn acked_by_passing(&self, control: TcpControl, ack: Option<TcpSeqNumber>) -> Acked
         requires { verdict_of self.now control ack ≡ Pass }
         ensures value { result ≡ acked_of self.now control ack }

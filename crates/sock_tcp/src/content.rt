@@ -12,7 +12,8 @@ ghost use Rattle.sock_tcp.specs.Due.{flight};
 ghost use Rattle.sock_tcp.specs.Content.{window_left, is_probing, hole_of, hole_within, resent_size, size_of};
 ghost use Rattle.sock_tcp.specs.Content.{offset_of, number_of, asked};
 ghost use Rattle.sock_tcp.specs.Content.{timestamp_of, plain_segment, with_syn, syn, syn_ack, data_control, with_data};
-ghost use Rattle.sock_tcp.specs.Content.{with_ranges, aside_field, filled, emission_kind, of_kind, hop_limit_of, sending, finished, content};
+ghost use Rattle.sock_tcp.specs.Content.{with_ranges, aside_field, filled, emission_kind, of_kind, hop_limit_of};
+ghost use Rattle.sock_tcp.specs.Content.{sending, finished, content};
 
 use crate::control_block::ControlBlock;
 use crate::due::own_mss;
@@ -213,7 +214,7 @@ impl<'a> ControlBlock<'a> {
         }
     }
 
-    // The same, of which smoltcp's rules tell nothing.
+    // The ranges that are held: smoltcp's rules report none.
     #[inline(always)]
     fn fill_ranges<C: Context>(&self, cx: &C, tuple: &Tuple, repr: &mut TcpRepr<'_>)
         ensures segment { segment_of repr.new
@@ -418,7 +419,7 @@ impl<'a> ControlBlock<'a> {
         Some(kind)
     }
 
-    // The same with its header.
+    // Makes the packet that goes out, with its header.
     pub(crate) fn finish_packet<'s, C: Context>(
         &self,
         cx: &C,

@@ -154,6 +154,7 @@ impl<'a, G: TsvalSource> Socket<'a, G> {
     /// What is emitted can be written as a packet of at most 65535 bytes: a window scale is at most 14, no SACK ranges
     /// stand beside the SACK permission, and the options take at most 40 bytes.
     ///
+    /// # Errors
     /// The error that `emit` answers is passed on; the socket then stands as it did before the emit, and the next
     /// `dispatch` offers the segment again.
     pub fn dispatch<C: Context, E, F: FnOnce(&mut C, (IpRepr, TcpRepr<'_>)) -> Result<(), E>>(
@@ -174,7 +175,7 @@ impl<'a, G: TsvalSource> Socket<'a, G> {
         result
     }
 
-    // As `dispatch`, but for why a connection ended.
+    // What `dispatch` does, but for why a connection ended.
     #[inline(always)]
     fn emit_next<C: Context, E, F: FnOnce(&mut C, (IpRepr, TcpRepr<'_>)) -> Result<(), E>>(
         &mut self,

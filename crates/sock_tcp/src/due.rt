@@ -193,7 +193,7 @@ impl<'a> ControlBlock<'a> {
         self.data_due_by(self.effective_mss(cx, tuple))
     }
 
-    // The same with segments of up to so many bytes.
+    // Whether data is due, in segments of up to so many bytes.
     #[inline(always)]
     pub(crate) fn data_due_by(&self, mss: usize) -> bool
         ensures { result ≡ data_due_by self.now mss }

@@ -89,7 +89,7 @@ fn wire_edges(next: TcpSeqNumber, range: (usize, usize)) -> (u32, u32)
     (wire_number(next, range.0), wire_number(next, range.1))
 }
 
-// The same of a range, if there is one.
+// The edges of a range on the wire, if there is one.
 fn on_wire(next: TcpSeqNumber, range: Option<(usize, usize)>) -> Option<(u32, u32)>
     ensures { result ≡ option_map (wire_edges next) range }
 {

@@ -138,6 +138,7 @@ impl<'a, G> Socket<'a, G> {
 
     /// Waits for a peer on this endpoint.
     ///
+    /// # Errors
     /// `Unaddressable` where the port is zero; else `InvalidState` where the socket is open, but for one that listens
     /// on this very endpoint, for which nothing changes. A refusal changes nothing.
     pub fn listen(&mut self, local_endpoint: IpListenEndpoint) -> Result<(), ListenError>
@@ -154,6 +155,7 @@ impl<'a, G> Socket<'a, G> {
 
     /// Opens a connection to `remote_endpoint`, from the local address given, else from the context's source address.
     ///
+    /// # Errors
     /// `InvalidState` where the socket is open; else `Unaddressable`, tested in this order: the remote port is zero or
     /// the remote address unspecified; the local port is zero; the local address is unspecified; none is given and the
     /// context has none; the two addresses are of different versions. A refusal changes nothing and draws no random
@@ -247,6 +249,7 @@ impl<'a, G> Socket<'a, G> {
 
     /// Puts as many bytes of a beginning of `data` into the transmit queue as fit, and answers how many.
     ///
+    /// # Errors
     /// `InvalidState` where `may_send` is false; nothing changes then.
     pub fn send_slice(&mut self, data: &[u8]) -> Result<usize, SendError>
         ensures table { Sends self.old.control_block «data».now result self.new.control_block }
@@ -261,6 +264,7 @@ impl<'a, G> Socket<'a, G> {
     /// storage, at whose first place an empty queue begins anew. `f` answers how many bytes it put at their beginning,
     /// and these join the queue; beside that it answers what this call answers.
     ///
+    /// # Errors
     /// `InvalidState` where `may_send` is false; `f` is not called then, and nothing changes.
     pub fn send<R, F: FnOnce(&mut [u8]) -> (usize, R)>(&mut self, f: F) -> Result<R, SendError>
         requires callable { F.IsAlwaysCallable f }
@@ -275,6 +279,7 @@ impl<'a, G> Socket<'a, G> {
 
     /// Moves as many bytes from the front of the receive queue into `data` as fit, and answers how many.
     ///
+    /// # Errors
     /// Where `may_recv` is false nothing changes: `Finished` where the peer's FIN has come, else `InvalidState`.
     pub fn recv_slice(&mut self, data: &mut [u8]) -> Result<usize, RecvError>
         ensures table { Reads self.old.control_block «data».old result self.new.control_block «data».new }
@@ -287,8 +292,9 @@ impl<'a, G> Socket<'a, G> {
     /// Lends `f` the receive queue up to the end of its ring's storage. `f` answers how many of these bytes leave the
     /// queue, from the first on; beside that it answers what this call answers.
     ///
-    /// Where `may_recv` is false `f` is not called and nothing changes: `Finished` where the peer's FIN has come,
-    /// else `InvalidState`.
+    /// # Errors
+    /// Where `may_recv` is false `f` is not called and nothing changes: `Finished` where the peer's FIN has come, else
+    /// `InvalidState`.
     pub fn recv<R, F: FnOnce(&[u8]) -> (usize, R)>(&mut self, f: F) -> Result<R, RecvError>
         requires callable { F.IsAlwaysCallable f }
         requires sized { (s : List ℕ) (r : _) → FnOnceReturnsAt F.FnOnce f s r → r.0 ≤ length s }
@@ -300,6 +306,8 @@ impl<'a, G> Socket<'a, G> {
     }
 
     /// Drops as many bytes from the front of the receive queue as are there, but at most `count`, and answers how many.
+    ///
+    /// # Errors
     /// Refused as `recv`. smoltcp has no such call: its `recv` drops what lies in one piece.
     pub fn consume(&mut self, count: usize) -> Result<usize, RecvError>
         ensures table { Drops self.old.control_block count result self.new.control_block }
@@ -309,8 +317,10 @@ impl<'a, G> Socket<'a, G> {
         self.control_block.consume(count)
     }
 
-    /// Lends the receive queue up to the end of its ring's storage, but at most `size` bytes. The bytes stay. Refused
-    /// as `recv`.
+    /// Lends the receive queue up to the end of its ring's storage, but at most `size` bytes. The bytes stay.
+    ///
+    /// # Errors
+    /// Refused as `recv`.
     pub fn peek(&self, size: usize) -> Result<&[u8], RecvError>
         ensures { Peeks self.now.control_block size (lent_bytes result) }
     {
@@ -318,7 +328,10 @@ impl<'a, G> Socket<'a, G> {
     }
 
     /// Copies as many bytes from the front of the receive queue into `data` as fit, and answers how many. The bytes
-    /// stay. Refused as `recv`; `data` is then as it was.
+    /// stay.
+    ///
+    /// # Errors
+    /// Refused as `recv`; `data` is then as it was.
     pub fn peek_slice(&self, data: &mut [u8]) -> Result<usize, RecvError>
         ensures { PeeksInto self.now.control_block «data».old result «data».new }
     {

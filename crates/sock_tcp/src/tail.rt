@@ -165,7 +165,7 @@ impl<'a> ControlBlock<'a> {
         self.is_late() || self.may_probe(self.recovery)
     }
 
-    // The same, where the retransmission timer is over.
+    // Whether it may send where the retransmission timer is over.
     pub(crate) fn may_speak_now(&self) -> bool
         ensures { result ≡ may_probe_by self.now.rules (may_speak self.now) }
     {

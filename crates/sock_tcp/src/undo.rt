@@ -2,10 +2,12 @@
 //! of a timestamp tells (RFC 3522) or, without timestamps, D-SACKs of all that went out again (RFC 3708).
 ghost use Rattle.std.specs.Prelude.{◌≡◌, ◌≤◌, ◌<◌, ◌^◌, length};
 ghost use Rattle.control_wire.specs.Segment.{segment_of};
-ghost use Rattle.sock_tcp.specs.Rfc.Recovery.{controller_told, is_decided, is_decided_by, is_told_twice, is_undone, undone_if};
+ghost use Rattle.sock_tcp.specs.Rfc.Recovery.{controller_told, is_decided, is_decided_by, is_told_twice, is_undone};
+ghost use Rattle.sock_tcp.specs.Rfc.Recovery.{undone_if};
 ghost use Rattle.sock_tcp.specs.Rfc.Recovery.{spared, twice_in, twice_told, undo_after, undone_by_blocks};
 ghost use Rattle.sock_tcp.specs.Rfc.Recovery.{undone_by_echo};
-ghost use Rattle.sock_tcp.specs.Rfc.Undo.{counted_again, first_of, is_older, may_undo, nothing_to_undo, saved, sent_again};
+ghost use Rattle.sock_tcp.specs.Rfc.Undo.{counted_again, first_of, is_older, may_undo, nothing_to_undo, saved};
+ghost use Rattle.sock_tcp.specs.Rfc.Undo.{sent_again};
 ghost use Rattle.sock_tcp.specs.Rfc.Undo.{undo_marked, undo_sent, undo_timed_out};
 
 use crate::control_block::ControlBlock;

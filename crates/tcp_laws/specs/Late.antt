@@ -7,7 +7,8 @@ use Rattle.sock_core.specs.Facts.{Facts}
 use Rattle.sock_tcp.specs.Begin.{before_emit, readied, peer_of}
 use Rattle.sock_tcp.specs.Due.{data_due}
 use Rattle.sock_tcp.specs.Polls.{is_reached, timeout_poll}
-use Rattle.sock_tcp.specs.Rfc.Recovery.{before_of, begins, echo_known, is_undone, recovered, reordering_after, tells_loss, waits_late}
+use Rattle.sock_tcp.specs.Rfc.Recovery.{before_of, begins, echo_known, is_undone, recovered, reordering_after}
+use Rattle.sock_tcp.specs.Rfc.Recovery.{tells_loss, waits_late}
 use Rattle.sock_tcp.specs.Rfc.Reordering.{is_late, is_over, may_resend}
 use Rattle.sock_tcp.specs.Timers.{is_over as is_past}
 use Rattle.sock_tcp.specs.View.{View, moment_of}

@@ -1,5 +1,6 @@
 -- Which small segments wait by the RFCs' rules, and how long (RFC 9293, section 3.8.6.2.1).
-use Rattle.std.specs.Prelude.{ℕ, ◌-◌, ◌/◌, max, min, nat_le, nat_lt, Option, Some, None, is_some, Bool, true, false, not}
+use Rattle.std.specs.Prelude.{ℕ, ◌-◌, ◌/◌, max, min, nat_le, nat_lt, Option, Some, None, is_some, Bool, true, false}
+use Rattle.std.specs.Prelude.{not}
 use Rattle.std.specs.Prelude.{◌==◌, ◌&&◌, ◌||◌, if◌then◌else◌}
 use Rattle.net_base.specs.declared.time.Instant.{Instant}
 use Rattle.sock_core.specs.declared.context.PollAt.{PollAt}

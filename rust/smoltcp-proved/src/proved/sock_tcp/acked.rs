@@ -38,7 +38,7 @@ impl<'a> ControlBlock<'a> {
         Acked { len: if fin { count - 1 } else { count }, fin, all: not_after(self.remote_last_seq, ack) }
     }
 
-    // The same, where the verdict is known: no more bytes than are there.
+    // What it acknowledges where the verdict is known: no more bytes than are there.
     pub(crate) fn acked_by_passing(&self, control: TcpControl, ack: Option<TcpSeqNumber>) -> Acked {
         self.local_seq_no.in_range(); // for its contract
         match ack {

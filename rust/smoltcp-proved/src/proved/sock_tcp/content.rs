@@ -156,7 +156,7 @@ impl<'a> ControlBlock<'a> {
         }
     }
 
-    // The same, of which smoltcp's rules tell nothing.
+    // The ranges that are held: smoltcp's rules report none.
     #[inline(always)]
     fn fill_ranges<C: Context>(&self, cx: &C, tuple: &Tuple, repr: &mut TcpRepr<'_>) {
         match crate::kit::in_force(self.rules) {
@@ -307,7 +307,7 @@ impl<'a> ControlBlock<'a> {
         Some(kind)
     }
 
-    // The same with its header.
+    // Makes the packet that goes out, with its header.
     pub(crate) fn finish_packet<'s, C: Context>(
         &self,
         cx: &C,

@@ -72,8 +72,10 @@ impl<'a, G> Socket<'a, G> {
         self.control_block.rules
     }
 
-    /// Chooses the rules of a socket that is not open, for all its connections from now on. An open one answers
-    /// `RulesError::InvalidState`, and nothing changes.
+    /// Chooses the rules of a socket that is not open, for all its connections from now on.
+    ///
+    /// # Errors
+    /// An open one answers `RulesError::InvalidState`, and nothing changes.
     pub fn set_rules(&mut self, rules: Rules) -> Result<(), RulesError> {
         if self.control_block.is_open() {
             return Err(RulesError::InvalidState);

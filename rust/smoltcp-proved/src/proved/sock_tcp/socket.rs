@@ -81,6 +81,7 @@ impl<'a, G> Socket<'a, G> {
 
     /// Waits for a peer on this endpoint.
     ///
+    /// # Errors
     /// `Unaddressable` where the port is zero; else `InvalidState` where the socket is open, but for one that listens
     /// on this very endpoint, for which nothing changes. A refusal changes nothing.
     pub fn listen(&mut self, local_endpoint: impl Into<IpListenEndpoint>) -> Result<(), ListenError> {
@@ -94,6 +95,7 @@ impl<'a, G> Socket<'a, G> {
 
     /// Opens a connection to `remote_endpoint`, from the local address given, else from the context's source address.
     ///
+    /// # Errors
     /// `InvalidState` where the socket is open; else `Unaddressable`, tested in this order: the remote port is zero or
     /// the remote address unspecified; the local port is zero; the local address is unspecified; none is given and the
     /// context has none; the two addresses are of different versions. A refusal changes nothing and draws no random
@@ -161,6 +163,7 @@ impl<'a, G> Socket<'a, G> {
 
     /// Puts as many bytes of a beginning of `data` into the transmit queue as fit, and answers how many.
     ///
+    /// # Errors
     /// `InvalidState` where `may_send` is false; nothing changes then.
     pub fn send_slice(&mut self, data: &[u8]) -> Result<usize, SendError> {
         self.control_block.send_slice(data)
@@ -170,6 +173,7 @@ impl<'a, G> Socket<'a, G> {
     /// storage, at whose first place an empty queue begins anew. `f` answers how many bytes it put at their beginning,
     /// and these join the queue; beside that it answers what this call answers.
     ///
+    /// # Errors
     /// `InvalidState` where `may_send` is false; `f` is not called then, and nothing changes.
     pub fn send<R, F: FnOnce(&mut [u8]) -> (usize, R)>(&mut self, f: F) -> Result<R, SendError> {
         self.control_block.send(f)
@@ -177,6 +181,7 @@ impl<'a, G> Socket<'a, G> {
 
     /// Moves as many bytes from the front of the receive queue into `data` as fit, and answers how many.
     ///
+    /// # Errors
     /// Where `may_recv` is false nothing changes: `Finished` where the peer's FIN has come, else `InvalidState`.
     pub fn recv_slice(&mut self, data: &mut [u8]) -> Result<usize, RecvError> {
         self.control_block.recv_slice(data)
@@ -185,26 +190,34 @@ impl<'a, G> Socket<'a, G> {
     /// Lends `f` the receive queue up to the end of its ring's storage. `f` answers how many of these bytes leave the
     /// queue, from the first on; beside that it answers what this call answers.
     ///
-    /// Where `may_recv` is false `f` is not called and nothing changes: `Finished` where the peer's FIN has come,
-    /// else `InvalidState`.
+    /// # Errors
+    /// Where `may_recv` is false `f` is not called and nothing changes: `Finished` where the peer's FIN has come, else
+    /// `InvalidState`.
     pub fn recv<R, F: FnOnce(&[u8]) -> (usize, R)>(&mut self, f: F) -> Result<R, RecvError> {
         self.control_block.recv(f)
     }
 
     /// Drops as many bytes from the front of the receive queue as are there, but at most `count`, and answers how many.
+    ///
+    /// # Errors
     /// Refused as `recv`. smoltcp has no such call: its `recv` drops what lies in one piece.
     pub fn consume(&mut self, count: usize) -> Result<usize, RecvError> {
         self.control_block.consume(count)
     }
 
-    /// Lends the receive queue up to the end of its ring's storage, but at most `size` bytes. The bytes stay. Refused
-    /// as `recv`.
+    /// Lends the receive queue up to the end of its ring's storage, but at most `size` bytes. The bytes stay.
+    ///
+    /// # Errors
+    /// Refused as `recv`.
     pub fn peek(&self, size: usize) -> Result<&[u8], RecvError> {
         self.control_block.peek(size)
     }
 
     /// Copies as many bytes from the front of the receive queue into `data` as fit, and answers how many. The bytes
-    /// stay. Refused as `recv`; `data` is then as it was.
+    /// stay.
+    ///
+    /// # Errors
+    /// Refused as `recv`; `data` is then as it was.
     pub fn peek_slice(&self, data: &mut [u8]) -> Result<usize, RecvError> {
         self.control_block.peek_slice(data)
     }

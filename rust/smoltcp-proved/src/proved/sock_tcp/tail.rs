@@ -112,7 +112,7 @@ impl<'a> ControlBlock<'a> {
         self.is_late() || self.may_probe(self.recovery.get())
     }
 
-    // The same, where the retransmission timer is over.
+    // Whether it may send where the retransmission timer is over.
     pub(crate) fn may_speak_now(&self) -> bool {
         match crate::kit::in_force(self.rules) {
             Rules::Smoltcp => false,
