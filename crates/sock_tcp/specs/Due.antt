@@ -79,9 +79,12 @@ timestamp_room stamps = if stamps then 12 else 0
 abbrev pub ranges_room : Bool → ℕ → ℕ
 ranges_room stamps n = ((if stamps then 10 else 0) + sack_option_len n + 3) / 4 * 4
 
--- whether a segment that is no reply tells what is held: they leave room for data
+-- whether a segment that is no reply tells what is held: with an own MSS that leaves room for data
+abbrev pub tells_within : View → ℕ → Bool
+tells_within v own = tells_by v.rules v.remote_has_sack v.rx_buffer.held && nat_lt 36 own
+
 abbrev pub tells_ranges : View → Tuple → Facts → Bool
-tells_ranges v t f = tells_by v.rules v.remote_has_sack v.rx_buffer.held && nat_lt 36 (own_mss f t)
+tells_ranges v t f = tells_within v (own_mss f t)
 
 abbrev pub ranges_or : View → Tuple → Facts → List (Option (ℕ × ℕ)) → List (Option (ℕ × ℕ))
 ranges_or v t f none = if tells_ranges v t f then sack_ranges v else none
@@ -91,13 +94,19 @@ abbrev pub sent_ranges : View → Tuple → Facts → List (Option (ℕ × ℕ))
 sent_ranges v t f = ranges_or v t f (None ∷ None ∷ None ∷ [])
 
 -- how many octets the options of a segment with data take
+abbrev pub room_within : View → ℕ → ℕ
+room_within v own =
+    if tells_within v own then ranges_room v.stamps (count_by is_some (sack_ranges v)) else timestamp_room v.stamps
+
 abbrev pub options_room : View → Tuple → Facts → ℕ
-options_room v t f =
-    if tells_ranges v t f then ranges_room v.stamps (count_by is_some (sack_ranges v)) else timestamp_room v.stamps
+options_room v t f = room_within v (own_mss f t)
 
 -- how many bytes a segment carries: the MSS is of a segment without options (RFC 6691, section 2)
+abbrev pub mss_within : View → ℕ → ℕ
+mss_within v own = min own v.remote_mss - room_within v own
+
 abbrev pub effective_mss : View → Tuple → Facts → ℕ
-effective_mss v t f = min (own_mss f t) v.remote_mss - options_room v t f
+effective_mss v t f = mss_within v (own_mss f t)
 
 -- how much was sent and is not acknowledged
 abbrev pub flight : View → ℕ

@@ -209,7 +209,7 @@ impl<'a> ControlBlock<'a> {
             ≡ with_ranges self.now tuple.now (C.facts cx.now) (segment_of repr.old) }
         ensures payload { repr.new.payload.now ≡ repr.old.payload.now }
     {
-        if self.tells_ranges(cx, tuple) {
+        if self.tells_ranges(own_mss(cx, tuple)) {
             repr.sack_ranges = self.sack_ranges();
         }
     }

@@ -3,8 +3,8 @@ ghost use Rattle.std.specs.Prelude.{◌≡◌, ◌≤◌, ◌<◌, ◌^◌};
 ghost use Rattle.sock_core.specs.Bounds.{IsMoment};
 ghost use Rattle.sock_tcp.specs.View.{moment_of};
 ghost use Rattle.std.specs.Prelude.{count_by, is_some};
-ghost use Rattle.sock_tcp.specs.Due.{control_due, own_mss, effective_mss, options_room, ranges_room, timestamp_room};
-ghost use Rattle.sock_tcp.specs.Due.{tells_ranges};
+ghost use Rattle.sock_tcp.specs.Due.{control_due, effective_mss, mss_within, own_mss, ranges_room, tells_within};
+ghost use Rattle.sock_tcp.specs.Due.{timestamp_room};
 ghost use Rattle.sock_tcp.specs.Sack.{sack_ranges};
 ghost use Rattle.sock_tcp.specs.Due.{flight, limited, congestion_left, sendable, waits_by_nagle, is_held_back};
 ghost use Rattle.sock_tcp.specs.Due.{data_due, data_due_by, ack_due};
@@ -53,17 +53,15 @@ impl<'a> ControlBlock<'a> {
         if self.stamps { TIMESTAMP_ROOM } else { 0 }
     }
 
-    // A segment that is no reply tells what is held.
+    // A segment that is no reply tells what is held, with this own MSS.
     #[inline(always)]
-    pub(crate) fn tells_ranges<C: Context>(&self, cx: &C, tuple: &Tuple) -> bool
-        ensures { result ≡ tells_ranges self.now tuple.now (C.facts cx.now) }
+    pub(crate) fn tells_ranges(&self, own: usize) -> bool
+        ensures { result ≡ tells_within self.now own }
     {
         match self.rules {
             Rules::Smoltcp => false,
             Rules::Rfc => {
-                self.remote_has_sack
-                    && !self.rx_buffer.holds_nothing()
-                    && own_mss(cx, tuple) > MOST_OPTIONS
+                self.remote_has_sack && !self.rx_buffer.holds_nothing() && own > MOST_OPTIONS
             }
         }
     }
@@ -79,35 +77,32 @@ impl<'a> ControlBlock<'a> {
         (stamp + ranges + 3) / 4 * 4
     }
 
-    // How much of each segment its options take, by the RFCs' rules.
+    // How many bytes a segment carries, with this own MSS. Not inlined, and the context is not handed over, so that by
+    // smoltcp's rules it need not lie in memory.
     #[inline(never)]
-    fn rfc_options_room<C: Context>(&self, cx: &C, tuple: &Tuple) -> usize
-        ensures { result ≡ options_room self.now tuple.now (C.facts cx.now) }
+    fn rfc_mss(&self, own: usize) -> usize
+        ensures { result ≡ mss_within self.now own }
     {
-        if self.tells_ranges(cx, tuple) {
+        let room = if self.tells_ranges(own) {
             self.ranges_room()
         } else {
             self.timestamp_room()
-        }
-    }
-
-    // How much of each segment its options take.
-    #[inline(always)]
-    fn options_room<C: Context>(&self, cx: &C, tuple: &Tuple) -> usize
-        ensures { result ≡ options_room self.now tuple.now (C.facts cx.now) }
-    {
-        match self.rules {
-            Rules::Smoltcp => self.timestamp_room(),
-            Rules::Rfc => self.rfc_options_room(cx, tuple),
-        }
+        };
+        own.min(self.remote_mss).saturating_sub(room)
     }
 
     pub(crate) fn effective_mss<C: Context>(&self, cx: &C, tuple: &Tuple) -> usize
         ensures value { result ≡ effective_mss self.now tuple.now (C.facts cx.now) }
         ensures small { result ≤ 65535 }
     {
-        let room = self.options_room(cx, tuple);
-        own_mss(cx, tuple).min(self.remote_mss).saturating_sub(room)
+        let own = own_mss(cx, tuple);
+        match self.rules {
+            Rules::Smoltcp => {
+                let mss = own.min(self.remote_mss);
+                mss.saturating_sub(self.timestamp_room())
+            }
+            Rules::Rfc => self.rfc_mss(own),
+        }
     }
 
     // How much was sent and is not acknowledged.

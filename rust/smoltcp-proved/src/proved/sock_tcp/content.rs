@@ -151,7 +151,7 @@ impl<'a> ControlBlock<'a> {
     // What is held, where it tells that.
     #[inline(never)]
     fn fill_rfc_ranges<C: Context>(&self, cx: &C, tuple: &Tuple, repr: &mut TcpRepr<'_>) {
-        if self.tells_ranges(cx, tuple) {
+        if self.tells_ranges(own_mss(cx, tuple)) {
             repr.sack_ranges = self.sack_ranges();
         }
     }

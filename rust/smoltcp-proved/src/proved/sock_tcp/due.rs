@@ -38,14 +38,12 @@ impl<'a> ControlBlock<'a> {
         if self.stamps { TIMESTAMP_ROOM } else { 0 }
     }
 
-    // A segment that is no reply tells what is held.
+    // A segment that is no reply tells what is held, with this own MSS.
     #[inline(always)]
-    pub(crate) fn tells_ranges<C: Context>(&self, cx: &C, tuple: &Tuple) -> bool {
+    pub(crate) fn tells_ranges(&self, own: usize) -> bool {
         match crate::kit::in_force(self.rules) {
             Rules::Smoltcp => false,
-            Rules::Rfc => {
-                self.remote_has_sack && !self.rx_buffer.holds_nothing() && own_mss(cx, tuple) > MOST_OPTIONS
-            }
+            Rules::Rfc => self.remote_has_sack && !self.rx_buffer.holds_nothing() && own > MOST_OPTIONS,
         }
     }
 
@@ -58,24 +56,23 @@ impl<'a> ControlBlock<'a> {
         (stamp + ranges + 3) / 4 * 4
     }
 
-    // How much of each segment its options take, by the RFCs' rules.
+    // How many bytes a segment carries, with this own MSS. Not inlined, and the context is not handed over, so that by
+    // smoltcp's rules it need not lie in memory.
     #[inline(never)]
-    fn rfc_options_room<C: Context>(&self, cx: &C, tuple: &Tuple) -> usize {
-        if self.tells_ranges(cx, tuple) { self.ranges_room() } else { self.timestamp_room() }
-    }
-
-    // How much of each segment its options take.
-    #[inline(always)]
-    fn options_room<C: Context>(&self, cx: &C, tuple: &Tuple) -> usize {
-        match crate::kit::in_force(self.rules) {
-            Rules::Smoltcp => self.timestamp_room(),
-            Rules::Rfc => self.rfc_options_room(cx, tuple),
-        }
+    fn rfc_mss(&self, own: usize) -> usize {
+        let room = if self.tells_ranges(own) { self.ranges_room() } else { self.timestamp_room() };
+        own.min(self.remote_mss).saturating_sub(room)
     }
 
     pub(crate) fn effective_mss<C: Context>(&self, cx: &C, tuple: &Tuple) -> usize {
-        let room = self.options_room(cx, tuple);
-        own_mss(cx, tuple).min(self.remote_mss).saturating_sub(room)
+        let own = own_mss(cx, tuple);
+        match crate::kit::in_force(self.rules) {
+            Rules::Smoltcp => {
+                let mss = own.min(self.remote_mss);
+                mss.saturating_sub(self.timestamp_room())
+            }
+            Rules::Rfc => self.rfc_mss(own),
+        }
     }
 
     // How much was sent and is not acknowledged.
