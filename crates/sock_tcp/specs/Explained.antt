@@ -42,7 +42,8 @@ is_outside _ = false
 
 abbrev pub behind : View → Instant → Segment → Outcome → Outcome
 behind v now s o =
-    told_then v.rules v (windowed v.rules v s) (closed_then v.rules (recovered_by v.rules v now (windowed v.rules v s) o))
+    told_then v.rules v (windowed v.rules v s)
+    (closed_then v.rules (recovered_by v.rules v now (windowed v.rules v s) o))
 
 -- nothing changes, and nothing is answered
 abbrev pub DroppedChangeNothing : Type 0

@@ -81,9 +81,9 @@ Accepts v ip s = AcceptsIn v.state v ip s
 -- asks for the verdict, which is by the socket's rules (`Rfc/Checks.antt`), and which window the segment tells by these
 -- (`Rfc/Windows.antt`); `by_verdict` drops, resets, challenges or lets pass; `tested` tests the window in which a
 -- segment is taken by these rules, in a state that has one, and `recovered_by` (`Rfc/Recovery.antt`) does by the
--- socket's rules what is done of loss then, `closed_then` a close that waited, and `told_then` lets the answer tell what
--- came twice (`Rfc/Duplicates.antt`); `cut_inside` cuts what lies inside,
--- and `refused` (`Rfc/Refused.antt`) does by the socket's rules what is done outside. The rest stands in `Inside.antt`:
+-- socket's rules what is done of loss then, `closed_then` a close that waited, and `told_then` lets the answer tell
+-- what came twice (`Rfc/Duplicates.antt`); `cut_inside` cuts what lies inside, and `refused` (`Rfc/Refused.antt`) does
+-- by the socket's rules what is done outside. The rest stands in `Inside.antt`:
 -- `outside` answers a segment; `processed_inside` goes through the state table; `after_advance` stops, challenges or
 -- hears the acknowledgement; `bytes_taken` takes the bytes and answers a gap.
 

@@ -66,7 +66,8 @@ pub record BeginsRecovery (v : View) (t : Tuple) (f : Facts) : Type 0 where
   pub una : (before_emit v f).view.local_seq_no ≡ v.local_seq_no
   pub nxt : (before_emit v f).view.remote_last_seq ≡ v.remote_last_seq
   pub recovery :
-      (before_emit v f).view.recovery ≡ recovery.Fast v.remote_last_seq v.local_seq_no v.remote_last_seq false false false
+      (before_emit v f).view.recovery
+      ≡ recovery.Fast v.remote_last_seq v.local_seq_no v.remote_last_seq false false false
 
 -- the hole goes out then
 abbrev pub LateHoleGoesOut : Type 0

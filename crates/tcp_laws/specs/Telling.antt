@@ -71,7 +71,8 @@ abbrev pub TellsHeld : Rules → View → Segment → View → Option Segment �
 TellsHeld r v s w None = Unit {0}
 TellsHeld r v s w (Some x) = TellsRanges r v s w x.sack_ranges
 
--- whatever segment comes, the answer tells only what the socket holds then, and by the RFCs' rules first what came twice
+-- whatever segment comes, the answer tells only what the socket holds then, and by the RFCs' rules first what came
+-- twice
 abbrev pub AnswersTellWhatIsHeld : Type 0
 AnswersTellWhatIsHeld =
     (r : Rules) (v : View) (now : Instant) (word : ℕ) (ip : IpRepr) (s : Segment)

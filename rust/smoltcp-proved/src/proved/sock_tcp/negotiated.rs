@@ -40,8 +40,8 @@ impl<'a, G> Socket<'a, G> {
         }
     }
 
-    /// By how many bits the own window fields are shifted, in each state: in LISTEN what the SYN|ACK will tell, where the
-    /// peer's SYN has the option (RFC 7323, section 2).
+    /// By how many bits the own window fields are shifted, in each state: in LISTEN what the SYN|ACK will tell, where
+    /// the peer's SYN has the option (RFC 7323, section 2).
     pub fn local_win_scale(&self) -> u8 {
         self.control_block.remote_win_shift
     }

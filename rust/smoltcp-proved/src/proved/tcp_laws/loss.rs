@@ -27,8 +27,8 @@ pub fn recoveries_for_nothing_are_undone() {}
 
 /// By the RFCs' rules: a duplicate acknowledgement of a peer that tells by SACK, none of whose blocks begins behind
 /// SND.UNA, as a D-SACK (RFC 2883), and which undoes nothing: the count of duplicates, the congestion window, the
-/// recovery, what was told, what is marked, and how long a loss is waited for, are as they were (RFC 6675, section 2). No
-/// fast retransmission is due then that was not due before.
+/// recovery, what was told, what is marked, and how long a loss is waited for, are as they were (RFC 6675, section 2).
+/// No fast retransmission is due then that was not due before.
 pub fn duplicates_below_change_no_loss() {}
 
 /// By the RFCs' rules: where a segment tells of a loss while no recovery goes on, and something is in flight, a fast
