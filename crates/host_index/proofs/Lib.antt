@@ -1,3 +1,5 @@
+pub mod Counting
 pub mod Entered
 pub mod Firsts
 pub mod Numbers
+pub mod Rooms

@@ -1,5 +1,5 @@
 -- The entries of numbers in order.
-use Rattle.std.proofs.Common.{◌≡◌, ◌∙◌, ℕ, ◌+◌, ◌-◌, ◌<◌, ◌≤◌, ◌/◌, List, [], ◌∷◌, ◌++◌, take, drop, length, get_or, Bool, true, false, nat_lt, nat_eq, suc, zero, refl, sym, subst, ap, arith}
+use Rattle.std.proofs.Common.{◌≡◌, ◌∙◌, ℕ, ◌+◌, ◌-◌, ◌*◌, ◌<◌, ◌≤◌, ◌/◌, List, [], ◌∷◌, ◌++◌, take, drop, length, get_or, Bool, true, false, nat_lt, nat_eq, suc, zero, refl, sym, subst, ap, arith}
 use Rattle.std.specs.Prelude.{Some, None, slice_get}
 use Rattle.std.specs.List.{insert, remove}
 use mathlib.Core.List.{map}
@@ -7,7 +7,8 @@ use Rattle.std.proofs.lemmas.List.{get_or-map, length-map, map-append, take-map,
 use Rattle.host_index.specs.declared.columns.Columns.{Columns}
 use Rattle.host_index.specs.declared.entry.Entry.{Entry}
 use Rattle.std.proofs.lemmas.List.Edits.{get_or-insert_above, get_or-insert_at, get_or-insert_below, get_or-remove_above, get_or-remove_below, length-insert, length-remove}
-use Rattle.host_index.specs.Columns.{Frees, Puts, entry_in, is_free}
+use Rattle.host_index.proofs.Counting.{one_less}
+use Rattle.host_index.specs.Columns.{Frees, Puts, entry_in, how_many, is_free}
 use Rattle.host_index.specs.Entries.{IsSortedByRank, Splits, has, nothing, rank, rank_at}
 use Rattle.host_index.specs.Indexing.{AreBefore, BeginBetween, IsAmong, IsIndex, IsOrdered, entries_in, number_at}
 
@@ -172,6 +173,15 @@ in_front j p u = grind (arith, u)
 from_there : (j p : ℕ) → nat_lt j p ≡ false → p ≤ j
 from_there j p u = grind (arith, u)
 
+meets : (p k : ℕ) → p ≤ k → nat_lt p k ≡ false → p ≡ k
+meets p k h u = grind (arith, h, u)
+
+not_at : (k p : ℕ) → k < p → nat_eq k p ≡ false
+not_at k p h = grind (arith, h)
+
+not_behind : (k p : ℕ) → p ≤ k → nat_eq (k + 1) p ≡ false
+not_behind k p h = grind (arith, h)
+
 differ : (m n : ℕ) → nat_eq m n ≡ false → n ≡ m → ⊥
 differ m n u v = absurd (grind (arith, u, v))
 
@@ -236,9 +246,9 @@ module _ (c d : Columns) (os : List ℕ) (p n : ℕ) (e : Entry) (was : IsIndex 
       first = behind (omega (arith, h, within))
 
       go : (b : Bool) → nat_lt p k ≡ b → rank e < old k
-      go true q = let r : old p < old k = was.ordered p k (grind (arith, q)) within in omega (arith, first, r)
+      go true q = let r : old p < old k = was.ordered p k (in_front p k q) within in omega (arith, first, r)
       go false q =
-          let at : p ≡ k = grind (arith, q, h) in
+          let at : p ≡ k = meets p k h q in
           subst (λ m. rank e < old m) at first
 
   -- by where one stands: in front, there, or behind
@@ -308,8 +318,34 @@ module _ (c d : Columns) (os : List ℕ) (p n : ℕ) (e : Entry) (was : IsIndex 
   listed_at m there true q is = record { place = p; within = omega (arith, len, inside); is = get_or-insert_at os p n 0 inside ∙ sym (equal m n q) }
   listed_at m there false q is = shifted_in m (listed_still m there q is)
 
+  inside_at : (k : ℕ) → k < length (insert os p n) → (a : Bool) → nat_lt k p ≡ a → (b : Bool) → nat_eq k p ≡ b → number_at (insert os p n) k < 2 * length d.majors.items
+  inside_at k within true u b v =
+      let l : k < p = in_front k p u in
+      let i : number_at os k < 2 * length c.majors.items = was.inside k (omega (arith, l, inside)) in
+      let e = get_or-insert_below os p n 0 k l inside in
+      omega (arith, i, e, put.len)
+  inside_at k within false u true v =
+      let at : k ≡ p = equal k p v in
+      subst (λ m. number_at (insert os p n) m < 2 * length d.majors.items) (sym at)
+      (let e = get_or-insert_at os p n 0 inside in omega (arith, e, put.len, put.within))
+  inside_at k within false u false v =
+      let l : p < k = beyond k p u v in
+      let is : (k - 1) + 1 ≡ k = omega (arith, l) in
+      let i : number_at os (k - 1) < 2 * length c.majors.items = was.inside (k - 1) (omega (arith, len, within, l)) in
+      subst (λ m. number_at (insert os p n) m < 2 * length d.majors.items) is
+      (let e = get_or-insert_above os p n 0 (k - 1) (omega (arith, l)) inside in omega (arith, i, e, put.len))
+
+  counted_now : length (insert os p n) + how_many (λ m. is_free d m) (2 * length d.majors.items) ≡ 2 * length d.majors.items
+  counted_now =
+      let a = one_less (λ m. is_free c m) (λ m. is_free d m) n (2 * length c.majors.items) put.within put.was_free put.taken put.others_free in
+      let w = was.counted in
+      let m : 2 * length d.majors.items ≡ 2 * length c.majors.items = omega (arith, put.len) in
+      subst (λ t. length (insert os p n) + how_many (λ m. is_free d m) t ≡ t) (sym m) (omega (arith, a, w, len))
+
   with_one : IsIndex d (insert os p n)
   with_one = record {
+    inside = λ k within. inside_at k within (nat_lt k p) refl (nat_eq k p) refl;
+    counted = counted_now;
     as_many = put.as_many;
     ordered = λ i j h within. ordered_at i j h within (nat_lt i p) refl (nat_lt j p) refl (nat_eq i p) refl (nat_eq j p) refl;
     taken = λ k within. taken_at k within (nat_lt k p) refl (nat_eq k p) refl;
@@ -336,8 +372,8 @@ module _ (c d : Columns) (os : List ℕ) (p : ℕ) (within : p < length os) (was
 
       go : (b : Bool) → nat_eq (number_at os k) (number_at os p) ≡ b → (f : Bool) → nat_lt k p ≡ f → b ≡ false
       go false e f u = refl
-      go true e true u = absurd (less _ _ (was.ordered k p (grind (arith, u)) within) (ap (λ m. rank (entry_in c m)) (equal (number_at os k) (number_at os p) e)))
-      go true e false u = absurd (less _ _ (was.ordered p k (grind (arith, u, h)) inside) (ap (λ m. rank (entry_in c m)) (sym (equal (number_at os k) (number_at os p) e))))
+      go true e true u = absurd (less _ _ (was.ordered k p (in_front k p u) within) (ap (λ m. rank (entry_in c m)) (equal (number_at os k) (number_at os p) e)))
+      go true e false u = absurd (less _ _ (was.ordered p k (beyond k p u h) inside) (ap (λ m. rank (entry_in c m)) (sym (equal (number_at os k) (number_at os p) e))))
 
   -- where the number at k stood before
   abbrev from : ℕ → Bool → ℕ
@@ -345,12 +381,12 @@ module _ (c d : Columns) (os : List ℕ) (p : ℕ) (within : p < length os) (was
   from k false = k + 1
 
   stood : (k : ℕ) (b : Bool) → nat_lt k p ≡ b → number_at (remove os p) k ≡ number_at os (from k b)
-  stood k true u = get_or-remove_below os p 0 k (grind (arith, u)) within
-  stood k false u = get_or-remove_above os p 0 k (grind (arith, u)) within
+  stood k true u = get_or-remove_below os p 0 k (in_front k p u) within
+  stood k false u = get_or-remove_above os p 0 k (from_there k p u) within
 
   apart : (k : ℕ) (b : Bool) → nat_lt k p ≡ b → nat_eq (from k b) p ≡ false
-  apart k true u = grind (arith, u)
-  apart k false u = grind (arith, u)
+  apart k true u = not_at k p (in_front k p u)
+  apart k false u = not_behind k p (from_there k p u)
 
   there : (k : ℕ) → k < length (remove os p) → (b : Bool) → from k b < length os
   there k inside true = omega (arith, len_less, inside)
@@ -389,8 +425,24 @@ module _ (c d : Columns) (os : List ℕ) (p : ℕ) (within : p < length os) (was
   listed_less m there true q is = absurd (not_free (sym (subst (λ k. is_free d k ≡ true) (sym (equal m (number_at os p) q)) (frees.freed (subst (λ k. k / 2 < length c.majors.items) (equal m (number_at os p) q) there))) ∙ is))
   listed_less m there false q is = shifted_out m q (was.listed m there (sym (frees.others_free m q) ∙ is))
 
+  inside_still : (k : ℕ) → k < length (remove os p) → number_at (remove os p) k < 2 * length d.majors.items
+  inside_still k less =
+      let i : number_at os (from k (nat_lt k p)) < 2 * length c.majors.items = was.inside (from k (nat_lt k p)) (there k less (nat_lt k p)) in
+      let e = stood k (nat_lt k p) refl in
+      omega (arith, i, e, frees.len)
+
+  counted_still : length (remove os p) + how_many (λ m. is_free d m) (2 * length d.majors.items) ≡ 2 * length d.majors.items
+  counted_still =
+      let n : number_at os p < 2 * length c.majors.items = was.inside p within in
+      let a = one_less (λ m. is_free d m) (λ m. is_free c m) (number_at os p) (2 * length c.majors.items) n (frees.freed (omega (arith, n))) (was.taken p within) (λ k h. sym (frees.others_free k h)) in
+      let w = was.counted in
+      let m : 2 * length d.majors.items ≡ 2 * length c.majors.items = omega (arith, frees.len) in
+      subst (λ t. length (remove os p) + how_many (λ m. is_free d m) t ≡ t) (sym m) (omega (arith, a, w, len_less))
+
   pub removed : IsIndex d (remove os p)
   removed = record {
+    inside = inside_still;
+    counted = counted_still;
     as_many = frees.as_many;
     ordered = λ i j h inside.
         let q : rank (entry_in c (number_at os (from i (nat_lt i p)))) < rank (entry_in c (number_at os (from j (nat_lt j p)))) = was.ordered (from i (nat_lt i p)) (from j (nat_lt j p)) (onward i j h (nat_lt i p) refl (nat_lt j p) refl) (there j inside (nat_lt j p)) in
@@ -400,3 +452,31 @@ module _ (c d : Columns) (os : List ℕ) (p : ℕ) (within : p < length os) (was
     taken = λ k inside. ap (is_free d) (stood k (nat_lt k p) refl) ∙ frees.others_free (number_at os (from k (nat_lt k p))) (once (from k (nat_lt k p)) (there k inside (nat_lt k p)) (apart k (nat_lt k p) refl)) ∙ was.taken (from k (nat_lt k p)) (there k inside (nat_lt k p));
     listed = λ m there. listed_less m (omega (arith, there, frees.len)) (nat_eq m (number_at os p)) refl;
   }
+
+-- ---- where a key stands
+
+pub stands_there : (c : Columns) (os : List ℕ) (n p : ℕ) → IsIndex c os → n / 2 < length c.majors.items → is_free c n ≡ false → Splits (entries_in c os) (rank (entry_in c n)) p → (p < length os) × (number_at os p ≡ n)
+stands_there c os n p index there taken s = go (nat_lt q.place p) refl (nat_eq q.place p) refl
+  where
+    q : IsAmong os n
+    q = index.listed n there taken
+
+    rank_q : rank_at (entries_in c os) q.place ≡ rank (entry_in c n)
+    rank_q = rank_of c os q.place q.within ∙ ap (λ m. rank (entry_in c m)) q.is
+
+    go : (a : Bool) → nat_lt q.place p ≡ a → (b : Bool) → nat_eq q.place p ≡ b → (p < length os) × (number_at os p ≡ n)
+    go true u b v =
+        let below : rank_at (entries_in c os) q.place < rank (entry_in c n) = s.below q.place (in_front q.place p u) in
+        absurd (omega (arith, below, rank_q))
+    go false u true v =
+        let at : q.place ≡ p = equal q.place p v in
+        (subst (λ k. k < length os) at q.within, sym (ap (number_at os) at) ∙ q.is)
+    go false u false v =
+        let less : p < q.place = beyond q.place p u v in
+        let w = q.within in
+        let here : p < length (entries_in c os) = subst (λ m. p < m) (sym (as_many c os)) (omega (arith, less, w)) in
+        let above : rank (entry_in c n) ≤ rank_at (entries_in c os) p = s.above p (omega arith) here in
+        let r = rank_of c os p (omega (arith, less, w)) in
+        let o : rank (entry_in c (number_at os p)) < rank (entry_in c (number_at os q.place)) = index.ordered p q.place less w in
+        let t : rank (entry_in c (number_at os q.place)) ≡ rank (entry_in c n) = ap (λ m. rank (entry_in c m)) q.is in
+        absurd (omega (arith, above, r, o, t))

@@ -1,7 +1,7 @@
 -- The keys of many places, in columns.
 use Rattle.std.specs.Prelude.{ℕ, ◌≡◌, ◌<◌, ◌≤◌, ◌+◌, ◌*◌, ◌/◌, ◌%◌, ◌-◌, ◌==◌, Bool, true, false, nat_eq}
 use Rattle.std.specs.Prelude.{length, get_or}
-use Rattle.std.specs.Prelude.{slice_set, if◌then◌else◌}
+use Rattle.std.specs.Prelude.{suc, zero, ◌&&◌, nat_le, nat_lt, not, slice_set, if◌then◌else◌, vec_capacity}
 use Rattle.host_index.specs.declared.columns.Columns.{Columns}
 use Rattle.host_index.specs.declared.entry.Entry.{Entry}
 use Rattle.host_index.specs.declared.entry.Which.{Which}
@@ -35,13 +35,36 @@ is_free c n =
     if n % 2 == 0 then get_or c.majors.items (n / 2) 0 == 340282366920938463463374607431768211455
     else get_or c.moments.items (n / 2) 0 == 18446744073709551615
 
+-- how many of the first n have this property
+unfoldable pub how_many : (ℕ → Bool) → ℕ → ℕ
+how_many f zero = 0
+how_many f (suc n) = (if f n then 1 else 0) + how_many f n
+
+-- the number of a place's other key
+abbrev pub other_of : Which → ℕ → ℕ
+other_of which.First place = 2 * place + 1
+other_of which.Second place = 2 * place
+
 -- the key of this number is there, and is this one
 pub record IsPut (n : ℕ) (e : Entry) (c : Columns) : Type 0 where
   pub within : n / 2 < length c.majors.items
   pub taken : is_free c n ≡ false
   pub here : entry_in c n ≡ e
 
+-- whether a key fits there: 32 bits of the second part of a first one, sixteen of the first part of a second one
+abbrev pub fits : Which → Entry → Bool
+fits which.First e = not (e.major == 340282366920938463463374607431768211455) && nat_lt e.minor 4294967296
+fits which.Second e = nat_le 65536 e.major && nat_lt e.major 131072 && nat_lt e.minor 18446744073709551615
+
 -- ---- what is done
+
+-- no memory is asked for and none given back, for as many places
+pub record KeepsMemory (c d : Columns) : Type 0 where
+  pub majors : vec_capacity d.majors ≡ vec_capacity c.majors
+  pub minors : vec_capacity d.minors ≡ vec_capacity c.minors
+  pub doors : vec_capacity d.doors ≡ vec_capacity c.doors
+  pub moments : vec_capacity d.moments ≡ vec_capacity c.moments
+  pub places : length d.majors.items ≡ length c.majors.items
 
 pub record PutsFirst (e : Entry) (c d : Columns) : Type 0 where
   pub was_free : get_or c.majors.items e.place 0 ≡ 340282366920938463463374607431768211455
@@ -50,6 +73,7 @@ pub record PutsFirst (e : Entry) (c d : Columns) : Type 0 where
   pub minors : d.minors.items ≡ slice_set c.minors.items e.place e.minor
   pub doors : d.doors ≡ c.doors
   pub moments : d.moments ≡ c.moments
+  pub memory : KeepsMemory c d
 
 pub record PutsSecond (e : Entry) (c d : Columns) : Type 0 where
   pub was_free : get_or c.moments.items e.place 0 ≡ 18446744073709551615
@@ -59,9 +83,11 @@ pub record PutsSecond (e : Entry) (c d : Columns) : Type 0 where
   pub moments : d.moments.items ≡ slice_set c.moments.items e.place e.minor
   pub majors : d.majors ≡ c.majors
   pub minors : d.minors ≡ c.minors
+  pub memory : KeepsMemory c d
 
 -- the key of this number is put where it was free, and the others are what they were
 pub record Puts (n : ℕ) (e : Entry) (c d : Columns) : Type 0 where
+  pub within : n < 2 * length c.majors.items
   pub was_free : is_free c n ≡ true
   pub here : entry_in d n ≡ e
   pub taken : is_free d n ≡ false
@@ -69,6 +95,7 @@ pub record Puts (n : ℕ) (e : Entry) (c d : Columns) : Type 0 where
   pub others_free : (k : ℕ) → nat_eq k n ≡ false → is_free d k ≡ is_free c k
   pub as_many : AreAsMany d
   pub len : length d.majors.items ≡ length c.majors.items
+  pub memory : KeepsMemory c d
 
 -- it is free, where it is there, and the others are what they were
 pub record Frees (n : ℕ) (c d : Columns) : Type 0 where
@@ -77,3 +104,4 @@ pub record Frees (n : ℕ) (c d : Columns) : Type 0 where
   pub others_free : (k : ℕ) → nat_eq k n ≡ false → is_free d k ≡ is_free c k
   pub as_many : AreAsMany d
   pub len : length d.majors.items ≡ length c.majors.items
+  pub memory : KeepsMemory c d

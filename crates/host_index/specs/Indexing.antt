@@ -1,7 +1,7 @@
 -- Keys in order, by their numbers.
-use Rattle.std.specs.Prelude.{ℕ, ◌≡◌, ◌<◌, ◌≤◌, ◌/◌, false, List, length, get_or}
+use Rattle.std.specs.Prelude.{ℕ, ◌≡◌, ◌<◌, ◌≤◌, ◌+◌, ◌*◌, ◌/◌, false, List, length, get_or}
 use mathlib.Core.List.{map}
-use Rattle.host_index.specs.Columns.{AreAsMany, entry_in, is_free}
+use Rattle.host_index.specs.Columns.{AreAsMany, entry_in, how_many, is_free}
 use Rattle.host_index.specs.Entries.{rank}
 use Rattle.host_index.specs.declared.columns.Columns.{Columns}
 use Rattle.host_index.specs.declared.entry.Entry.{Entry}
@@ -40,3 +40,5 @@ pub record IsIndex (c : Columns) (os : List ℕ) : Type 0 where
   pub ordered : IsOrdered c os
   pub taken : (k : ℕ) → k < length os → is_free c (number_at os k) ≡ false
   pub listed : (n : ℕ) → n / 2 < length c.majors.items → is_free c n ≡ false → IsAmong os n
+  pub inside : (k : ℕ) → k < length os → number_at os k < 2 * length c.majors.items
+  pub counted : length os + how_many (λ n. is_free c n) (2 * length c.majors.items) ≡ 2 * length c.majors.items

@@ -1,5 +1,6 @@
 -- First places under keys that were sought.
-use Rattle.std.specs.Prelude.{ℕ, ◌≡◌, ◌<◌, ◌+◌, ◌*◌, ◌/◌, ◌%◌, false, List, get_or, slice_set, Option, Some, None}
+use Rattle.std.specs.Prelude.{ℕ, ◌≡◌, ◌<◌, ◌≤◌, length, ◌+◌, ◌*◌, ◌/◌, ◌%◌, false, List}
+use Rattle.std.specs.Prelude.{get_or, slice_set, Option, Some, None}
 use Rattle.host_index.specs.Columns.{IsPut, entry_in}
 use Rattle.host_index.specs.Entries.{Splits, entry_at, has, rank}
 use Rattle.host_index.specs.Indexing.{IsIndex, entries_in}
@@ -33,8 +34,9 @@ pub record IsFirstIn (c : Columns) (os : List ℕ) (key : Entry) (place : ℕ) :
   pub here : entry_in c (2 * place) ≡ entry_at key place
   pub before : (k : ℕ) → k < place → has (entries_in c os) (entry_at key k) ≡ false
 
--- an index, with the place where the entries of a key begin, and first places
-pub record Knows (c : Columns) (os : List ℕ) (key : Entry) (p : ℕ) (ks : List ℕ) : Type 0 where
+-- an index, with the place where the entries of a key begin, with first places, and with memory for all entries
+pub record Knows (c : Columns) (os : List ℕ) (key : Entry) (p : ℕ) (ks : List ℕ) (room : ℕ) : Type 0 where
   pub index : IsIndex c os
   pub begins : Splits (entries_in c os) (rank key) p
   pub firsts : AreFirst c os ks
+  pub room_for_all : 2 * length c.majors.items ≤ room

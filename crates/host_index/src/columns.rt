@@ -1,7 +1,8 @@
 //! The two keys of each place, in columns of 30 bytes a place together.
-ghost use Rattle.std.specs.Prelude.{ℕ, ◌≡◌, ◌≤◌, ◌<◌, ◌+◌, ◌*◌, ◌/◌, IfOk, length, true, false};
-ghost use Rattle.host_index.specs.Columns.{AreAsMany, Frees, IsPut, Puts, PutsFirst, PutsSecond, entry_in, first_in};
-ghost use Rattle.host_index.specs.Columns.{is_free, number_of, second_in};
+ghost use Rattle.std.specs.Prelude.{ℕ, ◌≡◌, ◌≤◌, ◌<◌, ◌+◌, ◌*◌, ◌/◌, IfOk, length, min, true, false};
+ghost use Rattle.host_index.specs.Columns.{AreAsMany, Frees, IsPut, Puts, PutsFirst, PutsSecond, entry_in};
+ghost use Rattle.host_index.specs.declared.entry.Which.TheVariants.{First, Second};
+ghost use Rattle.host_index.specs.Columns.{first_in, fits, is_free, number_of, second_in};
 
 use crate::entry::{Entry, Which};
 use std::alloc::{AllocError, Global};
@@ -46,6 +47,7 @@ impl Columns {
     /// Columns of so many places, or of as many as there are at most, where all is free.
     pub(crate) fn new(alloc: Global, count: usize) -> Result<Columns, AllocError>
         ensures as_many { IfOk result (λ c. AreAsMany c) }
+        ensures places { IfOk result (λ c. length c.majors.items ≡ min count 1073741824) }
         ensures free { IfOk result (λ c. (n : ℕ) → n / 2 < length c.majors.items → is_free c n ≡ true) }
     {
         let count = count.min(MOST);
@@ -123,7 +125,8 @@ impl Columns {
     /// Whether this key is there. Where the answer is no, it says nothing.
     pub(crate) fn has(&self, which: Which, entry: Entry) -> bool
         requires { AreAsMany self.now }
-        ensures { result ≡ true → IsPut (number_of which entry.place) entry self.now }
+        ensures there { result ≡ true → IsPut (number_of which entry.place) entry self.now }
+        ensures exact { result ≡ false → IsPut (number_of which entry.place) entry self.now → ⊥ }
     {
         match which {
             Which::First => self.has_first(entry),
@@ -133,7 +136,8 @@ impl Columns {
 
     fn has_first(&self, entry: Entry) -> bool
         requires { AreAsMany self.now }
-        ensures { result ≡ true → IsPut (2 * entry.place) entry self.now }
+        ensures there { result ≡ true → IsPut (2 * entry.place) entry self.now }
+        ensures exact { result ≡ false → IsPut (2 * entry.place) entry self.now → ⊥ }
     {
         entry.place < self.majors.len()
             && entry.major != NO_MAJOR
@@ -143,7 +147,8 @@ impl Columns {
 
     fn has_second(&self, entry: Entry) -> bool
         requires { AreAsMany self.now }
-        ensures { result ≡ true → IsPut (2 * entry.place + 1) entry self.now }
+        ensures there { result ≡ true → IsPut (2 * entry.place + 1) entry self.now }
+        ensures exact { result ≡ false → IsPut (2 * entry.place + 1) entry self.now → ⊥ }
     {
         entry.place < self.majors.len()
             && entry.minor != NO_MINOR
@@ -154,7 +159,9 @@ impl Columns {
     /// Whether the key of this number is free, or of no place.
     pub(crate) fn is_free(&self, number: usize) -> bool
         requires { AreAsMany self.now }
-        ensures { result ≡ false → (number / 2 < length self.now.majors.items) × (is_free self.now number ≡ false) }
+        ensures taken { result ≡ false
+            → (number / 2 < length self.now.majors.items) × (is_free self.now number ≡ false) }
+        ensures free { result ≡ true → number / 2 < length self.now.majors.items → is_free self.now number ≡ true }
     {
         if number % 2 == 0 {
             self.majors.len() <= number / 2 || self.majors[number / 2] == NO_MAJOR
@@ -167,6 +174,8 @@ impl Columns {
     pub(crate) fn put(&mut self, which: Which, entry: Entry) -> bool
         requires { AreAsMany self.old }
         ensures put { result ≡ true → Puts (number_of which entry.place) entry self.old self.new }
+        ensures done { entry.place < length self.old.majors.items
+            → is_free self.old (number_of which entry.place) ≡ true → fits which entry ≡ true → result ≡ true }
         ensures within { result ≡ true → entry.place < length self.old.majors.items }
         ensures same { result ≡ false → self.new ≡ self.old }
     {
@@ -183,6 +192,7 @@ impl Columns {
         requires as_many { AreAsMany self.old }
         requires within { entry.place < length self.old.majors.items }
         ensures put { result ≡ true → PutsFirst entry self.old self.new }
+        ensures done { is_free self.old (2 * entry.place) ≡ true → fits First entry ≡ true → result ≡ true }
         ensures same { result ≡ false → self.new ≡ self.old }
     {
         let Ok(minor) = u32::try_from(entry.minor) else {
@@ -200,6 +210,7 @@ impl Columns {
         requires as_many { AreAsMany self.old }
         requires within { entry.place < length self.old.majors.items }
         ensures put { result ≡ true → PutsSecond entry self.old self.new }
+        ensures done { is_free self.old (2 * entry.place + 1) ≡ true → fits Second entry ≡ true → result ≡ true }
         ensures same { result ≡ false → self.new ≡ self.old }
     {
         if entry.major < LEAST || 2 * LEAST <= entry.major || entry.minor == NO_MINOR {

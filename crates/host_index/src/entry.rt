@@ -1,6 +1,6 @@
 //! Places under keys.
 ghost use Rattle.std.specs.Prelude.{◌≡◌, ◌&&◌, ◌||◌, nat_eq, nat_lt};
-ghost use Rattle.host_index.specs.Entries.{is_entry, rank};
+ghost use Rattle.host_index.specs.Entries.{entry_at, is_entry, nothing, rank};
 
 /// A place under a key.
 #[derive(Debug, Clone, Copy, PartialEq, Eq)]
@@ -38,4 +38,26 @@ pub(crate) fn is_key_less(a: Entry, b: Entry) -> bool
     ensures { result ≡ (nat_lt a.major b.major || (nat_eq a.major b.major && nat_lt a.minor b.minor)) }
 {
     a.major < b.major || a.major == b.major && a.minor < b.minor
+}
+
+// The entry of a place under the key of another.
+pub(crate) fn entry_of(key: Entry, place: usize) -> Entry
+    ensures { result ≡ entry_at key place }
+{
+    Entry {
+        major: key.major,
+        minor: key.minor,
+        place,
+    }
+}
+
+// A key that no entry stands before.
+pub(crate) fn least_key() -> Entry
+    ensures { result ≡ nothing }
+{
+    Entry {
+        major: 0,
+        minor: 0,
+        place: 0,
+    }
 }

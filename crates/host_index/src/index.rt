@@ -1,14 +1,16 @@
 //! An index: places under keys, in order.
-ghost use Rattle.std.specs.Prelude.{ℕ, ◌≡◌, ◌<◌, ◌≤◌, ◌*◌, ◌/◌, ◌^◌, IfOk, IfSome, length, get_or, nat_lt, true, false};
+ghost use Rattle.std.specs.Prelude.{ℕ, ◌≡◌, ◌<◌, ◌≤◌, ◌*◌, ◌/◌, ◌^◌, IfNone};
+ghost use Rattle.std.specs.Prelude.{IfOk, IfSome, length, get_or, min, nat_lt, true, false};
 ghost use Rattle.std.specs.Prelude.{[]};
-ghost use Rattle.host_index.specs.Columns.{AreAsMany, entry_in};
+ghost use Rattle.host_index.specs.Columns.{AreAsMany, Frees, IsPut, Puts, entry_in, is_free, number_of};
 ghost use Rattle.host_index.specs.Entries.{IsFirst, IsSortedByRank, Keeps, KeepsBut, KeepsElsewhere, Splits, entry_at};
 ghost use Rattle.host_index.specs.Entries.{has, nothing, rank};
+ghost use Rattle.host_index.specs.Filing.{HasPlaceFor, IsSecondOf, SameMemory, places_of};
 ghost use Rattle.host_index.specs.Indexing.{AreBefore, BeginBetween, IsOrdered, entries_in, number_at};
 ghost use Rattle.host_index.specs.Known.{IsFirstIn};
 
 use crate::columns::{Columns, number_of};
-use crate::entry::{Entry, Which, is_entry, is_key_less, is_less};
+use crate::entry::{Entry, Which, entry_of, is_entry, is_key_less, is_less, least_key};
 use crate::guesses::Guesses;
 use crate::known::Known;
 use std::alloc::{AllocError, Global};
@@ -34,27 +36,23 @@ pub struct Index {
 }
 
 impl Model for Index {
-    ghost use Rattle.std.specs.Prelude.{List};
+    ghost use Rattle.std.specs.Prelude.{vec_capacity};
+    ghost use Rattle.host_index.specs.Filing.{Filing};
     ghost use Rattle.host_index.specs.Indexing.{entries_in};
     ghost use Rattle.host_index.specs.Known.{Knows};
-    ghost use Rattle.host_index.specs.declared.entry.Entry.{Entry};
 
-    ghost Value = { List Entry };
+    ghost Value = { Filing };
 
-    ghost view = { λ i. entries_in i.columns i.order.items };
+    ghost view = { λ i. record {
+      entries = entries_in i.columns i.order.items;
+      order = i.order.items;
+      columns = i.columns;
+      room = vec_capacity i.order;
+      firsts = vec_capacity i.known.places;
+    } };
 
-    ghost invariant = { λ i. Knows i.columns i.order.items i.sought i.begins i.known.places.items };
-}
-
-// The entry of a place under the key of another.
-fn entry_of(key: Entry, place: usize) -> Entry
-    ensures { result ≡ entry_at key place }
-{
-    Entry {
-        major: key.major,
-        minor: key.minor,
-        place,
-    }
+    ghost invariant = { λ i. Knows i.columns i.order.items i.sought i.begins i.known.places.items
+        (vec_capacity i.order) };
 }
 
 // The place that has this key as its first one, where the key has this number.
@@ -81,17 +79,6 @@ fn first_under(columns: &Columns, order: &[u32], key: Entry, begins: usize) -> O
     match order.get(begins) {
         Some(number) if key.place == 0 => place_under(columns, *number, key),
         _ => None,
-    }
-}
-
-// A key that no entry stands before.
-fn least_key() -> Entry
-    ensures { result ≡ nothing }
-{
-    Entry {
-        major: 0,
-        minor: 0,
-        place: 0,
     }
 }
 
@@ -221,7 +208,10 @@ fn lower_by(columns: &Columns, order: &[u32], key: Entry, guess: usize) -> usize
 
 // Where a number stands, of a few from this place of the order on: keys that go one after another mostly stand near,
 // and these looks at numbers side by side spare a search.
-fn near(order: &[u32], number: u32, from: usize) -> Option<usize> {
+fn near(order: &[u32], number: u32, from: usize) -> Option<usize>
+    ensures within { IfSome result (λ p. p < length order.now) }
+    ensures there { IfSome result (λ p. number_at order.now p ≡ number) }
+{
     let end = from.saturating_add(WINDOW).min(order.len());
     for place in from..end {
         if order[place] == number {
@@ -235,7 +225,10 @@ impl Index {
     /// An index of so many places, at most 2^30, with room for two entries each, and for the first places under 256
     /// keys.
     pub fn new(alloc: Global, count: usize) -> Result<Index, AllocError>
-        ensures { IfOk result (λ x. x ≡ []) }
+        ensures none { IfOk result (λ x. x.entries ≡ []) }
+        ensures places { IfOk result (λ x. places_of x ≡ min count 1073741824) }
+        ensures free { IfOk result (λ x. (n : ℕ) → n / 2 < places_of x → is_free x.columns n ≡ true) }
+        ensures room { IfOk result (λ x. x.room ≡ 2 * places_of x) }
     {
         let columns = Columns::new(alloc, count)?;
         let order = Vec::with_capacity(alloc, columns.len().saturating_mul(2))?;
@@ -251,15 +244,15 @@ impl Index {
 
     /// How many entries it has.
     pub fn len(&self) -> usize
-        ensures { result ≡ length self.now }
+        ensures { result ≡ length self.now.entries }
     {
         self.order.len()
     }
 
     /// One of them.
     pub fn get(&self, place: usize) -> Entry
-        requires { place < length self.now }
-        ensures { result ≡ get_or self.now place nothing }
+        requires { place < length self.now.entries }
+        ensures { result ≡ get_or self.now.entries place nothing }
     {
         entry_at(&self.columns, &self.order, place)
     }
@@ -267,8 +260,8 @@ impl Index {
     /// Where the entries under this key begin. It is not searched for where it was sought last, or where the guess for
     /// second keys that rest is right.
     pub fn lower(&self, key: Entry) -> usize
-        ensures splits { Splits self.now (rank key) result }
-        ensures sorted { IsSortedByRank self.now }
+        ensures splits { Splits self.now.entries (rank key) result }
+        ensures sorted { IsSortedByRank self.now.entries }
     {
         if is_entry(key, self.sought) {
             return self.begins;
@@ -307,7 +300,7 @@ impl Index {
     /// The first place under this key, where the key was sought; none where that is not known.
     #[tactic(auto, using(crate::proofs::Firsts::known_is_first))]
     pub fn known(&self, key: Entry) -> Option<usize>
-        ensures { IfSome result (λ place. IsFirst self.now key place) }
+        ensures { IfSome result (λ place. IsFirst self.now.entries key place) }
     {
         let place = self.known.get(key);
         if self.columns.has(Which::First, entry_of(key, place)) {
@@ -320,7 +313,15 @@ impl Index {
     /// Whether a place has this key and no other, or none where none is given. Where the answer is no, it says nothing.
     #[tactic(auto, using(crate::proofs::Firsts::put_is_there))]
     pub fn is_filed(&self, which: Which, place: usize, key: Option<&Entry>) -> bool
-        ensures { result ≡ true → IfSome key.entry (λ e. has self.now (entry_at e.now place) ≡ true) }
+        ensures filed { result ≡ true → IfSome key.entry (λ e. has self.now.entries (entry_at e.now place) ≡ true) }
+        ensures there { result ≡ true → IfSome key.entry (λ e. IsPut (number_of which place) (entry_at e.now place)
+            self.now.columns) }
+        ensures exact { result ≡ false → IfSome key.entry (λ e. IsPut (number_of which place) (entry_at e.now place)
+            self.now.columns → ⊥) }
+        ensures none { result ≡ true → IfNone key.entry (place < places_of self.now
+            → is_free self.now.columns (number_of which place) ≡ true) }
+        ensures one { result ≡ false → IfNone key.entry ((place < places_of self.now)
+            × (is_free self.now.columns (number_of which place) ≡ false)) }
     {
         match key {
             Some(key) => self.columns.has(which, entry_of(*key, place)),
@@ -331,7 +332,7 @@ impl Index {
     /// Whether each entry stands behind all that there could be under this key, by one look. Where the answer is no, it
     /// says nothing.
     pub fn is_behind(&self, key: Entry) -> bool
-        ensures { result ≡ true → (k : ℕ) → k < 2 ^ 64 → has self.now (entry_at key k) ≡ false }
+        ensures { result ≡ true → (k : ℕ) → k < 2 ^ 64 → has self.now.entries (entry_at key k) ≡ false }
     {
         match self.order.first() {
             Some(number) => is_key_less(key, self.columns.get(*number as usize)),
@@ -339,10 +340,14 @@ impl Index {
         }
     }
 
-    /// Adds an entry of a place that has no such key yet, where the key is one that fits. Whether it did.
+    /// Adds an entry of a place of its own that has no such key yet, where the key is one that fits and the place's
+    /// other key is another. Whether it did. No memory is asked for.
     pub fn add(&mut self, which: Which, entry: Entry) -> bool
-        ensures added { result ≡ true → has self.new entry ≡ true }
-        ensures kept { Keeps self.old self.new }
+        ensures added { result ≡ true → has self.new.entries entry ≡ true }
+        ensures done { HasPlaceFor self.old which entry → result ≡ true }
+        ensures put { result ≡ true → Puts (number_of which entry.place) entry self.old.columns self.new.columns }
+        ensures kept { Keeps self.old.entries self.new.entries }
+        ensures memory { SameMemory self.old self.new }
     {
         let guess = self.guesses.to_add(which, entry, self.order.len());
         let place = lower_by(&self.columns, &self.order, entry, guess);
@@ -354,11 +359,17 @@ impl Index {
     }
 
     fn put_at(&mut self, place: usize, which: Which, entry: Entry) -> bool
-        requires { Splits self.old (rank entry) place }
-        ensures added { result ≡ true → has self.new entry ≡ true }
-        ensures kept { Keeps self.old self.new }
+        requires { Splits self.old.entries (rank entry) place }
+        ensures added { result ≡ true → has self.new.entries entry ≡ true }
+        ensures done { HasPlaceFor self.old which entry → result ≡ true }
+        ensures put { result ≡ true → Puts (number_of which entry.place) entry self.old.columns self.new.columns }
+        ensures kept { Keeps self.old.entries self.new.entries }
+        ensures memory { SameMemory self.old self.new }
     {
-        if self.order.len() >= self.order.capacity() || self.stands_at(place, entry) {
+        if self.order.len() >= self.order.capacity() {
+            return false;
+        }
+        if self.stands_at(place, entry) {
             return false;
         }
         if !self.columns.put(which, entry) {
@@ -383,8 +394,10 @@ impl Index {
 
     // Whether an entry stands at this place of the order that is not behind this one, as those of other places are.
     fn stands_at(&self, place: usize, entry: Entry) -> bool
-        requires { Splits self.now (rank entry) place }
-        ensures { result ≡ false → place < length self.now → rank entry < rank (get_or self.now place nothing) }
+        requires { Splits self.now.entries (rank entry) place }
+        ensures behind { result ≡ false → place < length self.now.entries
+            → rank entry < rank (get_or self.now.entries place nothing) }
+        ensures same { result ≡ true → IsSecondOf self.now place entry }
     {
         place < self.order.len()
             && self.order[place] as usize / 2 == entry.place
@@ -393,7 +406,8 @@ impl Index {
 
     /// Removes an entry, where it is there.
     pub fn remove(&mut self, entry: Entry)
-        ensures kept { KeepsBut entry self.old self.new }
+        ensures kept { KeepsBut entry self.old.entries self.new.entries }
+        ensures memory { SameMemory self.old self.new }
     {
         let place = lower(&self.columns, &self.order, entry);
         if place < self.order.len() && is_entry(self.get(place), entry) {
@@ -402,8 +416,10 @@ impl Index {
     }
 
     fn take_out(&mut self, place: usize)
-        requires { place < length self.old }
-        ensures { KeepsBut (get_or self.old place nothing) self.old self.new }
+        requires { place < length self.old.entries }
+        ensures kept { KeepsBut (get_or self.old.entries place nothing) self.old.entries self.new.entries }
+        ensures frees { Frees (number_at self.old.order place) self.old.columns self.new.columns }
+        ensures memory { SameMemory self.old self.new }
     {
         let number = self.order.remove(place);
         self.sought = least_key();
@@ -413,7 +429,9 @@ impl Index {
 
     /// Removes a key of a place, whatever it is.
     pub fn unfile(&mut self, which: Which, place: usize)
-        ensures { KeepsElsewhere place self.old self.new }
+        ensures kept { KeepsElsewhere place self.old.entries self.new.entries }
+        ensures frees { Frees (number_of which place) self.old.columns self.new.columns }
+        ensures memory { SameMemory self.old self.new }
     {
         if place >= self.columns.len() {
             return;
@@ -426,14 +444,14 @@ impl Index {
 
     // Removes the key of this number, where it stands.
     fn take(&mut self, which: Which, number: usize)
-        requires { number < 2147483648 }
-        ensures { KeepsElsewhere (number / 2) self.old self.new }
+        requires within { number / 2 < length self.old.columns.majors.items }
+        requires taken { is_free self.old.columns number ≡ false }
+        ensures kept { KeepsElsewhere (number / 2) self.old.entries self.new.entries }
+        ensures frees { Frees number self.old.columns self.new.columns }
+        ensures memory { SameMemory self.old self.new }
     {
         let opens = self.columns.is_least_door(number / 2);
         let place = self.stands(number, self.guesses.to_remove(which, opens));
-        if !is_there(&self.order, place, number) {
-            return;
-        }
         self.take_out(place);
         self.note_removed(which, opens, place);
     }
@@ -444,9 +462,15 @@ impl Index {
         self.guesses.note_removed(which, opens, place);
     }
 
-    // Where the key of this number stands, which is looked at then.
+    // Where the key of this number stands.
+    #[tactic(auto, using(crate::proofs::Numbers::stands_there))]
     fn stands(&self, number: usize, from: usize) -> usize
-        requires { number < 2147483648 }
+        requires within { number / 2 < length self.now.columns.majors.items }
+        requires taken { is_free self.now.columns number ≡ false }
+        ensures within { result < length self.now.order }
+        ensures number { number_at self.now.order result ≡ number }
+        ensures entry { get_or self.now.entries result nothing ≡ entry_in self.now.columns number }
+        ensures length { length self.now.entries ≡ length self.now.order }
     {
         match near(&self.order, number as u32, from) {
             Some(place) => place,

@@ -1,5 +1,5 @@
 //! First places under keys that were sought.
-ghost use Rattle.std.specs.Prelude.{ℕ, ◌≡◌, ◌<◌, ◌^◌, IfOk, slice_set};
+ghost use Rattle.std.specs.Prelude.{ℕ, ◌≡◌, ◌<◌, ◌^◌, IfOk, slice_set, vec_capacity};
 ghost use Rattle.host_index.specs.Known.{known_at, learned, slot_of};
 
 use crate::entry::Entry;
@@ -48,7 +48,8 @@ impl Known {
 
     /// This place is the key's, if it is given.
     pub(crate) fn learn(&mut self, key: Entry, place: Option<u32>)
-        ensures { self.new.places.items ≡ learned self.old.places.items key place }
+        ensures learned { self.new.places.items ≡ learned self.old.places.items key place }
+        ensures memory { vec_capacity self.new.places ≡ vec_capacity self.old.places }
     {
         if let Some(place) = place {
             self.put(key, place);
@@ -56,7 +57,8 @@ impl Known {
     }
 
     fn put(&mut self, key: Entry, place: u32)
-        ensures { self.new.places.items ≡ slice_set self.old.places.items (slot_of key) place }
+        ensures put { self.new.places.items ≡ slice_set self.old.places.items (slot_of key) place }
+        ensures memory { vec_capacity self.new.places ≡ vec_capacity self.old.places }
     {
         if let Some(known) = self.places.get_mut(slot_of(key)) {
             *known = place;
@@ -65,7 +67,8 @@ impl Known {
 
     /// Neither the key nor another that has its room has a place.
     pub(crate) fn forget(&mut self, key: Entry)
-        ensures { self.new.places.items ≡ slice_set self.old.places.items (slot_of key) 4294967295 }
+        ensures put { self.new.places.items ≡ slice_set self.old.places.items (slot_of key) 4294967295 }
+        ensures memory { vec_capacity self.new.places ≡ vec_capacity self.old.places }
     {
         self.put(key, NO_PLACE);
     }

@@ -43,3 +43,4 @@ pub mod Touching
 pub mod KnownAnswers
 pub mod Opens
 pub mod Unmarked
+pub mod Wholes

@@ -29,6 +29,7 @@ pub mod Polling
 pub mod Ports
 pub mod RawCopies
 pub mod Receiving
+pub mod Refiling
 pub mod Remembered
 pub mod Resting
 pub mod Segments

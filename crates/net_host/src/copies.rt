@@ -21,7 +21,7 @@ use sock_tcp::TsvalSource;
 
 // Whether no socket is a raw one, by one look at the index. Where the answer is no, it says nothing.
 fn has_no_raw<G: TsvalSource>(sockets: &SocketSet<'_, G>) -> bool
-    requires { IsSettled (λ s. keys_of s) sockets.now.complete sockets.now.slots.items sockets.now.index
+    requires { IsSettled (λ s. keys_of s) sockets.now.complete sockets.now.slots.items sockets.now.index.entries
         sockets.now.free }
     ensures { result ≡ true → (k : ℕ) → IfSome (slice_get sockets.now.slots.items k) (λ s. is_raw s ≡ false) }
 {
@@ -92,7 +92,7 @@ fn datagram_taker<C: Context, G: TsvalSource>(
     ip: &IpRepr,
     repr: &UdpRepr,
 ) -> Option<usize>
-    requires { IsSettled (λ s. keys_of s) sockets.now.complete sockets.now.slots.items sockets.now.index
+    requires { IsSettled (λ s. keys_of s) sockets.now.complete sockets.now.slots.items sockets.now.index.entries
         sockets.now.free }
     ensures { Finds (TakesDatagram (C.facts cx.now) ip.now repr.now) sockets.now.slots.items result }
 {

@@ -43,7 +43,7 @@ fn last_of(number: u128) -> u128
 // costs no more where there are many.
 fn stand_within(index: &Index, first: u128, last: u128, count: usize) -> bool
     requires { 0 < count }
-    ensures { result ≡ false → LieWithin index.now first last count }
+    ensures { result ≡ false → LieWithin index.now.entries first last count }
 {
     let key = Entry {
         major: first,
@@ -59,7 +59,7 @@ fn stand_within(index: &Index, first: u128, last: u128, count: usize) -> bool
 
 // Whether a source has so many connections. Where the index is not complete, it counts as one that has.
 fn is_crowded<G: TsvalSource>(sockets: &SocketSet<'_, G>, most: usize, ip: &IpRepr) -> bool
-    requires { IsSettled (λ s. keys_of s) sockets.now.complete sockets.now.slots.items sockets.now.index
+    requires { IsSettled (λ s. keys_of s) sockets.now.complete sockets.now.slots.items sockets.now.index.entries
         sockets.now.free }
     ensures few { result ≡ false → 0 < most → AreFewer (Comes (number_of (src_addr_of ip.now)))
         sockets.now.slots.items most }
@@ -103,7 +103,7 @@ pub(crate) fn is_limited<G: TsvalSource>(
     ip: &IpRepr,
     repr: &TcpRepr<'_>,
 ) -> bool
-    requires { IsSettled (λ s. keys_of s) sockets.now.complete sockets.now.slots.items sockets.now.index
+    requires { IsSettled (λ s. keys_of s) sockets.now.complete sockets.now.slots.items sockets.now.index.entries
         sockets.now.free }
     ensures { IsLimited most sockets.now.slots.items ip.now (segment_of repr.now) taker course result }
 {

@@ -114,7 +114,7 @@ pub(crate) fn first_under<C: Context, G: TsvalSource>(
     repr: &UdpRepr,
 ) -> Option<usize>
     requires { key.place ≡ 0 }
-    ensures { FindsListed (TakesDatagram (C.facts cx.now) ip.now repr.now) slots.now index.now key
+    ensures { FindsListed (TakesDatagram (C.facts cx.now) ip.now repr.now) slots.now index.now.entries key
         result }
 {
     let _count = slots.len(); // for its bound

@@ -1,10 +1,13 @@
 //! Places that are filed in an index under their keys.
-ghost use Rattle.std.specs.Prelude.{ℕ, ℤ, Bool, ◌≡◌, ◌&&◌, ◌<◌, ◌/◌, IfSome, IsSome, length, get_or, slice_get, true};
+ghost use Rattle.std.specs.Prelude.{ℕ, ℤ, Bool, ◌≡◌, ◌&&◌, ◌<◌, ◌≤◌, ◌/◌, IfSome, IsSome, length, get_or};
+ghost use Rattle.std.specs.Prelude.{slice_get, true};
 ghost use Rattle.std.specs.Prelude.{None, false, slice_set};
 ghost use Rattle.std.specs.List.{All};
 ghost use Rattle.net_host.specs.Indexing.{AreFiledBefore, IsIndexed, IsLentAt, IsSettled, KeepsMarks, are_filed};
 ghost use Rattle.net_host.specs.Indexing.{is_filed, is_noted, is_noted_of, lent_of, no_keys};
 ghost use Rattle.host_index.specs.Entries.{IsFirst, KeepsElsewhere};
+ghost use Rattle.host_index.specs.Filing.{SameMemory, places_of};
+ghost use Rattle.net_host.specs.Refiling.{StaysWhole, can_file_at};
 ghost use Rattle.host_bounds.specs.Bounding.{at_once, bound_at};
 ghost use Rattle.host_bounds.specs.Marking.{Clears, Sets};
 ghost use Rattle.net_host.specs.Sleeping.{AreAsleep};
@@ -33,7 +36,7 @@ pub trait Keyed {
     // Whether something is there, which is filed at this place under its keys and no others. Where the answer is no, it
     // says nothing.
     fn is_filed(&self, index: &Index, place: usize) -> bool
-        ensures filed { result ≡ true → are_filed index.now place (keys_of self.now) ≡ true }
+        ensures filed { result ≡ true → are_filed index.now.entries place (keys_of self.now) ≡ true }
         ensures there { result ≡ true → (keys_of self.now).free ≡ false };
 }
 
@@ -53,12 +56,12 @@ pub struct Filed<T: Keyed> {
     pub(crate) terms: Terms,
     // whether the place that was lent is known to be filed and marked as the others
     pub(crate) settled: bool,
-    pub ghost indexed: { IsIndexed T.keys_of complete lent slots.items index free },
+    pub ghost indexed: { IsIndexed T.keys_of complete lent slots.items index.entries free },
     pub ghost asleep: { AreAsleep T.sleeps terms bounds slots.items },
     pub ghost as_many: { length bounds ≡ length slots.items },
     // the places whose connection ended within `emit`, until their program lends them
     pub(crate) ended: Marks,
-    pub ghost kept: { settled ≡ true → IsSettled T.keys_of complete slots.items index free },
+    pub ghost kept: { settled ≡ true → IsSettled T.keys_of complete slots.items index.entries free },
     pub ghost as_marked: { length ended ≡ length free },
 }
 
@@ -81,6 +84,8 @@ impl<T: Keyed> Filed<T> {
         requires as_marked { length ended ≡ length free }
         ensures slots { result.slots ≡ slots }
         ensures ended { result.ended ≡ ended }
+        ensures index { result.index ≡ index }
+        ensures complete { result.complete ≡ true }
     {
         Filed {
             slots,
@@ -102,7 +107,10 @@ impl<T: Keyed> Filed<T> {
     #[inline(always)]
     pub(crate) fn settle(&mut self)
         ensures slots { self.new.slots ≡ self.old.slots }
-        ensures settled { IsSettled T.keys_of self.new.complete self.new.slots.items self.new.index self.new.free }
+        ensures whole { StaysWhole T.keys_of self.old.slots.items self.old.complete self.old.index self.new.complete
+            self.new.index }
+        ensures settled { IsSettled T.keys_of self.new.complete self.new.slots.items self.new.index.entries
+            self.new.free }
         ensures terms { self.new.terms ≡ self.old.terms }
         ensures bounds { self.new.bounds ≡ self.old.bounds }
         ensures ended { self.new.ended ≡ self.old.ended }
@@ -115,7 +123,10 @@ impl<T: Keyed> Filed<T> {
     #[inline(never)]
     fn settle_lent(&mut self)
         ensures slots { self.new.slots ≡ self.old.slots }
-        ensures settled { IsSettled T.keys_of self.new.complete self.new.slots.items self.new.index self.new.free }
+        ensures whole { StaysWhole T.keys_of self.old.slots.items self.old.complete self.old.index self.new.complete
+            self.new.index }
+        ensures settled { IsSettled T.keys_of self.new.complete self.new.slots.items self.new.index.entries
+            self.new.free }
         ensures terms { self.new.terms ≡ self.old.terms }
         ensures bounds { self.new.bounds ≡ self.old.bounds }
         ensures ended { self.new.ended ≡ self.old.ended }
@@ -130,7 +141,10 @@ impl<T: Keyed> Filed<T> {
     /// Files the borrowed slot before slots under a key are looked for.
     pub(crate) fn settle_for(&mut self, key: Entry)
         ensures slots { self.new.slots ≡ self.old.slots }
-        ensures settled { IsSettled T.keys_of self.new.complete self.new.slots.items self.new.index self.new.free }
+        ensures whole { StaysWhole T.keys_of self.old.slots.items self.old.complete self.old.index self.new.complete
+            self.new.index }
+        ensures settled { IsSettled T.keys_of self.new.complete self.new.slots.items self.new.index.entries
+            self.new.free }
         ensures terms { self.new.terms ≡ self.old.terms }
         ensures bounds { self.new.bounds ≡ self.old.bounds }
         ensures ended { self.new.ended ≡ self.old.ended }
@@ -144,12 +158,14 @@ impl<T: Keyed> Filed<T> {
     #[tactic(auto, using(crate::proofs::Places::settled_before))]
     pub(crate) fn known_place(&mut self, key: Entry) -> Option<usize>
         ensures slots { self.new.slots ≡ self.old.slots }
+        ensures whole { StaysWhole T.keys_of self.old.slots.items self.old.complete self.old.index self.new.complete
+            self.new.index }
         ensures terms { self.new.terms ≡ self.old.terms }
         ensures bounds { self.new.bounds ≡ self.old.bounds }
         ensures ended { self.new.ended ≡ self.old.ended }
-        ensures known { IfSome result (λ i. IsFirst self.new.index key i) }
+        ensures known { IfSome result (λ i. IsFirst self.new.index.entries key i) }
         ensures filed { self.new.complete ≡ true
-            → IfSome result (λ i. AreFiledBefore T.keys_of i self.new.slots.items self.new.index) }
+            → IfSome result (λ i. AreFiledBefore T.keys_of i self.new.slots.items self.new.index.entries) }
     {
         self.settle();
         self.index.known(key)
@@ -157,7 +173,7 @@ impl<T: Keyed> Filed<T> {
 
     // Whether the place that was lent is filed under its keys, as mostly.
     fn is_lent_filed(&self) -> bool
-        ensures { result ≡ true → IsSettled T.keys_of self.now.complete self.now.slots.items self.now.index
+        ensures { result ≡ true → IsSettled T.keys_of self.now.complete self.now.slots.items self.now.index.entries
             self.now.free }
     {
         match self.lent {
@@ -169,7 +185,10 @@ impl<T: Keyed> Filed<T> {
     #[inline(never)]
     fn file_anew(&mut self)
         ensures slots { self.new.slots ≡ self.old.slots }
-        ensures settled { IsSettled T.keys_of self.new.complete self.new.slots.items self.new.index self.new.free }
+        ensures whole { StaysWhole T.keys_of self.old.slots.items self.old.complete self.old.index self.new.complete
+            self.new.index }
+        ensures settled { IsSettled T.keys_of self.new.complete self.new.slots.items self.new.index.entries
+            self.new.free }
         ensures terms { self.new.terms ≡ self.old.terms }
         ensures bounds { self.new.bounds ≡ self.old.bounds }
         ensures ended { self.new.ended ≡ self.old.ended }
@@ -186,6 +205,8 @@ impl<T: Keyed> Filed<T> {
     #[inline(always)]
     pub fn lend(&mut self, place: usize)
         ensures slots { self.new.slots ≡ self.old.slots }
+        ensures whole { StaysWhole T.keys_of self.old.slots.items self.old.complete self.old.index self.new.complete
+            self.new.index }
         ensures lent { IsLentAt place (slice_get self.new.slots.items place) self.new.lent }
         ensures marked { bound_at self.new.bounds place ≡ at_once }
         ensures terms { self.new.terms ≡ self.old.terms }
@@ -212,6 +233,8 @@ impl<T: Keyed> Filed<T> {
 
     fn lend_anew(&mut self, place: usize)
         ensures slots { self.new.slots ≡ self.old.slots }
+        ensures whole { StaysWhole T.keys_of self.old.slots.items self.old.complete self.old.index self.new.complete
+            self.new.index }
         ensures lent { IsLentAt place (slice_get self.new.slots.items place) self.new.lent }
         ensures terms { self.new.terms ≡ self.old.terms }
         ensures bounds { self.new.bounds ≡ self.old.bounds }
@@ -225,6 +248,7 @@ impl<T: Keyed> Filed<T> {
     /// The place is to be asked at once.
     pub(crate) fn mark(&mut self, place: usize)
         ensures slots { self.new.slots ≡ self.old.slots }
+        ensures same { (self.new.complete ≡ self.old.complete) × (self.new.index ≡ self.old.index) }
         ensures lent { self.new.lent ≡ self.old.lent }
         ensures marked { bound_at self.new.bounds place ≡ at_once }
         ensures terms { self.new.terms ≡ self.old.terms }
@@ -321,7 +345,7 @@ fn lent_at<T: Keyed>(slots: &[T], place: usize) -> Option<usize>
 // Whether what stands at the place is filed.
 fn is_filed_at<T: Keyed>(slots: &[T], index: &Index, place: usize) -> bool
     ensures { result ≡ true → IfSome (slice_get slots.now place)
-        (λ s. (are_filed index.now place (T.keys_of s) ≡ true) × ((T.keys_of s).free ≡ false)) }
+        (λ s. (are_filed index.now.entries place (T.keys_of s) ≡ true) × ((T.keys_of s).free ≡ false)) }
 {
     match slots.get(place) {
         Some(slot) => slot.is_filed(index, place),
@@ -344,8 +368,11 @@ fn note(free: &mut Marks, place: usize, is: bool)
 
 fn refile_at<T: Keyed>(slots: &[T], index: &mut Index, free: &mut Marks, place: usize) -> bool
     requires { place / 64 < length free.old }
-    ensures filed { result ≡ true → is_filed T.keys_of index.new place (slice_get slots.now place) ≡ true }
-    ensures others { KeepsElsewhere place index.old index.new }
+    ensures filed { result ≡ true → is_filed T.keys_of index.new.entries place (slice_get slots.now place) ≡ true }
+    ensures whole { length slots.now ≤ places_of index.old
+        → can_file_at T.keys_of (slice_get slots.now place) ≡ true → result ≡ true }
+    ensures memory { SameMemory index.old index.new }
+    ensures others { KeepsElsewhere place index.old.entries index.new.entries }
     ensures noted { is_noted_of T.keys_of free.new place (slice_get slots.now place) ≡ true }
     ensures marks { KeepsMarks place free.old free.new }
 {

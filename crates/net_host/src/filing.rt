@@ -230,7 +230,7 @@ fn no_keys() -> Keys
 // that was free is marked so until it is filed.
 #[inline(always)]
 fn is_connection_filed<G>(tcp: &tcp::Socket<'_, G>, index: &Index, place: usize) -> bool
-    ensures { result ≡ true → are_filed index.now place (keys_by tcp.now.control_block) ≡ true }
+    ensures { result ≡ true → are_filed index.now.entries place (keys_by tcp.now.control_block) ≡ true }
 {
     match tcp.state() {
         State::Closed | State::Listen => false,
@@ -241,7 +241,7 @@ fn is_connection_filed<G>(tcp: &tcp::Socket<'_, G>, index: &Index, place: usize)
 
 #[inline(always)]
 fn is_tuple_filed<G>(tcp: &tcp::Socket<'_, G>, index: &Index, place: usize) -> bool
-    ensures { result ≡ true → is_under index.now place (connection_by tcp.now.control_block.tuple) ≡ true }
+    ensures { result ≡ true → is_under index.now.entries place (connection_by tcp.now.control_block.tuple) ≡ true }
 {
     match (tcp.local_endpoint(), tcp.remote_endpoint()) {
         (Some(local), Some(remote)) => {
@@ -255,7 +255,7 @@ fn is_tuple_filed<G>(tcp: &tcp::Socket<'_, G>, index: &Index, place: usize) -> b
 #[inline(always)]
 fn is_port_filed<G>(tcp: &tcp::Socket<'_, G>, index: &Index, place: usize) -> bool
     ensures { result ≡ true
-        → is_under index.now place (server_by tcp.now.control_block.listen_endpoint.port) ≡ true }
+        → is_under index.now.entries place (server_by tcp.now.control_block.listen_endpoint.port) ≡ true }
 {
     let port = tcp.listen_endpoint().port;
     if port == 0 {
@@ -268,8 +268,8 @@ fn is_port_filed<G>(tcp: &tcp::Socket<'_, G>, index: &Index, place: usize) -> bo
 // The same of one in TIME-WAIT, which is filed by its end where it listened.
 #[inline(always)]
 fn is_rest_filed<G>(tcp: &tcp::Socket<'_, G>, index: &Index, place: usize) -> bool
-    ensures { result ≡ true → is_under index.now place (second_by TimeWait (close_end tcp.now.control_block.timer)
-        tcp.now.control_block.listen_endpoint.port) ≡ true }
+    ensures { result ≡ true → is_under index.now.entries place (second_by TimeWait
+        (close_end tcp.now.control_block.timer) tcp.now.control_block.listen_endpoint.port) ≡ true }
 {
     match second_by(
         State::TimeWait,

@@ -109,7 +109,8 @@ pub(crate) fn known_in<C: Context, G: TsvalSource>(
     repr: &TcpRepr<'_>,
 ) -> Option<usize>
     requires { key.place ≡ 0 }
-    ensures { IfSome result (λ i. IsFirstListed (Fits sought ip.now (segment_of repr.now)) slots.now index.now key i) }
+    ensures { IfSome result
+        (λ i. IsFirstListed (Fits sought ip.now (segment_of repr.now)) slots.now index.now.entries key i) }
 {
     match index.known(key) {
         Some(place) => {
@@ -135,7 +136,7 @@ pub(crate) fn first_in<C: Context, G: TsvalSource>(
     repr: &TcpRepr<'_>,
 ) -> Option<usize>
     requires { key.place ≡ 0 }
-    ensures { FindsListed (Fits sought ip.now (segment_of repr.now)) slots.now index.now key result }
+    ensures { FindsListed (Fits sought ip.now (segment_of repr.now)) slots.now index.now.entries key result }
 {
     match known_in(slots, index, key, cx, sought, ip, repr) {
         Some(place) => Some(place),
@@ -157,7 +158,7 @@ pub(crate) fn first_if_any<C: Context, G: TsvalSource>(
     repr: &TcpRepr<'_>,
 ) -> Option<usize>
     requires { key.place ≡ 0 }
-    ensures { FindsListed (Fits sought ip.now (segment_of repr.now)) slots.now index.now key result }
+    ensures { FindsListed (Fits sought ip.now (segment_of repr.now)) slots.now index.now.entries key result }
 {
     let _count = slots.len(); // for its bound
     if index.is_behind(key) {
@@ -179,7 +180,7 @@ pub(crate) fn first_sought<C: Context, G: TsvalSource>(
     repr: &TcpRepr<'_>,
 ) -> Option<usize>
     requires { key.place ≡ 0 }
-    ensures { FindsListed (Fits sought ip.now (segment_of repr.now)) slots.now index.now key result }
+    ensures { FindsListed (Fits sought ip.now (segment_of repr.now)) slots.now index.now.entries key result }
 {
     first_from(slots, index, index.lower(key), key, cx, sought, ip, repr)
 }
@@ -197,9 +198,9 @@ fn first_from<C: Context, G: TsvalSource>(
     repr: &TcpRepr<'_>,
 ) -> Option<usize>
     requires key { key.place ≡ 0 }
-    requires splits { Splits index.now (rank key) from }
-    requires sorted { IsSortedByRank index.now }
-    ensures { FindsListed (Fits sought ip.now (segment_of repr.now)) slots.now index.now key result }
+    requires splits { Splits index.now.entries (rank key) from }
+    requires sorted { IsSortedByRank index.now.entries }
+    ensures { FindsListed (Fits sought ip.now (segment_of repr.now)) slots.now index.now.entries key result }
 {
     let _count = slots.len(); // for its bound
     for p in from..index.len() {
@@ -225,7 +226,7 @@ pub(crate) fn earliest_in<G: TsvalSource>(
     repr: &TcpRepr<'_>,
 ) -> Option<(usize, Instant)>
     ensures { FindsEarliestListed (λ t x. RestsUntil ip.now (segment_of repr.now) t x) slots.now
-        index.now (rest_major repr.now.dst_port) result }
+        index.now.entries (rest_major repr.now.dst_port) result }
 {
     let _count = slots.len(); // for its bound
     let major = rest_major(repr.dst_port);
@@ -277,7 +278,7 @@ fn if_before(place: usize, end: usize) -> Option<usize>
 /// The first place from one on, and before another, that has an entry under the key.
 pub(crate) fn next_under(index: &Index, key: Entry, start: usize, end: usize) -> Option<usize>
     requires { key.place ≡ 0 }
-    ensures { FindsUnder index.now key start end result }
+    ensures { FindsUnder index.now.entries key start end result }
 {
     let p = index.lower(Entry {
         major: key.major,

@@ -47,7 +47,7 @@ fn who_again<C: Context, G: TsvalSource>(
     ip: &IpRepr,
     repr: &TcpRepr<'_>,
 ) -> Taker
-    requires { IsSettled (λ s. keys_of s) sockets.now.complete sockets.now.slots.items sockets.now.index
+    requires { IsSettled (λ s. keys_of s) sockets.now.complete sockets.now.slots.items sockets.now.index.entries
         sockets.now.free }
     ensures { IsAgain class sockets.now.slots.items ip.now (segment_of repr.now) result }
 {
@@ -67,7 +67,7 @@ fn who_opens<C: Context, G: TsvalSource>(
     ip: &IpRepr,
     repr: &TcpRepr<'_>,
 ) -> Taker
-    requires { IsSettled (λ s. keys_of s) sockets.now.complete sockets.now.slots.items sockets.now.index
+    requires { IsSettled (λ s. keys_of s) sockets.now.complete sockets.now.slots.items sockets.now.index.entries
         sockets.now.free }
     ensures { IsTaker sockets.now.slots.items ip.now (syn_before (segment_of repr.now) class) result }
 {
@@ -302,7 +302,7 @@ fn heard_by<C: Context, G: TsvalSource>(
     ip: &IpRepr,
     repr: &TcpRepr<'_>,
 ) -> Heard
-    requires { IsSettled (λ s. keys_of s) sockets.now.complete sockets.now.slots.items sockets.now.index
+    requires { IsSettled (λ s. keys_of s) sockets.now.complete sockets.now.slots.items sockets.now.index.entries
         sockets.now.free }
     ensures course { result.course ≡ dropped_if result.dropped (course_among sockets.now.slots.items cookies.now
         result.taker result.again (C.facts cx.now).now ip.now (segment_of repr.now)) }

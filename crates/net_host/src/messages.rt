@@ -144,7 +144,7 @@ fn copy_to_listed<C: Context, G: TsvalSource>(
     cx: &C,
     mail: &Mail<'_>,
 )
-    requires { AreFiled (λ s. keys_of s) slots.old.items index.now }
+    requires { AreFiled (λ s. keys_of s) slots.old.items index.now.entries }
     ensures copied { ChangesEach (Copies (C.facts cx.now) (mail_of mail.now)) slots.old.items slots.new.items }
     ensures touched { Touches bounds.old slots.old.items bounds.new slots.new.items }
     ensures len { length bounds.new ≡ length bounds.old }
@@ -167,7 +167,7 @@ pub(crate) fn copy_to<C: Context, G: TsvalSource>(
     cx: &C,
     mail: &Mail<'_>,
 )
-    requires { complete ≡ true → AreFiled (λ s. keys_of s) slots.old.items index.now }
+    requires { complete ≡ true → AreFiled (λ s. keys_of s) slots.old.items index.now.entries }
     ensures copied { ChangesEach (Copies (C.facts cx.now) (mail_of mail.now)) slots.old.items slots.new.items }
     ensures touched { Touches bounds.old slots.old.items bounds.new slots.new.items }
     ensures len { length bounds.new ≡ length bounds.old }

@@ -84,7 +84,7 @@ fn copy_packet_to_listed<C: Context, G: TsvalSource>(
     ip: &IpRepr,
     payload: &[u8],
 )
-    requires { AreFiled (λ s. keys_of s) slots.old.items index.now }
+    requires { AreFiled (λ s. keys_of s) slots.old.items index.now.entries }
     ensures copied { ChangesEach (CopiesPacket (C.facts cx.now) ip.now payload.now) slots.old.items slots.new.items }
     ensures touched { Touches bounds.old slots.old.items bounds.new slots.new.items }
     ensures len { length bounds.new ≡ length bounds.old }
@@ -110,7 +110,7 @@ pub(crate) fn copy_packet_to<C: Context, G: TsvalSource>(
     ip: &IpRepr,
     payload: &[u8],
 )
-    requires { complete ≡ true → AreFiled (λ s. keys_of s) slots.old.items index.now }
+    requires { complete ≡ true → AreFiled (λ s. keys_of s) slots.old.items index.now.entries }
     ensures copied { ChangesEach (CopiesPacket (C.facts cx.now) ip.now payload.now) slots.old.items slots.new.items }
     ensures touched { Touches bounds.old slots.old.items bounds.new slots.new.items }
     ensures len { length bounds.new ≡ length bounds.old }

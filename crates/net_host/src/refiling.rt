@@ -1,7 +1,11 @@
 //! A place is filed under other keys.
-ghost use Rattle.std.specs.Prelude.{◌≡◌, true};
+ghost use Rattle.std.specs.Prelude.{◌≡◌, ◌<◌, false, true};
+ghost use Rattle.host_index.specs.Columns.{number_of};
 ghost use Rattle.host_index.specs.Entries.{Keeps, KeepsElsewhere, entry_at};
+ghost use Rattle.host_index.specs.Filing.{SameMemory, places_of};
+ghost use Rattle.host_index.specs.declared.entry.Which.TheVariants.{First, Second};
 ghost use Rattle.net_host.specs.Indexing.{are_filed, is_under};
+ghost use Rattle.net_host.specs.Refiling.{HasKey, HasOnly, IsApart, KeepsOthers, can_file, fits_key};
 
 use crate::key::{Key, Keys};
 use host_index::{Entry, Index, Which};
@@ -16,10 +20,12 @@ fn entry_at(key: &Entry, place: usize) -> Entry
     }
 }
 
-// Whether the place is filed under this key and no other. Where the answer is no, it says nothing.
+// Whether the place is filed under this key and no other.
 #[inline(always)]
 fn has_key(index: &Index, which: Which, place: usize, key: &Key) -> bool
-    ensures { result ≡ true → is_under index.now place key.now ≡ true }
+    ensures filed { result ≡ true → is_under index.now.entries place key.now ≡ true }
+    ensures there { result ≡ true → HasKey which place key.now index.now }
+    ensures exact { result ≡ false → HasKey which place key.now index.now → ⊥ }
 {
     match key {
         Key::Nothing => index.is_filed(which, place, None),
@@ -31,7 +37,10 @@ fn has_key(index: &Index, which: Which, place: usize, key: &Key) -> bool
 // What the place is filed under is removed, unless it is this key.
 #[inline(always)]
 fn unfile(index: &mut Index, which: Which, place: usize, key: &Key)
-    ensures { KeepsElsewhere place index.old index.new }
+    ensures kept { KeepsElsewhere place index.old.entries index.new.entries }
+    ensures only { place < places_of index.old → HasOnly which place key.now index.new.columns }
+    ensures others { KeepsOthers (number_of which place) index.old.columns index.new.columns }
+    ensures memory { SameMemory index.old index.new }
 {
     if !has_key(index, which, place, key) {
         index.unfile(which, place);
@@ -40,8 +49,14 @@ fn unfile(index: &mut Index, which: Which, place: usize, key: &Key)
 
 #[inline(always)]
 fn file(index: &mut Index, which: Which, place: usize, key: &Key) -> bool
-    ensures filed { result ≡ true → is_under index.new place key.now ≡ true }
-    ensures kept { Keeps index.old index.new }
+    ensures filed { result ≡ true → is_under index.new.entries place key.now ≡ true }
+    ensures kept { Keeps index.old.entries index.new.entries }
+    ensures done { place < places_of index.old → fits_key which key.now ≡ true
+        → HasOnly which place key.now index.old.columns → IsApart which place key.now index.old.columns
+        → result ≡ true }
+    ensures only { result ≡ true → place < places_of index.old → HasOnly which place key.now index.new.columns }
+    ensures others { result ≡ true → KeepsOthers (number_of which place) index.old.columns index.new.columns }
+    ensures memory { SameMemory index.old index.new }
 {
     if has_key(index, which, place, key) {
         return true;
@@ -52,11 +67,13 @@ fn file(index: &mut Index, which: Which, place: usize, key: &Key) -> bool
     }
 }
 
-/// The place is filed under these keys, and not under others any more. Whether there was room for it; no other place
-/// is filed otherwise.
+/// The place is filed under these keys, and not under others any more. Whether it was: it is where it is a place of the
+/// index and its keys can be filed, and no memory is asked for. No other place is filed otherwise.
 pub(crate) fn refile(index: &mut Index, place: usize, keys: &Keys) -> bool
-    ensures filed { result ≡ true → are_filed index.new place keys.now ≡ true }
-    ensures others { KeepsElsewhere place index.old index.new }
+    ensures filed { result ≡ true → are_filed index.new.entries place keys.now ≡ true }
+    ensures others { KeepsElsewhere place index.old.entries index.new.entries }
+    ensures whole { place < places_of index.old → can_file keys.now ≡ true → result ≡ true }
+    ensures memory { SameMemory index.old index.new }
 {
     unfile(index, Which::First, place, &keys.first);
     unfile(index, Which::Second, place, &keys.second);
@@ -64,8 +81,12 @@ pub(crate) fn refile(index: &mut Index, place: usize, keys: &Keys) -> bool
 }
 
 fn file_both(index: &mut Index, place: usize, keys: &Keys) -> bool
-    ensures filed { result ≡ true → are_filed index.new place keys.now ≡ true }
-    ensures kept { Keeps index.old index.new }
+    ensures filed { result ≡ true → are_filed index.new.entries place keys.now ≡ true }
+    ensures kept { Keeps index.old.entries index.new.entries }
+    ensures whole { place < places_of index.old → can_file keys.now ≡ true
+        → HasOnly First place keys.now.first index.old.columns → HasOnly Second place keys.now.second index.old.columns
+        → result ≡ true }
+    ensures memory { SameMemory index.old index.new }
 {
     let first = file(index, Which::First, place, &keys.first);
     let second = file(index, Which::Second, place, &keys.second);

@@ -111,7 +111,7 @@ pub(crate) fn oldest<G: TsvalSource>(
     ip: &IpRepr,
     repr: &TcpRepr<'_>,
 ) -> Option<(usize, Instant)>
-    requires { IsSettled (λ s. keys_of s) sockets.now.complete sockets.now.slots.items sockets.now.index
+    requires { IsSettled (λ s. keys_of s) sockets.now.complete sockets.now.slots.items sockets.now.index.entries
         sockets.now.free }
     ensures { FindsOldest ip.now (segment_of repr.now) sockets.now.slots.items result }
 {
@@ -157,7 +157,7 @@ pub(crate) fn any_server<C: Context, G: TsvalSource>(
     ip: &IpRepr,
     repr: &TcpRepr<'_>,
 ) -> Option<usize>
-    requires { IsSettled (λ s. keys_of s) sockets.now.complete sockets.now.slots.items sockets.now.index
+    requires { IsSettled (λ s. keys_of s) sockets.now.complete sockets.now.slots.items sockets.now.index.entries
         sockets.now.free }
     ensures { Finds (Serves ip.now (segment_of repr.now)) sockets.now.slots.items result }
 {

@@ -127,7 +127,7 @@ fn first_taker<C: Context, G: TsvalSource>(
     ip: &IpRepr,
     repr: &TcpRepr<'_>,
 ) -> Option<usize>
-    requires { IsSettled (λ s. keys_of s) sockets.now.complete sockets.now.slots.items sockets.now.index
+    requires { IsSettled (λ s. keys_of s) sockets.now.complete sockets.now.slots.items sockets.now.index.entries
         sockets.now.free }
     ensures { Finds (TakesSegment listening ip.now (segment_of repr.now)) sockets.now.slots.items result }
 {
@@ -147,7 +147,7 @@ fn found_taker<C: Context, G: TsvalSource>(
     ip: &IpRepr,
     repr: &TcpRepr<'_>,
 ) -> Option<usize>
-    requires settled { IsSettled (λ s. keys_of s) sockets.now.complete sockets.now.slots.items sockets.now.index
+    requires settled { IsSettled (λ s. keys_of s) sockets.now.complete sockets.now.slots.items sockets.now.index.entries
         sockets.now.free }
     requires complete { sockets.now.complete ≡ true }
     ensures { Finds (TakesSegment listening ip.now (segment_of repr.now)) sockets.now.slots.items result }
@@ -201,7 +201,7 @@ pub(crate) fn who_takes<C: Context, G: TsvalSource>(
     ip: &IpRepr,
     repr: &TcpRepr<'_>,
 ) -> Taker
-    requires { IsSettled (λ s. keys_of s) sockets.now.complete sockets.now.slots.items sockets.now.index
+    requires { IsSettled (λ s. keys_of s) sockets.now.complete sockets.now.slots.items sockets.now.index.entries
         sockets.now.free }
     ensures { IsTaker sockets.now.slots.items ip.now (segment_of repr.now) result }
 {
@@ -272,7 +272,7 @@ fn listener<C: Context, G: TsvalSource>(
     ip: &IpRepr,
     repr: &TcpRepr<'_>,
 ) -> Taker
-    requires settled { IsSettled (λ s. keys_of s) sockets.now.complete sockets.now.slots.items sockets.now.index
+    requires settled { IsSettled (λ s. keys_of s) sockets.now.complete sockets.now.slots.items sockets.now.index.entries
         sockets.now.free }
     requires none { Nowhere (TakesSegment false ip.now (segment_of repr.now)) sockets.now.slots.items }
     ensures { IsTaker sockets.now.slots.items ip.now (segment_of repr.now) result }
@@ -299,7 +299,7 @@ fn rested<C: Context, G: TsvalSource>(
     ip: &IpRepr,
     repr: &TcpRepr<'_>,
 ) -> Taker
-    requires settled { IsSettled (λ s. keys_of s) sockets.now.complete sockets.now.slots.items sockets.now.index
+    requires settled { IsSettled (λ s. keys_of s) sockets.now.complete sockets.now.slots.items sockets.now.index.entries
         sockets.now.free }
     requires none { NoneTakes sockets.now.slots.items ip.now (segment_of repr.now) }
     requires opening { is_opening (segment_of repr.now) ≡ true }

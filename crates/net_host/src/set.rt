@@ -1,6 +1,7 @@
 //! A set of sockets of all kinds.
 ghost use Rattle.std.specs.Prelude.{◌≡◌, ◌<◌, ◌↔◌, IfOk, IfErr, OnErr, IfSome, IfNone, IsTrue, length, nat_eq, false};
-ghost use Rattle.std.specs.Prelude.{option_map, slice_set, Some, None};
+ghost use Rattle.std.specs.Prelude.{min, option_map, slice_set, Some, None, true};
+ghost use Rattle.host_index.specs.Filing.{places_of};
 ghost use Rattle.std.specs.Fn.{FnOnceReturnsAtMut};
 ghost use Rattle.std.specs.List.{All};
 ghost use Rattle.host_bounds.specs.Bounding.{at_once};
@@ -28,6 +29,8 @@ impl<'a, G: TsvalSource> Filed<Slot<'a, G>> {
     pub fn new(alloc: Global, capacity: usize) -> Result<SocketSet<'a, G>, AllocError>
         ensures capacity { IfOk result (λ s. length s.slots.items ≡ capacity) }
         ensures free { IfOk result (λ s. All IsFirstFree s.slots.items) }
+        ensures complete { IfOk result (λ s. s.complete ≡ true) }
+        ensures places { IfOk result (λ s. places_of s.index ≡ min capacity 1073741824) }
     {
         let mut slots = Vec::with_capacity(alloc, capacity)?;
         for _ in 0..capacity {

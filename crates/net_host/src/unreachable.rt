@@ -171,7 +171,7 @@ fn takes_raw_at<G: TsvalSource>(slots: &[Slot<'_, G>], place: usize, ip: &IpRepr
 
 // The same through the places of the raw sockets alone, where each place is filed.
 fn listed_raw<G: TsvalSource>(slots: &[Slot<'_, G>], index: &Index, ip: &IpRepr) -> Option<usize>
-    requires { AreFiled (λ s. keys_of s) slots.now index.now }
+    requires { AreFiled (λ s. keys_of s) slots.now index.now.entries }
     ensures { Finds (TakesRaw ip.now) slots.now result }
 {
     let key = raw_key();
@@ -192,7 +192,7 @@ fn raw_by<G: TsvalSource>(
     complete: bool,
     ip: &IpRepr,
 ) -> Option<usize>
-    requires { complete ≡ true → AreFiled (λ s. keys_of s) slots.now index.now }
+    requires { complete ≡ true → AreFiled (λ s. keys_of s) slots.now index.now.entries }
     ensures { Finds (TakesRaw ip.now) slots.now result }
 {
     if complete {

@@ -9,11 +9,11 @@ use Rattle.net_host.proofs.Touching.{touches_sleep}
 use Rattle.net_host.proofs.copies.copy_mail.Goals as goal
 
 pub copy_to-requires : goal.copy_to-requires
-copy_to-requires g c = λ whole. all_filed (λ s. keys_of s) c.settle.new.self.complete c.settle.new.self.slots.items c.settle.new.self.index c.settle.new.self.free whole c.settle.ensures.settled
+copy_to-requires g c = λ whole. all_filed (λ s. keys_of s) c.settle.new.self.complete c.settle.new.self.slots.items c.settle.new.self.index.entries c.settle.new.self.free whole c.settle.ensures.settled
 
 pub invariant_of-sockets : goal.invariant_of-sockets
 invariant_of-sockets g c = record {
-  indexed = mails_keep (g.C.Context.facts c.args.cx.now) (mail_of c.args.mail.now) c.settle.new.self.complete c.settle.new.self.lent c.settle.new.self.slots.items c.copy_to.new.slots.items c.settle.new.self.index c.settle.new.self.free c.copy_to.ensures.copied c.settle.new.self.indexed;
+  indexed = mails_keep (g.C.Context.facts c.args.cx.now) (mail_of c.args.mail.now) c.settle.new.self.complete c.settle.new.self.lent c.settle.new.self.slots.items c.copy_to.new.slots.items c.settle.new.self.index.entries c.settle.new.self.free c.copy_to.ensures.copied c.settle.new.self.indexed;
   asleep = touches_sleep (λ u b s. sleeps u b s) c.settle.new.self.terms c.settle.new.self.bounds c.settle.new.self.slots.items c.copy_to.new.bounds c.copy_to.new.slots.items c.copy_to.ensures.touched c.settle.new.self.asleep;
   as_many = c.copy_to.ensures.len ∙ c.settle.new.self.as_many ∙ sym (each_len _ c.settle.new.self.slots.items c.copy_to.new.slots.items c.copy_to.ensures.copied);
   kept = unsettled refl;

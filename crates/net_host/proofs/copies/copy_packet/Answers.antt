@@ -13,11 +13,11 @@ pub returns-then-has_no_raw-clause-copied : goal.returns-then-has_no_raw-clause-
 returns-then-has_no_raw-clause-copied g c = subst (λ v. ChangesEach (CopiesPacket (g.C.Context.facts c.args.cx.now) c.args.ip.now c.args.payload.now) v.items c.settle.new.self.slots.items) c.settle.ensures.slots (none_copied (g.C.Context.facts c.args.cx.now) c.args.ip.now c.args.payload.now c.settle.new.self.slots.items (c.has_no_raw.ensures c.if-has_no_raw.true))
 
 pub copy_packet_to-requires : goal.copy_packet_to-requires
-copy_packet_to-requires g c = λ whole. all_filed (λ s. keys_of s) c.settle.new.self.complete c.settle.new.self.slots.items c.settle.new.self.index c.settle.new.self.free whole c.settle.ensures.settled
+copy_packet_to-requires g c = λ whole. all_filed (λ s. keys_of s) c.settle.new.self.complete c.settle.new.self.slots.items c.settle.new.self.index.entries c.settle.new.self.free whole c.settle.ensures.settled
 
 pub invariant_of-sockets : goal.invariant_of-sockets
 invariant_of-sockets g c = record {
-  indexed = copies_keep (g.C.Context.facts c.args.cx.now) c.args.ip.now c.args.payload.now c.settle.new.self.complete c.settle.new.self.lent c.settle.new.self.slots.items c.copy_packet_to.new.slots.items c.settle.new.self.index c.settle.new.self.free c.copy_packet_to.ensures.copied c.settle.new.self.indexed;
+  indexed = copies_keep (g.C.Context.facts c.args.cx.now) c.args.ip.now c.args.payload.now c.settle.new.self.complete c.settle.new.self.lent c.settle.new.self.slots.items c.copy_packet_to.new.slots.items c.settle.new.self.index.entries c.settle.new.self.free c.copy_packet_to.ensures.copied c.settle.new.self.indexed;
   asleep = touches_sleep (λ u b s. sleeps u b s) c.settle.new.self.terms c.settle.new.self.bounds c.settle.new.self.slots.items c.copy_packet_to.new.bounds c.copy_packet_to.new.slots.items c.copy_packet_to.ensures.touched c.settle.new.self.asleep;
   as_many = c.copy_packet_to.ensures.len ∙ c.settle.new.self.as_many ∙ sym (each_len _ c.settle.new.self.slots.items c.copy_packet_to.new.slots.items c.copy_packet_to.ensures.copied);
   kept = unsettled refl;

@@ -10,5 +10,5 @@ pub returns-clause-few : goal.returns-clause-few
 returns-clause-few g c = λ e some.
     let whole : c.args.sockets.now.complete ≡ true = search rules in
     let small : length c.args.sockets.now.slots.items ≤ 2 ^ 64 = search rules in
-    let span : LieWithin c.args.sockets.now.index (first_of (number_of (src_addr_of c.args.ip.now))) (last_of (number_of (src_addr_of c.args.ip.now))) c.args.most = search rules in
-    few_in c.args.sockets.now.complete c.args.sockets.now.slots.items c.args.sockets.now.index c.args.sockets.now.free (number_of (src_addr_of c.args.ip.now)) c.args.most whole c.requires some small span
+    let span : LieWithin c.args.sockets.now.index.entries (first_of (number_of (src_addr_of c.args.ip.now))) (last_of (number_of (src_addr_of c.args.ip.now))) c.args.most = search rules in
+    few_in c.args.sockets.now.complete c.args.sockets.now.slots.items c.args.sockets.now.index.entries c.args.sockets.now.free (number_of (src_addr_of c.args.ip.now)) c.args.most whole c.requires some small span

@@ -5,4 +5,4 @@ use Rattle.net_host.proofs.Moments.{PassedAll}
 use Rattle.net_host.proofs.find.earliest_in.Given as goal
 
 abbrev pub invariant-loop-p : goal.invariant-loop-p
-invariant-loop-p g l = PassedAll (λ t x. RestsUntil l.ip (segment_of l.repr) t x) l.slots l.index (rest_major l.repr.dst_port) l.p
+invariant-loop-p g l = PassedAll (λ t x. RestsUntil l.ip (segment_of l.repr) t x) l.slots l.index.entries (rest_major l.repr.dst_port) l.p

@@ -4,4 +4,4 @@ use Rattle.net_host.proofs.Runs.{Passed}
 use Rattle.net_host.proofs.find.first_from.Given as goal
 
 abbrev pub invariant-loop-p : goal.invariant-loop-p
-invariant-loop-p g l = Passed (Fits l.sought l.ip (segment_of l.repr)) l.slots l.index l.key l.p
+invariant-loop-p g l = Passed (Fits l.sought l.ip (segment_of l.repr)) l.slots l.index.entries l.key l.p

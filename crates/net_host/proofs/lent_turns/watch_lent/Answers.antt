@@ -7,7 +7,7 @@ use Rattle.net_host.proofs.lent_turns.watch_lent.Goals as goal
 
 pub invariant_of-sockets : goal.invariant_of-sockets
 invariant_of-sockets g c = record {
-  indexed = lent_changed (λ s. keys_of s) _ c.lend.new.self.complete c.lend.new.self.lent c.lend.new.self.slots.items c.watch_there.new.slots.items c.lend.new.self.index c.lend.new.self.free c.args.i c.lend.ensures.lent c.lend.new.self.indexed c.watch_there.ensures;
+  indexed = lent_changed (λ s. keys_of s) _ c.lend.new.self.complete c.lend.new.self.lent c.lend.new.self.slots.items c.watch_there.new.slots.items c.lend.new.self.index.entries c.lend.new.self.free c.args.i c.lend.ensures.lent c.lend.new.self.indexed c.watch_there.ensures;
   asleep = marked_changes (λ u b s. sleeps u b s) _ c.lend.new.self.terms c.lend.new.self.bounds c.lend.new.self.slots.items c.watch_there.new.slots.items c.args.i c.lend.ensures.marked c.watch_there.ensures c.lend.new.self.asleep;
   as_many = c.lend.new.self.as_many ∙ sym (changed_len _ c.lend.new.self.slots.items c.watch_there.new.slots.items c.args.i c.watch_there.ensures);
   kept = unsettled c.lend.ensures.unsettled;

@@ -10,6 +10,6 @@ use Rattle.net_host.proofs.rest.any_server.Goals as goal
 
 pub returns-then-sockets : goal.returns-then-sockets
 returns-then-sockets g c =
-    found (λ x. Serves c.args.ip.now (segment_of c.args.repr.now) x) c.args.sockets.now.slots.items c.args.sockets.now.index (server_key c.args.repr.now.dst_port) (all_filed (λ s. keys_of s) c.args.sockets.now.complete c.args.sockets.now.slots.items c.args.sockets.now.index c.args.sockets.now.free c.if-sockets.true c.requires) (λ k x f h. server_in c.args.sockets.now.index k c.args.ip.now (segment_of c.args.repr.now) x.socket f h) c.first_in.result
-    (subst (λ key. FindsListed (λ x. Serves c.args.ip.now (segment_of c.args.repr.now) x) c.args.sockets.now.slots.items c.args.sockets.now.index key c.first_in.result) c.server_key-key.ensures
-    (subst (λ xs. FindsListed (λ x. Serves c.args.ip.now (segment_of c.args.repr.now) x) xs c.args.sockets.now.index c.server_key-key.result c.first_in.result) c.deref.ensures.value c.first_in.ensures))
+    found (λ x. Serves c.args.ip.now (segment_of c.args.repr.now) x) c.args.sockets.now.slots.items c.args.sockets.now.index.entries (server_key c.args.repr.now.dst_port) (all_filed (λ s. keys_of s) c.args.sockets.now.complete c.args.sockets.now.slots.items c.args.sockets.now.index.entries c.args.sockets.now.free c.if-sockets.true c.requires) (λ k x f h. server_in c.args.sockets.now.index.entries k c.args.ip.now (segment_of c.args.repr.now) x.socket f h) c.first_in.result
+    (subst (λ key. FindsListed (λ x. Serves c.args.ip.now (segment_of c.args.repr.now) x) c.args.sockets.now.slots.items c.args.sockets.now.index.entries key c.first_in.result) c.server_key-key.ensures
+    (subst (λ xs. FindsListed (λ x. Serves c.args.ip.now (segment_of c.args.repr.now) x) xs c.args.sockets.now.index.entries c.server_key-key.result c.first_in.result) c.deref.ensures.value c.first_in.ensures))

@@ -12,13 +12,13 @@ use Rattle.net_host.proofs.segments.found_taker.Goals as goal
 pub returns-then-listening : goal.returns-then-listening
 returns-then-listening g c =
     subst (λ b. Finds (λ x. TakesSegment b c.args.ip.now (segment_of c.args.repr.now) x) c.args.sockets.now.slots.items c.first_if_any.result) (sym c.if-listening.true)
-    (found (λ x. TakesSegment true c.args.ip.now (segment_of c.args.repr.now) x) c.args.sockets.now.slots.items c.args.sockets.now.index (listener_key c.args.repr.now.dst_port) (all_filed (λ s. keys_of s) c.args.sockets.now.complete c.args.sockets.now.slots.items c.args.sockets.now.index c.args.sockets.now.free c.requires.complete c.requires.settled) (λ k x f h. listener_in c.args.sockets.now.index k c.args.ip.now (segment_of c.args.repr.now) x.socket f h) c.first_if_any.result
-    (subst (λ key. FindsListed (λ x. TakesSegment true c.args.ip.now (segment_of c.args.repr.now) x) c.args.sockets.now.slots.items c.args.sockets.now.index key c.first_if_any.result) c.listener_key-key.ensures
-    (subst (λ xs. FindsListed (λ x. TakesSegment true c.args.ip.now (segment_of c.args.repr.now) x) xs c.args.sockets.now.index c.listener_key-key.result c.first_if_any.result) c.deref.ensures.value c.first_if_any.ensures)))
+    (found (λ x. TakesSegment true c.args.ip.now (segment_of c.args.repr.now) x) c.args.sockets.now.slots.items c.args.sockets.now.index.entries (listener_key c.args.repr.now.dst_port) (all_filed (λ s. keys_of s) c.args.sockets.now.complete c.args.sockets.now.slots.items c.args.sockets.now.index.entries c.args.sockets.now.free c.requires.complete c.requires.settled) (λ k x f h. listener_in c.args.sockets.now.index.entries k c.args.ip.now (segment_of c.args.repr.now) x.socket f h) c.first_if_any.result
+    (subst (λ key. FindsListed (λ x. TakesSegment true c.args.ip.now (segment_of c.args.repr.now) x) c.args.sockets.now.slots.items c.args.sockets.now.index.entries key c.first_if_any.result) c.listener_key-key.ensures
+    (subst (λ xs. FindsListed (λ x. TakesSegment true c.args.ip.now (segment_of c.args.repr.now) x) xs c.args.sockets.now.index.entries c.listener_key-key.result c.first_if_any.result) c.deref.ensures.value c.first_if_any.ensures)))
 
 pub returns-else-listening : goal.returns-else-listening
 returns-else-listening g c =
     subst (λ b. Finds (λ x. TakesSegment b c.args.ip.now (segment_of c.args.repr.now) x) c.args.sockets.now.slots.items c.first_sought.result) (sym c.if-listening.false)
-    (found (λ x. TakesSegment false c.args.ip.now (segment_of c.args.repr.now) x) c.args.sockets.now.slots.items c.args.sockets.now.index (key_of_segment c.args.ip.now (segment_of c.args.repr.now)) (all_filed (λ s. keys_of s) c.args.sockets.now.complete c.args.sockets.now.slots.items c.args.sockets.now.index c.args.sockets.now.free c.requires.complete c.requires.settled) (λ k x f h. connection_in c.args.sockets.now.index k c.args.ip.now (segment_of c.args.repr.now) x.socket f h) c.first_sought.result
-    (subst (λ key. FindsListed (λ x. TakesSegment false c.args.ip.now (segment_of c.args.repr.now) x) c.args.sockets.now.slots.items c.args.sockets.now.index key c.first_sought.result) (c.connection_key-key.ensures ∙ ap (λ a. record { major = number_of a; minor = c.args.repr.now.dst_port * 65536 + c.args.repr.now.src_port; place = 0 }) c.src_addr.ensures)
-    (subst (λ xs. FindsListed (λ x. TakesSegment false c.args.ip.now (segment_of c.args.repr.now) x) xs c.args.sockets.now.index c.connection_key-key.result c.first_sought.result) c.deref-else-listening.ensures.value c.first_sought.ensures)))
+    (found (λ x. TakesSegment false c.args.ip.now (segment_of c.args.repr.now) x) c.args.sockets.now.slots.items c.args.sockets.now.index.entries (key_of_segment c.args.ip.now (segment_of c.args.repr.now)) (all_filed (λ s. keys_of s) c.args.sockets.now.complete c.args.sockets.now.slots.items c.args.sockets.now.index.entries c.args.sockets.now.free c.requires.complete c.requires.settled) (λ k x f h. connection_in c.args.sockets.now.index.entries k c.args.ip.now (segment_of c.args.repr.now) x.socket f h) c.first_sought.result
+    (subst (λ key. FindsListed (λ x. TakesSegment false c.args.ip.now (segment_of c.args.repr.now) x) c.args.sockets.now.slots.items c.args.sockets.now.index.entries key c.first_sought.result) (c.connection_key-key.ensures ∙ ap (λ a. record { major = number_of a; minor = c.args.repr.now.dst_port * 65536 + c.args.repr.now.src_port; place = 0 }) c.src_addr.ensures)
+    (subst (λ xs. FindsListed (λ x. TakesSegment false c.args.ip.now (segment_of c.args.repr.now) x) xs c.args.sockets.now.index.entries c.connection_key-key.result c.first_sought.result) c.deref-else-listening.ensures.value c.first_sought.ensures)))

@@ -15,9 +15,9 @@ pub returns-in-Some-clause-taker : goal.returns-in-Some-clause-taker
 returns-in-Some-clause-taker g c =
     let key : c.connection_key-key.result ≡ key_of_segment c.args.ip.now (segment_of c.args.repr.now) = c.connection_key-key.ensures ∙ ap (λ a. record { major = number_of a; minor = c.args.repr.now.dst_port * 65536 + c.args.repr.now.src_port; place = 0 }) c.src_addr.ensures in
     subst (λ v. IsTaker v.items c.args.ip.now (segment_of c.args.repr.now) (taker.Connection c.in-Some.i)) c.known_place.ensures.slots (
-      known_connection c.known_place.new.self.slots.items c.known_place.new.self.index c.args.ip.now (segment_of c.args.repr.now) c.in-Some.i
+      known_connection c.known_place.new.self.slots.items c.known_place.new.self.index.entries c.args.ip.now (segment_of c.args.repr.now) c.in-Some.i
           (c.in-Some.ensures.filed c.if-sockets.true)
-          (subst (λ k. IsFirst c.known_place.new.self.index k c.in-Some.i) key c.in-Some.ensures.known)
+          (subst (λ k. IsFirst c.known_place.new.self.index.entries k c.in-Some.i) key c.in-Some.ensures.known)
           (subst (λ xs. IsAt (λ x. TakesSegment false c.args.ip.now (segment_of c.args.repr.now) x) xs c.in-Some.i) c.deref.ensures.value (c.if-goes_on_with.ensures.taken refl)),
       subst (λ xs. IfSome (slice_get xs c.in-Some.i) (λ x. Reopens c.args.ip.now (segment_of c.args.repr.now) x → ⊥)) c.deref.ensures.value (c.if-goes_on_with.ensures.open refl),
     )

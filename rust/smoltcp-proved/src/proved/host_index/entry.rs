@@ -31,3 +31,13 @@ pub(crate) fn is_entry(a: Entry, b: Entry) -> bool {
 pub(crate) fn is_key_less(a: Entry, b: Entry) -> bool {
     a.major < b.major || a.major == b.major && a.minor < b.minor
 }
+
+// The entry of a place under the key of another.
+pub(crate) fn entry_of(key: Entry, place: usize) -> Entry {
+    Entry { major: key.major, minor: key.minor, place }
+}
+
+// A key that no entry stands before.
+pub(crate) fn least_key() -> Entry {
+    Entry { major: 0, minor: 0, place: 0 }
+}

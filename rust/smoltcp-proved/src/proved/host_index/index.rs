@@ -4,7 +4,7 @@
 use crate::kit::Vec;
 use crate::kit::alloc::{AllocError, Global};
 use crate::proved::host_index::columns::{Columns, number_of};
-use crate::proved::host_index::entry::{Entry, Which, is_entry, is_key_less, is_less};
+use crate::proved::host_index::entry::{Entry, Which, entry_of, is_entry, is_key_less, is_less, least_key};
 use crate::proved::host_index::guesses::Guesses;
 use crate::proved::host_index::known::Known;
 
@@ -26,11 +26,6 @@ pub struct Index {
     guesses: Guesses,
 }
 
-// The entry of a place under the key of another.
-fn entry_of(key: Entry, place: usize) -> Entry {
-    Entry { major: key.major, minor: key.minor, place }
-}
-
 // The place that has this key as its first one, where the key has this number.
 fn place_under(columns: &Columns, number: u32, key: Entry) -> Option<u32> {
     let entry = columns.get(number as usize);
@@ -47,11 +42,6 @@ fn first_under(columns: &Columns, order: &[u32], key: Entry, begins: usize) -> O
         Some(number) if key.place == 0 => place_under(columns, *number, key),
         _ => None,
     }
-}
-
-// A key that no entry stands before.
-fn least_key() -> Entry {
-    Entry { major: 0, minor: 0, place: 0 }
 }
 
 // The entry at this place of the order.
@@ -229,7 +219,8 @@ impl Index {
         }
     }
 
-    /// Adds an entry of a place that has no such key yet, where the key is one that fits. Whether it did.
+    /// Adds an entry of a place of its own that has no such key yet, where the key is one that fits and the place's
+    /// other key is another. Whether it did. No memory is asked for.
     pub fn add(&mut self, which: Which, entry: Entry) -> bool {
         let guess = self.guesses.to_add(which, entry, self.order.len());
         let place = lower_by(&self.columns, &self.order, entry, guess);
@@ -241,7 +232,10 @@ impl Index {
     }
 
     fn put_at(&mut self, place: usize, which: Which, entry: Entry) -> bool {
-        if self.order.len() >= self.order.capacity() || self.stands_at(place, entry) {
+        if self.order.len() >= self.order.capacity() {
+            return false;
+        }
+        if self.stands_at(place, entry) {
             return false;
         }
         if !self.columns.put(which, entry) {
@@ -298,9 +292,6 @@ impl Index {
     fn take(&mut self, which: Which, number: usize) {
         let opens = self.columns.is_least_door(number / 2);
         let place = self.stands(number, self.guesses.to_remove(which, opens));
-        if !is_there(&self.order, place, number) {
-            return;
-        }
         self.take_out(place);
         self.note_removed(which, opens, place);
     }
@@ -309,7 +300,7 @@ impl Index {
         self.guesses.note_removed(which, opens, place);
     }
 
-    // Where the key of this number stands, which is looked at then.
+    // Where the key of this number stands.
     fn stands(&self, number: usize, from: usize) -> usize {
         match near(&self.order, number as u32, from) {
             Some(place) => place,

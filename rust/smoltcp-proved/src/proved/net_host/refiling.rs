@@ -8,7 +8,7 @@ fn entry_at(key: &Entry, place: usize) -> Entry {
     Entry { major: key.major, minor: key.minor, place }
 }
 
-// Whether the place is filed under this key and no other. Where the answer is no, it says nothing.
+// Whether the place is filed under this key and no other.
 #[inline(always)]
 fn has_key(index: &Index, which: Which, place: usize, key: &Key) -> bool {
     match key {
@@ -37,8 +37,8 @@ fn file(index: &mut Index, which: Which, place: usize, key: &Key) -> bool {
     }
 }
 
-/// The place is filed under these keys, and not under others any more. Whether there was room for it; no other place
-/// is filed otherwise.
+/// The place is filed under these keys, and not under others any more. Whether it was: it is where it is a place of the
+/// index and its keys can be filed, and no memory is asked for. No other place is filed otherwise.
 pub(crate) fn refile(index: &mut Index, place: usize, keys: &Keys) -> bool {
     unfile(index, Which::First, place, &keys.first);
     unfile(index, Which::Second, place, &keys.second);

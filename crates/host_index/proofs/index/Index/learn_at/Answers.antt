@@ -10,9 +10,10 @@ first_at-first-requires-clause-ordered c = subst (IsOrdered c.self.inside.column
 
 pub invariant_of-self : goal.invariant_of-self
 invariant_of-self c = record {
+  room_for_all = c.self.invariant.room_for_all;
   index = c.self.invariant.index;
   begins = c.self.invariant.begins;
-  firsts = subst (AreFirst c.self.inside.columns c.self.inside.order.items) (sym c.learn.ensures)
+  firsts = subst (AreFirst c.self.inside.columns c.self.inside.order.items) (sym c.learn.ensures.learned)
       (learned_more c.self.inside.columns c.self.inside.order.items c.self.inside.known.places.items c.args.key c.first_at-first.result c.self.invariant.index.as_many.few
       (subst (λ os. IfSome c.first_at-first.result (λ p. IsFirstIn c.self.inside.columns os c.args.key p)) c.deref.ensures.value c.first_at-first.ensures) c.self.invariant.firsts);
 }

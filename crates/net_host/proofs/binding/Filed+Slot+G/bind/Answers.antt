@@ -7,7 +7,7 @@ use Rattle.net_host.proofs.binding.Filed+Slot+G.bind.Goals as goal
 
 pub invariant_of-self : goal.invariant_of-self
 invariant_of-self g c = record {
-  indexed = lent_changed (λ s. keys_of s) _ c.lend_out.new.self.complete c.lend_out.new.self.lent c.lend_out.new.self.slots.items c.bind_there.new.slots.items c.lend_out.new.self.index c.lend_out.new.self.free c.args.handle.index c.lend_out.ensures.lent c.lend_out.new.self.indexed c.bind_there.ensures;
+  indexed = lent_changed (λ s. keys_of s) _ c.lend_out.new.self.complete c.lend_out.new.self.lent c.lend_out.new.self.slots.items c.bind_there.new.slots.items c.lend_out.new.self.index.entries c.lend_out.new.self.free c.args.handle.index c.lend_out.ensures.lent c.lend_out.new.self.indexed c.bind_there.ensures;
   asleep = marked_changes (λ u b s. sleeps u b s) _ c.lend_out.new.self.terms c.lend_out.new.self.bounds c.lend_out.new.self.slots.items c.bind_there.new.slots.items c.args.handle.index c.lend_out.ensures.marked c.bind_there.ensures c.lend_out.new.self.asleep;
   as_many = c.lend_out.new.self.as_many ∙ sym (changed_len _ c.lend_out.new.self.slots.items c.bind_there.new.slots.items c.args.handle.index c.bind_there.ensures);
   kept = unsettled c.lend_out.ensures.unsettled;

@@ -6,8 +6,8 @@ use Rattle.net_host.proofs.filed.Filed.lend_anew.Goals as goal
 
 pub invariant_of-self : goal.invariant_of-self
 invariant_of-self g c = record {
-  indexed = subst (λ l. IsIndexed g.T.Keyed.keys_of c.settle.new.self.complete l c.settle.new.self.slots.items c.settle.new.self.index c.settle.new.self.free) (sym (c.lent_at-self.ensures ∙ ap (λ xs. lent_of c.args.place (slice_get xs c.args.place)) c.deref.ensures.value))
-      (lent_at_place g.T.Keyed.keys_of c.settle.new.self.complete c.args.place c.settle.new.self.slots.items c.settle.new.self.index c.settle.new.self.free c.settle.ensures.settled);
+  indexed = subst (λ l. IsIndexed g.T.Keyed.keys_of c.settle.new.self.complete l c.settle.new.self.slots.items c.settle.new.self.index.entries c.settle.new.self.free) (sym (c.lent_at-self.ensures ∙ ap (λ xs. lent_of c.args.place (slice_get xs c.args.place)) c.deref.ensures.value))
+      (lent_at_place g.T.Keyed.keys_of c.settle.new.self.complete c.args.place c.settle.new.self.slots.items c.settle.new.self.index.entries c.settle.new.self.free c.settle.ensures.settled);
   asleep = c.settle.new.self.asleep;
   as_many = c.settle.new.self.as_many;
   kept = unsettled refl;

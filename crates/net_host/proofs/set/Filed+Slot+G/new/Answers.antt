@@ -1,6 +1,7 @@
 use Rattle.std.proofs.Common.{◌≡◌, ◌∙◌, ◌/◌, ◌<◌, length, rules, sym, subst, ap, arith}
 use Rattle.std.specs.List.{All}
 use Rattle.std.proofs.lemmas.List.Elements.{All-push, All-weaker}
+use Rattle.host_index.specs.Filing.{places_of}
 use Rattle.net_host.specs.Filing.{keys_in, keys_of}
 use Rattle.net_host.specs.Indexing.{no_keys}
 use Rattle.net_host.specs.Slots.{IsFirstFree}
@@ -26,3 +27,9 @@ of_free-requires-clause-as_marked g c = c.clear.ensures.len ∙ c.in_ok-ended.en
 
 pub returns-clause-free : goal.returns-clause-free
 returns-clause-free g c = subst (λ v. All (λ s. IsFirstFree s) v.items) (sym c.of_free.ensures.slots) c.loop.invariant.free
+
+pub returns-clause-complete : goal.returns-clause-complete
+returns-clause-complete g c = c.of_free.ensures.complete
+
+pub returns-clause-places : goal.returns-clause-places
+returns-clause-places g c = ap places_of c.of_free.ensures.index ∙ c.in_ok-index.ensures.places

@@ -8,7 +8,7 @@ use Rattle.net_host.proofs.set.Filed+Slot+G.remove.Goals as goal
 
 pub invariant_of-self : goal.invariant_of-self
 invariant_of-self g c = record {
-  indexed = lent_changed_if (λ s. keys_of s) c.take_at.result (λ s. Empties s) c.lend_out.new.self.complete c.lend_out.new.self.lent c.lend_out.new.self.slots.items c.take_at.new.slots.items c.lend_out.new.self.index c.lend_out.new.self.free c.args.handle.index c.lend_out.ensures.lent c.lend_out.new.self.indexed c.take_at.ensures.emptied c.take_at.ensures.stale;
+  indexed = lent_changed_if (λ s. keys_of s) c.take_at.result (λ s. Empties s) c.lend_out.new.self.complete c.lend_out.new.self.lent c.lend_out.new.self.slots.items c.take_at.new.slots.items c.lend_out.new.self.index.entries c.lend_out.new.self.free c.args.handle.index c.lend_out.ensures.lent c.lend_out.new.self.indexed c.take_at.ensures.emptied c.take_at.ensures.stale;
   asleep = marked_changes_if (λ u b s. sleeps u b s) c.take_at.result (λ s. Empties s) c.lend_out.new.self.terms c.lend_out.new.self.bounds c.lend_out.new.self.slots.items c.take_at.new.slots.items c.args.handle.index c.lend_out.ensures.marked c.take_at.ensures.emptied c.take_at.ensures.stale c.lend_out.new.self.asleep;
   as_many = c.lend_out.new.self.as_many ∙ sym (changed_len_if c.take_at.result (λ s. Empties s) c.lend_out.new.self.slots.items c.take_at.new.slots.items c.args.handle.index c.take_at.ensures.emptied c.take_at.ensures.stale);
   kept = unsettled c.lend_out.ensures.unsettled;

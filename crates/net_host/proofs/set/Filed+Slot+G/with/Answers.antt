@@ -10,7 +10,7 @@ use Rattle.net_host.proofs.set.Filed+Slot+G.with.Goals as goal
 
 pub invariant_of-self : goal.invariant_of-self
 invariant_of-self g c = record {
-  indexed = lent_changed_if (λ s. keys_of s) c.with_at.result (λ r b a. LeavesAny (λ s t. FnOnceReturnsAtMut g.F.FnOnce c.args.f s r t) c.args.handle.generation b a) c.lend_out.new.self.complete c.lend_out.new.self.lent c.lend_out.new.self.slots.items c.with_at.new.slots.items c.lend_out.new.self.index c.lend_out.new.self.free c.args.handle.index c.lend_out.ensures.lent c.lend_out.new.self.indexed c.with_at.ensures.called c.with_at.ensures.stale;
+  indexed = lent_changed_if (λ s. keys_of s) c.with_at.result (λ r b a. LeavesAny (λ s t. FnOnceReturnsAtMut g.F.FnOnce c.args.f s r t) c.args.handle.generation b a) c.lend_out.new.self.complete c.lend_out.new.self.lent c.lend_out.new.self.slots.items c.with_at.new.slots.items c.lend_out.new.self.index.entries c.lend_out.new.self.free c.args.handle.index c.lend_out.ensures.lent c.lend_out.new.self.indexed c.with_at.ensures.called c.with_at.ensures.stale;
   asleep = marked_changes_if (λ u b s. sleeps u b s) c.with_at.result (λ r b a. LeavesAny (λ s t. FnOnceReturnsAtMut g.F.FnOnce c.args.f s r t) c.args.handle.generation b a) c.lend_out.new.self.terms c.lend_out.new.self.bounds c.lend_out.new.self.slots.items c.with_at.new.slots.items c.args.handle.index c.lend_out.ensures.marked c.with_at.ensures.called c.with_at.ensures.stale c.lend_out.new.self.asleep;
   as_many = c.lend_out.new.self.as_many ∙ sym (changed_len_if c.with_at.result (λ r b a. LeavesAny (λ s t. FnOnceReturnsAtMut g.F.FnOnce c.args.f s r t) c.args.handle.generation b a) c.lend_out.new.self.slots.items c.with_at.new.slots.items c.args.handle.index c.with_at.ensures.called c.with_at.ensures.stale);
   kept = unsettled c.lend_out.ensures.unsettled;
