@@ -6,6 +6,7 @@ use crate::fault::Fault;
 use crate::host::{Counts, Host, LiveHost};
 use crate::outbox::Outbox;
 use crate::slot::Slot;
+use host_context::Words;
 use net_host::{GuardSettings, Interface, IpCidr, Secret, SocketHandle, SocketSet, SynCookies};
 use pcap::stream::{Format, HEADER, LONGEST, PcapError, RECORD, Record, stream_header};
 use smoltcp_socket::storage::{PacketBuffer, RingBuffer};
@@ -154,6 +155,7 @@ fn interface(addresses: Vec<IpCidr>, setup: Setup) -> Interface<Secret> {
         handshake: Some(HANDSHAKE),
         ..GuardSettings::new()
     });
+    interface.set_answer_key(answer_key(setup.seed));
     if setup.rules == Rules::Rfc {
         let kept_from = kept_from(setup.sockets, setup.rules);
         interface.set_syn_cookies(Some(SynCookies::new(cookie_key(setup.seed), kept_from)));
@@ -239,6 +241,18 @@ fn secret(seed: u64) -> Secret {
 
 fn cookie_key(seed: u64) -> [u8; 32] {
     key(seed, 1)
+}
+
+fn answer_key(seed: u64) -> u64 {
+    u64::from_le_bytes(random(key(seed, 2)))
+}
+
+// The first octets of the words under a key, as no peer may learn anything of the seed.
+fn random(key: [u8; 32]) -> [u8; 8] {
+    let mut words = Secret::new(key);
+    let (a, b) = (words.next(), words.next());
+    let ([a, b, c, d], [e, f, g, h]) = (a.to_le_bytes(), b.to_le_bytes());
+    [a, b, c, d, e, f, g, h]
 }
 
 // By the RFCs' rules the last quarter of the TCP sockets is kept for peers that answer a SYN cookie.
