@@ -33,6 +33,9 @@ impl Model for Bounds {
 
 impl Bounds {
     /// Bounds of so many places, each of which is to be asked at once. They take 8.7 bytes a place.
+    ///
+    /// # Errors
+    /// An error where there is no memory for them.
     pub fn new(alloc: Global, count: usize) -> Result<Bounds, AllocError>
         ensures len { IfOk result (λ b. length b ≡ count) }
         ensures least { IfOk result (λ b. All (λ m. m ≡ at_once) b) }
@@ -151,7 +154,7 @@ impl Bounds {
         self.search(start, end, now)
     }
 
-    // The same where a time may be reached: apart from `next`, so that it saves few registers.
+    // What `next` returns where a time may be reached: apart from it, so that it saves few registers.
     #[inline(never)]
     fn search(&self, start: usize, end: usize, now: i64) -> Option<usize>
         requires { end ≤ length self.now }

@@ -1,7 +1,8 @@
 //! Bits of many places, in words of 64, and of each word whether it is not 0.
 ghost use Rattle.std.specs.Prelude.{ℕ, ◌≡◌, ◌+◌, ◌*◌, ◌<◌, ◌≤◌, ◌/◌, IfOk, length, nat_eq, true};
 ghost use Rattle.std.specs.Int.{bit_at};
-ghost use Rattle.host_bounds.specs.Marking.{AllMarked, Clears, FindsOne, IsBusy, IsEmpty, IsFull, IsNextMark, Sets, bit_of};
+ghost use Rattle.host_bounds.specs.Marking.{AllMarked, Clears, FindsOne, IsBusy, IsEmpty, IsFull, IsNextMark, Sets};
+ghost use Rattle.host_bounds.specs.Marking.{bit_of};
 
 use std::alloc::{AllocError, Global};
 use std::marker::Model;
@@ -31,6 +32,9 @@ impl Model for Marks {
 
 impl Marks {
     /// Marks of so many places, each of which is marked. They take 1/8 byte a place.
+    ///
+    /// # Errors
+    /// An error where there is no memory for them.
     pub fn new(alloc: Global, count: usize) -> Result<Marks, AllocError>
         ensures len { IfOk result (λ m. length m ≡ count / 64 + 1) }
         ensures room { IfOk result (λ m. count / 64 < length m) }
@@ -224,7 +228,7 @@ fn next_in(marks: &[u64], words: &[u64], start: usize) -> usize
     }
 }
 
-// The same of the words behind this place's. Not inlined, as few searches come here.
+// The next place that is marked in a word behind this place's. Not inlined, as few searches come here.
 #[inline(never)]
 fn next_behind(marks: &[u64], words: &[u64], start: usize) -> usize
     requires busy { IsBusy marks.now words.now }

@@ -1,5 +1,6 @@
 -- The number of an answer to a SYN.
-use Rattle.std.specs.Prelude.{ℕ, ℤ, pos, ◌+◌, ◌-◌, ◌*◌, ◌/◌, ◌%◌, ◌^◌, ◌==◌, ◌||◌, ◌&&◌, ◌+ℤ◌, unsigned_abs, List, Option}
+use Rattle.std.specs.Prelude.{ℕ, ℤ, pos, ◌+◌, ◌-◌, ◌*◌, ◌/◌, ◌%◌, ◌^◌, ◌==◌, ◌||◌, ◌&&◌, ◌+ℤ◌, unsigned_abs, List}
+use Rattle.std.specs.Prelude.{Option}
 use Rattle.std.specs.Prelude.{Some, None, Bool, false, nat_le, if◌then◌else◌}
 use Rattle.std.specs.Int.{from_be_bytes, w32, w128}
 use Rattle.ip_wire.specs.declared.address.IpAddress.{IpAddress}

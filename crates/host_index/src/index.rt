@@ -171,7 +171,7 @@ fn lower(columns: &Columns, order: &[u32], key: Entry) -> usize
     lower_between(columns, order, key, 0, order.len())
 }
 
-// The same, by one look where no entry stands behind the key, as where the ports of connections rise.
+// What `lower` returns, by one look where no entry stands behind the key, as where the ports of connections rise.
 #[inline(always)]
 #[tactic(auto, using(crate::proofs::Numbers::splits_behind))]
 fn lower_or_end(columns: &Columns, order: &[u32], key: Entry) -> usize
@@ -186,7 +186,7 @@ fn lower_or_end(columns: &Columns, order: &[u32], key: Entry) -> usize
     lower(columns, order, key)
 }
 
-// The same, by two looks where the guess is right; where it is not, it is searched for before or behind it.
+// What `lower` returns, by two looks where the guess is right, else by a search before or behind it.
 #[inline(always)]
 #[tactic(auto, using(crate::proofs::Numbers::splits_here))]
 fn lower_by(columns: &Columns, order: &[u32], key: Entry, guess: usize) -> usize
@@ -224,6 +224,9 @@ fn near(order: &[u32], number: u32, from: usize) -> Option<usize>
 impl Index {
     /// An index of so many places, at most 2^30, with room for two entries each, and for the first places under 256
     /// keys.
+    ///
+    /// # Errors
+    /// An error where there is no memory for it.
     pub fn new(alloc: Global, count: usize) -> Result<Index, AllocError>
         ensures none { IfOk result (λ x. x.entries ≡ []) }
         ensures places { IfOk result (λ x. places_of x ≡ min count 1073741824) }

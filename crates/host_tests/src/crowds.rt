@@ -20,7 +20,7 @@ fn syn_v4(last: u8, port: u8) -> [u8; 40] {
     ]
 }
 
-// The same over IPv6, of the subnet and the host in it.
+// A SYN to port 7 over IPv6, from this subnet, the host in it and the port.
 fn syn_v6(subnet: u8, last: u8, port: u8) -> [u8; 60] {
     [
         96, 0, 0, 0, 0, 20, 6, 64, 32, 1, 13, 184, 0, 0, 0, subnet, 0, 0, 0, 0, 0, 0, 0, last, 32,
@@ -79,7 +79,7 @@ fn filled<'a>(
     Ok(sockets)
 }
 
-// The same, to a host with these sockets.
+// What becomes of SYNs to a host with these sockets.
 fn run(
     rt: &HostRuntime,
     sockets: &mut SocketSet<'_>,
@@ -94,7 +94,7 @@ fn run(
     Ok(came_to(&mut interface, sockets, packets))
 }
 
-// The same, to a host with three sockets that listen.
+// What becomes of SYNs to a host with three sockets that listen.
 fn came(
     rt: &HostRuntime,
     most: usize,

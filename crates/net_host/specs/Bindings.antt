@@ -68,8 +68,8 @@ BindsFrom (Some port) ss h a r ts = BindsIf (udp_at ss h) ss h.index a port r ts
 
 module _ {C G : Type 0} (facts : C → Facts) (word_at : C → ℕ → ℕ) where
   -- a port is looked for from a random one on, which is drawn first
-  pub record BindsBy (ss : List (Slot G)) (h : SocketHandle) (asked : IpListenEndpoint) (cx : C) (r : Result ℕ OpenError)
-      (ts : List (Slot G)) (cx' : C) : Type 0 where
+  pub record BindsBy (ss : List (Slot G)) (h : SocketHandle) (asked : IpListenEndpoint) (cx : C)
+      (r : Result ℕ OpenError) (ts : List (Slot G)) (cx' : C) : Type 0 where
     pub port : Option ℕ
     pub draws : Draws true facts word_at cx cx'
     pub finds : FindsBinding asked.port ss (word_at cx 0 % 2 ^ 16) port

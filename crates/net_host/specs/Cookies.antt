@@ -1,6 +1,8 @@
 -- SYN cookies: who is answered without a socket, and whose answer is believed (RFC 4987, section 3.6).
-use Rattle.std.specs.Prelude.{ℕ, ℤ, ◌≡◌, ◌+◌, ◌<◌, ◌≤◌, ◌-◌, ◌/◌, ◌⊎◌, ◌==◌, min, nat_le, List, [], length, Option, Some}
-use Rattle.std.specs.Prelude.{None, Bool, true, false, ◌&&◌, Result, IfSome, IsSomeAnd, MatchOption, is_some, option_map}
+use Rattle.std.specs.Prelude.{ℕ, ℤ, ◌≡◌, ◌+◌, ◌<◌, ◌≤◌, ◌-◌, ◌/◌, ◌⊎◌, ◌==◌, min, nat_le, List, [], length, Option}
+use Rattle.std.specs.Prelude.{Some}
+use Rattle.std.specs.Prelude.{None, Bool, true, false, ◌&&◌, Result, IfSome, IsSomeAnd, MatchOption, is_some}
+use Rattle.std.specs.Prelude.{option_map}
 use Rattle.std.specs.Prelude.{slice_get, if◌then◌else◌, ◌%◌}
 use Rattle.ip_wire.specs.IpHeader.{dst_addr_of, src_addr_of}
 use Rattle.ip_wire.specs.declared.repr.IpRepr.{IpRepr}
@@ -303,7 +305,8 @@ module _ {C G : Type 0} (facts : C → Facts) (word_at : C → ℕ → ℕ) (tel
   abbrev pub HearsIf : List (Slot G) → ℕ → C → IpRepr → Segment → Option (IpRepr × TcpRepr) → List (Slot G) → C
       → Type 0
   HearsIf ss i cx ip s r ts cx' =
-      (IfSome (slice_get ss i) (TakesSegment false ip s) × HearsAt facts word_at tells as_is no_more ss i cx ip s r ts cx')
+      (IfSome (slice_get ss i) (TakesSegment false ip s)
+      × HearsAt facts word_at tells as_is no_more ss i cx ip s r ts cx')
       ⊎ (IfSome (slice_get ss i) (λ x. TakesSegment false ip s x → ⊥) × (ts ≡ ss) × (cx' ≡ cx) × (r ≡ None))
 
   -- the SYN before it, and then the segment

@@ -30,11 +30,13 @@ abbrev pub DispatchesSegment : {G : Type 0} → Facts → (G → ℕ → Type 0)
 DispatchesSegment facts tells clock v out r n w out' =
     Dispatches writing tt facts tells clock v (empty_sheet facts out) r w (sheet_with facts out' n)
 
-abbrev pub DispatchesDatagram : Facts → udp.View → List ℕ → Result (Unit {0}) TooShort → Sent → udp.View → List ℕ → Type 0
+abbrev pub DispatchesDatagram : Facts → udp.View → List ℕ → Result (Unit {0}) TooShort → Sent → udp.View → List ℕ
+    → Type 0
 DispatchesDatagram facts v out r n w out' =
     Dispatched writing_datagram tt v facts (empty_sheet facts out) r (sheet_with facts out' n) w
 
-abbrev pub DispatchesMessage : Facts → icmp.View → List ℕ → Result (Unit {0}) TooShort → Sent → icmp.View → List ℕ → Type 0
+abbrev pub DispatchesMessage : Facts → icmp.View → List ℕ → Result (Unit {0}) TooShort → Sent → icmp.View → List ℕ
+    → Type 0
 DispatchesMessage facts v out r n w out' =
     icmp_dispatch.Dispatched writing_message tt v facts (empty_sheet facts out) r (sheet_with facts out' n) w
 

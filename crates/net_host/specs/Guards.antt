@@ -1,5 +1,6 @@
 -- The limits that a host sets its TCP connections.
-use Rattle.std.specs.Prelude.{ℕ, min, ◌/◌, ◌%◌, ◌==◌, ◌&&◌, nat_lt, Bool, true, false, length, Option, Some, None, if◌then◌else◌}
+use Rattle.std.specs.Prelude.{ℕ, min, ◌/◌, ◌%◌, ◌==◌, ◌&&◌, nat_lt, Bool, true, false, length, Option, Some, None}
+use Rattle.std.specs.Prelude.{if◌then◌else◌}
 use Rattle.net_base.specs.declared.time.Duration.{Duration}
 use Rattle.net_base.specs.declared.time.Instant.{Instant}
 use Rattle.control_wire.specs.Seq.{seq_eq}

@@ -1,5 +1,6 @@
 -- Places that are filed in an index under their keys.
-use Rattle.std.specs.Prelude.{ℕ, ◌≡◌, ◌<◌, ◌/◌, ◌&&◌, ◌||◌, not, nat_eq, nat_lt, Bool, true, false, List, length, Option}
+use Rattle.std.specs.Prelude.{ℕ, ◌≡◌, ◌<◌, ◌/◌, ◌&&◌, ◌||◌, not, nat_eq, nat_lt, Bool, true, false, List, length}
+use Rattle.std.specs.Prelude.{Option}
 use Rattle.std.specs.Prelude.{Some, None, slice_get, if◌then◌else◌}
 use Rattle.host_bounds.specs.Marking.{bit_of}
 use Rattle.host_index.specs.Entries.{entry_at, has}

@@ -1,5 +1,6 @@
 -- How many answers of one kind go out in a second.
-use Rattle.std.specs.Prelude.{ℕ, ℤ, ◌≡◌, pos, ◌+◌, ◌*◌, ◌/◌, ◌%◌, ◌^◌, ◌<◌, ◌+ℤ◌, ◌≤◌, ◌&&◌, int_le, int_lt, nat_eq, List, []}
+use Rattle.std.specs.Prelude.{ℕ, ℤ, ◌≡◌, pos, ◌+◌, ◌*◌, ◌/◌, ◌%◌, ◌^◌, ◌<◌, ◌+ℤ◌, ◌≤◌, ◌&&◌, int_le, int_lt, nat_eq}
+use Rattle.std.specs.Prelude.{List, []}
 use Rattle.std.specs.Prelude.{◌∷◌, Bool, if◌then◌else◌, get_or, length, replicate, slice_set}
 use Rattle.net_base.specs.declared.time.Instant.{Instant}
 use Rattle.host_bounds.specs.Bounding.{at_once}

@@ -1,5 +1,6 @@
 -- What a guard has seen of its socket, and until when the socket need not be asked.
-use Rattle.std.specs.Prelude.{ℕ, ℤ, negsuc, pos, ◌≡◌, ◌&&◌, ◌==◌, ◌⊎◌, nat_le, nat_lt, int_le, int_lt, not, IfSome, Bool, true}
+use Rattle.std.specs.Prelude.{ℕ, ℤ, negsuc, pos, ◌≡◌, ◌&&◌, ◌==◌, ◌⊎◌, nat_le, nat_lt, int_le, int_lt, not, IfSome}
+use Rattle.std.specs.Prelude.{Bool, true}
 use Rattle.std.specs.Prelude.{false, List, Option, Some, None, slice_get, if◌then◌else◌}
 use Rattle.std.specs.Ordering.{int_eq}
 use Rattle.ip_wire.specs.Checksum.{all_checksums}

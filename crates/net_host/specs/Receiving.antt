@@ -95,8 +95,8 @@ module _ {W G : Type 0} (is : IpAddress → IpAddress → Bool) (word_at : W →
     pub believes : IsAgain (class_if i.cookies taker (facts_of i.inner).now s) ss ip s again
     pub dropped : Bool
     pub limited : IsLimited i.most_of_source ss ip s taker (course_in i ss false taker again ip s) dropped
-    pub answers : AnswersSegment facts_of words_of tells (course_in i ss dropped taker again ip s) taker again ss i.inner
-        i.resets ip s out n ts j.inner j.resets out'
+    pub answers : AnswersSegment facts_of words_of tells (course_in i ss dropped taker again ip s) taker again ss
+        i.inner i.resets ip s out n ts j.inner j.resets out'
     pub counters : j.counters ≡ counted_on (course_in i ss dropped taker again ip s) taker again i.counters
     pub turn : j.turn ≡ i.turn
     pub errors : j.errors ≡ i.errors

@@ -1,5 +1,6 @@
 -- Which socket takes a TCP segment, and what becomes of it.
-use Rattle.std.specs.Prelude.{ℕ, ◌≡◌, ◌&&◌, if◌then◌else◌, List, Option, Some, None, IfSome, option_map, slice_get, Bool, true, false}
+use Rattle.std.specs.Prelude.{ℕ, ◌≡◌, ◌&&◌, if◌then◌else◌, List, Option, Some, None, IfSome, option_map, slice_get}
+use Rattle.std.specs.Prelude.{Bool, true, false}
 use Rattle.ip_wire.specs.IpHeader.{src_addr_of}
 use Rattle.ip_wire.specs.declared.repr.IpRepr.{IpRepr}
 use Rattle.net_base.specs.declared.time.Instant.{Instant}

@@ -93,8 +93,8 @@ module _ {G : Type 0} (facts : Facts) (tells : G → ℕ → Type 0) where
     pub emits : SocketEmits before.socket out r n after.socket out'
 
   -- with leave of the guard or without
-  abbrev pub EmitsIf : Bool → Option (Socket G) → List ℕ → Result (Unit {0}) TooShort → Sent → Option (Socket G) → List ℕ
-      → Type 0
+  abbrev pub EmitsIf : Bool → Option (Socket G) → List ℕ → Result (Unit {0}) TooShort → Sent → Option (Socket G)
+      → List ℕ → Type 0
   EmitsIf true s out r n t out' = SocketEmits s out r n t out'
   EmitsIf false s out r n t out' = (t ≡ s) × (r ≡ Ok tt) × (n ≡ nothing_sent) × (out' ≡ out)
 

@@ -1,5 +1,6 @@
 //! SYN cookies: a SYN is answered and no socket holds it, and who answers that is believed (RFC 4987, section 3.6).
-ghost use Rattle.std.specs.Prelude.{◌≡◌, ◌<◌, ◌≤◌, ◌-◌, ◌&&◌, IfSome, length, [], min, nat_le, option_map, slice_get, Some};
+ghost use Rattle.std.specs.Prelude.{◌≡◌, ◌<◌, ◌≤◌, ◌-◌, ◌&&◌, IfSome, length, [], min, nat_le, option_map, slice_get};
+ghost use Rattle.std.specs.Prelude.{Some};
 ghost use Rattle.std.specs.Option.{ForSome};
 ghost use Rattle.control_wire.specs.Fits.{FitsPacket};
 ghost use Rattle.control_wire.specs.Segment.{segment_of};
@@ -418,9 +419,9 @@ pub(crate) fn answer_at<C: Context, G: TsvalSource>(
 }
 
 /// Where no socket takes it, the acknowledgement of an answer is believed within 64 seconds: as of the class that the
-/// SYN told, and of the number of the answer; and the SYN that the socket hears before it has the window scale, the SACK
-/// permission and the timestamp that it offered, where the answer has a timestamp. None is believed once no answer is
-/// awaited, 128 seconds after the last, nor where the SYN before it is for nobody.
+/// SYN told, and of the number of the answer; and the SYN that the socket hears before it has the window scale, the
+/// SACK permission and the timestamp that it offered, where the answer has a timestamp. None is believed once no answer
+/// is awaited, 128 seconds after the last, nor where the SYN before it is for nobody.
 pub fn answers_are_believed()
     ensures believed { AnswersAreBelieved }
     ensures heard { OffersAreHeard }

@@ -185,7 +185,7 @@ pub(crate) fn first_sought<C: Context, G: TsvalSource>(
     first_from(slots, index, index.lower(key), key, cx, sought, ip, repr)
 }
 
-// The same, from where the entries under the key begin.
+// The first slot under the key that takes the segment, from where the entries under it begin.
 #[inline(always)]
 fn first_from<C: Context, G: TsvalSource>(
     slots: &[Slot<'_, G>],

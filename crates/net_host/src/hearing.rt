@@ -102,7 +102,7 @@ fn open_with<C: Context, G: TsvalSource>(
     let _ = pass_at(sockets, i, &mut told);
 }
 
-// The same of a socket in TIME-WAIT, which listens again.
+// So too a socket in TIME-WAIT, which listens again first.
 #[tactic(auto, using(crate::proofs::Touching::touches_then))]
 fn open_anew_with<C: Context, G: TsvalSource>(
     sockets: &mut SocketSet<'_, G>,
@@ -198,7 +198,7 @@ fn hear_both<C: Context, G: TsvalSource>(
     hear_if(sockets, i, cx, ip, repr)
 }
 
-// The same of a socket in TIME-WAIT, which listens again.
+// So too a socket in TIME-WAIT, which listens again first.
 #[tactic(auto, using(crate::proofs::Touching::touches_then))]
 fn hear_both_anew<C: Context, G: TsvalSource>(
     sockets: &mut SocketSet<'_, G>,

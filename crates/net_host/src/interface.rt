@@ -75,18 +75,19 @@ impl<W: Words> Interface<W> {
     /// as it was told again, dispatches its SYN|ACK into nothing, as that has gone out, and then hears the
     /// acknowledgement, without the octet of a keep-alive (RFC 9293, section 3.8.4). The SYN has its window scale, SACK
     /// permission and timestamp where the answer had a timestamp, in which they come back (RFC 7323). None is believed
-    /// once no SYN was answered so for 128 seconds. A SYN of a source that has as many connections as `set_most_of_source` allows is
-    /// dropped, and so is what a cookie would open. A segment for no socket is answered by an RST (RFC 9293, section
-    /// 3.10.7.1), unless it is one. Of RSTs at most `ANSWERS_A_SECOND` go out to a source in a second, with those of
-    /// sockets whose handshake is not over (section 3.10.7.4). A datagram goes to the first UDP socket that accepts
-    /// it; of one that none does the sender is told by an ICMP error (RFC 1122, section 4.1.3.1; RFC 4443, section
-    /// 3.1). Errors go out for packets to an own address that no raw socket takes, at most `ANSWERS_A_SECOND` to a
-    /// source in a second, and fit the MTU. Some sources share a limit, by a key (`set_answer_key`). Of an ICMP
-    /// message each ICMP socket that accepts it takes a copy, and an echo request is answered (RFC 792; RFC 4443,
-    /// section 4.2), by at most as many bytes as the MTU. No other socket changes.
+    /// once no SYN was answered so for 128 seconds. A SYN of a source that has as many connections as
+    /// `set_most_of_source` allows is dropped, and so is what a cookie would open. A segment for no socket is answered
+    /// by an RST (RFC 9293, section 3.10.7.1), unless it is one. Of RSTs at most `ANSWERS_A_SECOND` go out to a source
+    /// in a second, with those of sockets whose handshake is not over (section 3.10.7.4). A datagram goes to the first
+    /// UDP socket that accepts it; of one that none does the sender is told by an ICMP error (RFC 1122, section
+    /// 4.1.3.1; RFC 4443, section 3.1). Errors go out for packets to an own address that no raw socket takes, at most
+    /// `ANSWERS_A_SECOND` to a source in a second, and fit the MTU. Some sources share a limit, by a key
+    /// (`set_answer_key`). Of an ICMP message each ICMP socket that accepts it takes a copy, and an echo request is
+    /// answered (RFC 792; RFC 4443, section 4.2), by at most as many bytes as the MTU. No other socket changes.
     ///
     /// A TCP socket whose place is not `touched` afterwards is as it was, and was not touched before.
     ///
+    /// # Errors
     /// `TooShort` where `reply` is shorter than the MTU, or than the 100 bytes of the longest reply of a TCP socket;
     /// nothing happens then.
     #[tactic(auto, using(crate::proofs::Touching::touches_none))]
@@ -144,17 +145,19 @@ impl<W: Words> Interface<W> {
     ///
     /// Before its turn the guard of a TCP socket looks at it, as `Guard::watch`. Where the answer is 0, the guard of
     /// each has looked at it as it is, so that what only the peer can end comes to its end in time, and no socket is
-    /// `touched`. A socket that was
-    /// not lent, took no segment and asks for a later moment is not asked, so a call costs no more for it; after
-    /// another MTU or other guards each is asked once. A socket that is due and has nothing to say after all has had
-    /// its turn.
+    /// `touched`. A socket that was not lent, took no segment and asks for a later moment is not asked, so a call costs
+    /// no more for it; after another MTU or other guards each is asked once. A socket that is due and has nothing to
+    /// say after all has had its turn.
     ///
     /// Where a connection ends, by a timer, its guard or an address that was lost, its place is among those of `ended`
     /// afterwards; a place that is not has the state that it had.
     ///
     /// No packet is longer than the MTU, where less than 576 counts as that over IPv6: a longer one is dropped, as by
-    /// smoltcp's interface, and counted as `too_long`. Where `out` is too short for the packet, `TooShort`: its socket
-    /// offers it again. An `out` of the MTU's length, and of 576 bytes or more, never is.
+    /// smoltcp's interface, and counted as `too_long`.
+    ///
+    /// # Errors
+    /// `TooShort` where `out` is too short for the packet: its socket offers it again. An `out` of the MTU's length,
+    /// and of 576 bytes or more, never is.
     pub fn emit<G: TsvalSource>(
         &mut self,
         sockets: &mut SocketSet<'_, G>,
@@ -332,8 +335,8 @@ impl<W> Interface<W> {
     /// The answer has a timestamp where the SYN has one and the listener is to send them (`set_tsval_source`). Its five
     /// lowest bits tell what the SYN offers, so it may be 31 ticks of the clock old, and the answer tells the window
     /// scale and SACK as that of a socket would. Without timestamps a connection by cookie has neither. A peer that
-    /// changes the bits is not believed. Sockets that listen on one port have receive buffers of one size, as the window
-    /// scale was told of the one that listened first.
+    /// changes the bits is not believed. Sockets that listen on one port have receive buffers of one size, as the
+    /// window scale was told of the one that listened first.
     pub fn set_syn_cookies(&mut self, cookies: Option<SynCookies>)
         ensures cookies { self.new.cookies ≡ cookies }
         ensures same { (self.new.inner ≡ self.old.inner) × (self.new.turn ≡ self.old.turn)
@@ -411,6 +414,7 @@ impl<W> Interface<W> {
 impl<W> Interface<W> {
     /// Joins a group: packets to it are taken then, for UDP and raw sockets. Nobody is told of it by IGMP or MLD.
     ///
+    /// # Errors
     /// `Unaddressable` where the address is none of a group, `GroupTableFull` where four others were joined.
     pub fn join_multicast_group(&mut self, group: IpAddress) -> Result<(), MulticastError>
         ensures answer { result ≡ join_answer ⟦<IpAddress as PartialEq>⟧.eq self.old.groups group }
@@ -422,7 +426,10 @@ impl<W> Interface<W> {
         self.groups.join(group)
     }
 
-    /// Leaves a group, if it was joined. `Unaddressable` where the address is none of a group.
+    /// Leaves a group, if it was joined.
+    ///
+    /// # Errors
+    /// `Unaddressable` where the address is none of a group.
     pub fn leave_multicast_group(&mut self, group: IpAddress) -> Result<(), MulticastError>
         ensures answer { result ≡ leave_answer group }
         ensures value { self.new ≡ record self.old {

@@ -136,7 +136,7 @@ fn copy_at<C: Context, G: TsvalSource>(
     touch_if(bounds, i, took);
 }
 
-// The same through the places of the ICMP sockets alone, where each place is filed.
+// A copy for each ICMP socket, by the places of ICMP sockets alone, where each place is filed.
 fn copy_to_listed<C: Context, G: TsvalSource>(
     slots: &mut Vec<Slot<'_, G>>,
     bounds: &mut Bounds,

@@ -220,12 +220,13 @@ impl<W: Words> Interface<W> {
     /// that no socket has toward this peer, of 49152 to 65535, the first from a random one on (RFC 6056, section
     /// 3.3.1). Then as `connect` of the socket.
     ///
+    /// It looks at each socket of the set, for a free port at each of the few ports that are tried.
+    ///
+    /// # Errors
     /// In this order: `Unaddressable` where the address is none of the interface, or there is none to send from;
     /// `InUse` where another socket has the connection, or all ports are taken; `NoSocket` where no TCP socket has the
     /// handle; `InvalidState` where it is open; `Unaddressable` as `connect` says. A refusal changes nothing, but may
     /// have drawn a random number.
-    ///
-    /// It looks at each socket of the set, for a free port at each of the few ports that are tried.
     pub fn connect<G: TsvalSource>(
         &mut self,
         sockets: &mut SocketSet<'_, G>,

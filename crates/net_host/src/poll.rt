@@ -65,9 +65,13 @@ impl<W: Words> Interface<W> {
     /// The MTU becomes the device's. Where fewer than `POLL_BURST` are answered and the device has room, no socket is
     /// due, and `poll_at` lies after this moment; else call it again, for what is left.
     ///
-    /// `packet` and `reply` are room for a packet each, whatever is in them. `TooShort` where one of them is shorter
-    /// than the MTU, or `reply` than 100 bytes; nothing happens then. A packet of a socket that is longer than `packet`
-    /// stays with its socket, and counts as a turn: only one over IPv6 can be, with an MTU below 576.
+    /// A packet of a socket that is longer than `packet` stays with its socket, and counts as a turn: only one over
+    /// IPv6 can be, with an MTU below 576.
+    ///
+    /// `packet` and `reply` are room for a packet each, whatever is in them.
+    ///
+    /// # Errors
+    /// `TooShort` where one of them is shorter than the MTU, or `reply` than 100 bytes; nothing happens then.
     pub fn poll<D: Device, G: TsvalSource>(
         &mut self,
         sockets: &mut SocketSet<'_, G>,

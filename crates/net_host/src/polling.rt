@@ -46,7 +46,7 @@ fn poll_there<C: Context, G: TsvalSource>(slots: &[Slot<'_, G>], i: usize, cx: &
     slots[i].poll_at(cx)
 }
 
-// The same of the place with the least bound.
+// When the socket at the place with the least bound wants to be asked.
 fn at_bound<C: Context, G: TsvalSource>(
     sockets: &SocketSet<'_, G>,
     i: usize,

@@ -75,7 +75,7 @@ fn copy_packet_at<C: Context, G: TsvalSource>(
     touch_if(bounds, i, took);
 }
 
-// The same through the places of the raw sockets alone, where each place is filed.
+// A copy for each raw socket, by the places of raw sockets alone, where each place is filed.
 fn copy_packet_to_listed<C: Context, G: TsvalSource>(
     slots: &mut Vec<Slot<'_, G>>,
     bounds: &mut Bounds,

@@ -6,7 +6,8 @@ ghost use Rattle.std.specs.Fn.{FnOnceReturnsAtMut};
 ghost use Rattle.std.specs.List.{All};
 ghost use Rattle.host_bounds.specs.Bounding.{at_once};
 ghost use Rattle.host_bounds.specs.Marking.{Clears, bit_of};
-ghost use Rattle.net_host.specs.Slots.{Empties, Fills, IsFirstFree, IsFree, handle_at, icmp_at, opened_at, raw_at, socket_at};
+ghost use Rattle.net_host.specs.Slots.{Empties, Fills, IsFirstFree, IsFree, handle_at, icmp_at, opened_at, raw_at};
+ghost use Rattle.net_host.specs.Slots.{socket_at};
 ghost use Rattle.net_host.specs.Slots.{LeavesAny, LeavesTcp, tcp_at, udp_at};
 ghost use Rattle.net_host.specs.Walks.{ChangesAt, Finds, FindsAmong, IsAt};
 
@@ -26,6 +27,9 @@ pub type SocketSet<'a, G = Generator> = Filed<Slot<'a, G>>;
 impl<'a, G: TsvalSource> Filed<Slot<'a, G>> {
     /// A set with room for so many sockets. Nothing is allocated afterwards. Its index, its marks and its bounds take
     /// 47 bytes a socket and a kilobyte beside.
+    ///
+    /// # Errors
+    /// An error where there is no memory for it.
     pub fn new(alloc: Global, capacity: usize) -> Result<SocketSet<'a, G>, AllocError>
         ensures capacity { IfOk result (λ s. length s.slots.items ≡ capacity) }
         ensures free { IfOk result (λ s. All IsFirstFree s.slots.items) }
@@ -62,6 +66,9 @@ impl<'a, G: TsvalSource> Filed<Slot<'a, G>> {
     }
 
     /// Puts the socket into the first place that is free. Where none is, it is given back.
+    ///
+    /// # Errors
+    /// The socket, where no place is free.
     pub fn add(&mut self, socket: Socket<'a, G>) -> Result<SocketHandle, Socket<'a, G>>
         ensures first { IfOk result (λ h. Finds IsFree self.old.slots.items (Some h.index)) }
         ensures filled { IfOk result
@@ -145,7 +152,7 @@ impl<'a, G: TsvalSource> Filed<Slot<'a, G>> {
         with_at(&mut self.slots, handle, f)
     }
 
-    /// The same with a TCP socket; `None` where the handle names none of this kind.
+    /// Calls a function with the TCP socket of a handle, as `with`; `None` where the handle names none of this kind.
     pub fn with_tcp<R, F: FnOnce(&mut tcp::Socket<'a, G>) -> R>(
         &mut self,
         handle: SocketHandle,

@@ -1,7 +1,8 @@
 //! One place of a set of sockets.
 ghost use Rattle.std.specs.Fn.{FnOnceReturnsAtMut};
 ghost use Rattle.std.specs.Prelude.{◌≡◌, ◌↔◌, IsTrue, IfSome, IfNone, Some, None, option_map};
-ghost use Rattle.net_host.specs.Slots.{IsFirstFree, IsFree, Fills, Empties, LeavesAny, LeavesTcp, handle_of, held, opened_under, tcp_in};
+ghost use Rattle.net_host.specs.Slots.{IsFirstFree, IsFree, Fills, Empties, LeavesAny, LeavesTcp, handle_of, held};
+ghost use Rattle.net_host.specs.Slots.{opened_under, tcp_in};
 
 use crate::guard::Guard;
 use smoltcp_socket::{Socket, tcp};
@@ -118,7 +119,7 @@ impl<'a, G: TsvalSource> Slot<'a, G> {
         }
     }
 
-    /// The same with a TCP socket alone.
+    /// Calls a function with the TCP socket that is here under this generation.
     pub(crate) fn with_tcp<R, F: FnOnce(&mut tcp::Socket<'a, G>) -> R>(
         &mut self,
         generation: u64,

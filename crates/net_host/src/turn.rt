@@ -100,7 +100,7 @@ impl<'a, G: TsvalSource> Slot<'a, G> {
         }
     }
 
-    // The same of another socket. Not inlined, so that a TCP socket is asked after two tests.
+    // When a UDP, ICMP or raw socket wants to send. Not inlined, so that a TCP socket is asked after two tests.
     #[inline(never)]
     fn asked_beside_tcp<C: Context>(&self, cx: &C) -> PollAt
         requires { is_tcp self.now.socket ≡ false }

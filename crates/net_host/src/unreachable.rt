@@ -169,7 +169,7 @@ fn takes_raw_at<G: TsvalSource>(slots: &[Slot<'_, G>], place: usize, ip: &IpRepr
     }
 }
 
-// The same through the places of the raw sockets alone, where each place is filed.
+// The first raw socket that takes it, by the places of raw sockets alone, where each place is filed.
 fn listed_raw<G: TsvalSource>(slots: &[Slot<'_, G>], index: &Index, ip: &IpRepr) -> Option<usize>
     requires { AreFiled (λ s. keys_of s) slots.now index.now.entries }
     ensures { Finds (TakesRaw ip.now) slots.now result }

@@ -18,6 +18,9 @@ pub struct Bounds {
 
 impl Bounds {
     /// Bounds of so many places, each of which is to be asked at once. They take 8.7 bytes a place.
+    ///
+    /// # Errors
+    /// An error where there is no memory for them.
     pub fn new(alloc: Global, count: usize) -> Result<Bounds, AllocError> {
         Ok(Bounds {
             marks: Marks::new(alloc, count)?,
@@ -106,7 +109,7 @@ impl Bounds {
         self.search(start, end, now)
     }
 
-    // The same where a time may be reached: apart from `next`, so that it saves few registers.
+    // What `next` returns where a time may be reached: apart from it, so that it saves few registers.
     #[inline(never)]
     fn search(&self, start: usize, end: usize, now: i64) -> Option<usize> {
         let first = self.first(start, end, now).max(start);

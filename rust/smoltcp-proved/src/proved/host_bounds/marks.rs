@@ -17,6 +17,9 @@ pub struct Marks {
 
 impl Marks {
     /// Marks of so many places, each of which is marked. They take 1/8 byte a place.
+    ///
+    /// # Errors
+    /// An error where there is no memory for them.
     pub fn new(alloc: Global, count: usize) -> Result<Marks, AllocError> {
         let words = count / BITS + 1;
         Ok(Marks { places: all_ones(alloc, words)?, words: all_ones(alloc, words / BITS + 1)? })
@@ -142,7 +145,7 @@ fn next_in(marks: &[u64], words: &[u64], start: usize) -> usize {
     }
 }
 
-// The same of the words behind this place's. Not inlined, as few searches come here.
+// The next place that is marked in a word behind this place's. Not inlined, as few searches come here.
 #[inline(never)]
 fn next_behind(marks: &[u64], words: &[u64], start: usize) -> usize {
     let mut word = start / BITS + 1;

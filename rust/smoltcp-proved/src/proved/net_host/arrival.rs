@@ -20,7 +20,7 @@ pub(crate) fn refusal<C: Context>(cx: &C, own: bool, groups: &Groups, ip: &IpRep
     refusal_elsewhere(cx, groups, ip)
 }
 
-// The same where the source is none of these, and the destination no own address.
+// Why the packet is dropped, where its source is none of these, and its destination no own address.
 // Not inlined, as few packets come here.
 #[inline(never)]
 fn refusal_elsewhere<C: Context>(cx: &C, groups: &Groups, ip: &IpRepr) -> Option<Reason> {

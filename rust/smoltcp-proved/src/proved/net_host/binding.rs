@@ -105,11 +105,12 @@ impl<W: Words> Interface<W> {
     /// is bound to, of 49152 to 65535, the first from a random one on (RFC 6056, section 3.3.1). Then as `bind` of the
     /// socket, at the address given, or at any.
     ///
+    /// It looks at each socket of the set, for a free port at each of the few ports that are tried.
+    ///
+    /// # Errors
     /// In this order: `InUse` where another UDP socket of the set is bound to the port, at whichever address, or all
     /// ports are taken; `NoSocket` where no UDP socket has the handle; `InvalidState` where it is bound. A refusal
     /// changes nothing, but draws a random number.
-    ///
-    /// It looks at each socket of the set, for a free port at each of the few ports that are tried.
     pub fn bind_udp<G: TsvalSource>(
         &mut self,
         sockets: &mut SocketSet<'_, G>,

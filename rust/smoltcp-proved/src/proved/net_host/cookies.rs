@@ -327,9 +327,9 @@ pub(crate) fn answer_at<C: Context, G: TsvalSource>(
 }
 
 /// Where no socket takes it, the acknowledgement of an answer is believed within 64 seconds: as of the class that the
-/// SYN told, and of the number of the answer; and the SYN that the socket hears before it has the window scale, the SACK
-/// permission and the timestamp that it offered, where the answer has a timestamp. None is believed once no answer is
-/// awaited, 128 seconds after the last, nor where the SYN before it is for nobody.
+/// SYN told, and of the number of the answer; and the SYN that the socket hears before it has the window scale, the
+/// SACK permission and the timestamp that it offered, where the answer has a timestamp. None is believed once no answer
+/// is awaited, 128 seconds after the last, nor where the SYN before it is for nobody.
 pub fn answers_are_believed() {
     answers_are_recognised();
     offers_come_back();

@@ -174,7 +174,7 @@ fn is_port_filed<G>(tcp: &tcp::Socket<'_, G>, index: &Index, place: usize) -> bo
     }
 }
 
-// The same of one in TIME-WAIT, which is filed by its end where it listened.
+// Whether one in TIME-WAIT is filed so: by its end where it listened.
 #[inline(always)]
 fn is_rest_filed<G>(tcp: &tcp::Socket<'_, G>, index: &Index, place: usize) -> bool {
     match second_by(State::TimeWait, tcp.time_wait_end(), tcp.listen_endpoint().port) {

@@ -18,6 +18,9 @@ pub type SocketSet<'a, G = Generator> = Filed<Slot<'a, G>>;
 impl<'a, G: TsvalSource> Filed<Slot<'a, G>> {
     /// A set with room for so many sockets. Nothing is allocated afterwards. Its index, its marks and its bounds take
     /// 47 bytes a socket and a kilobyte beside.
+    ///
+    /// # Errors
+    /// An error where there is no memory for it.
     pub fn new(alloc: Global, capacity: usize) -> Result<SocketSet<'a, G>, AllocError> {
         let mut slots = Vec::with_capacity(alloc, capacity)?;
         for _ in 0..capacity {
@@ -45,6 +48,9 @@ impl<'a, G: TsvalSource> Filed<Slot<'a, G>> {
     }
 
     /// Puts the socket into the first place that is free. Where none is, it is given back.
+    ///
+    /// # Errors
+    /// The socket, where no place is free.
     pub fn add(&mut self, socket: Socket<'a, G>) -> Result<SocketHandle, Socket<'a, G>> {
         match self.first_free() {
             None => Err(socket),
@@ -94,7 +100,7 @@ impl<'a, G: TsvalSource> Filed<Slot<'a, G>> {
         with_at(&mut self.slots, handle, f)
     }
 
-    /// The same with a TCP socket; `None` where the handle names none of this kind.
+    /// Calls a function with the TCP socket of a handle, as `with`; `None` where the handle names none of this kind.
     pub fn with_tcp<R, F: FnOnce(&mut tcp::Socket<'a, G>) -> R>(
         &mut self,
         handle: SocketHandle,

@@ -81,7 +81,7 @@ impl<'a, G: TsvalSource> Slot<'a, G> {
         }
     }
 
-    /// The same with a TCP socket alone.
+    /// Calls a function with the TCP socket that is here under this generation.
     pub(crate) fn with_tcp<R, F: FnOnce(&mut tcp::Socket<'a, G>) -> R>(
         &mut self,
         generation: u64,

@@ -122,7 +122,7 @@ fn takes_raw_at<G: TsvalSource>(slots: &[Slot<'_, G>], place: usize, ip: &IpRepr
     }
 }
 
-// The same through the places of the raw sockets alone, where each place is filed.
+// The first raw socket that takes it, by the places of raw sockets alone, where each place is filed.
 fn listed_raw<G: TsvalSource>(slots: &[Slot<'_, G>], index: &Index, ip: &IpRepr) -> Option<usize> {
     let key = raw_key();
     let end = slots.len();
