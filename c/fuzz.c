@@ -441,7 +441,7 @@ static void refused(struct end *e) {
     uint8_t byte = 0;
     far.now = INT64_MAX;
     if (smoltcp_tcp_set_timeout(&e->tcp, INT64_MAX) != SMOLTCP_ERROR_RANGE) fail("set_timeout", 0);
-    if (smoltcp_tcp_set_congestion_control(&e->tcp, 2 + draw(9)) != SMOLTCP_ERROR_RANGE) fail("congestion", 0);
+    if (smoltcp_tcp_set_congestion_control(&e->tcp, 3 + draw(9)) != SMOLTCP_ERROR_RANGE) fail("congestion", 0);
     if (smoltcp_tcp_dispatch(&e->tcp, &far, &byte, 1) != SMOLTCP_ERROR_CONTEXT) fail("dispatch", 0);
     if (smoltcp_tcp_process(&e->tcp, &e->cx, &byte, 1, &byte, 1) != SMOLTCP_ERROR_ROOM) fail("process", 0);
     if (smoltcp_tcp_explain(&e->tcp, &far, &byte, 1) != SMOLTCP_ERROR_CONTEXT) fail("explain", 0);

@@ -404,7 +404,7 @@ int main(void) {
     want("congestion control", smoltcp_tcp_set_congestion_control(&a, SMOLTCP_CONGESTION_NONE), SMOLTCP_OK);
     want("timestamps", smoltcp_tcp_set_timestamps(&a, 1) + smoltcp_tcp_set_timestamps(&b, 1), SMOLTCP_OK);
     settings();
-    want("another kind", smoltcp_tcp_set_congestion_control(&a, 2), SMOLTCP_ERROR_RANGE);
+    want("another kind", smoltcp_tcp_set_congestion_control(&a, 3), SMOLTCP_ERROR_RANGE);
     want("listen", smoltcp_tcp_listen(&b, &at_b), SMOLTCP_OK);
     want("connect", smoltcp_tcp_connect(&a, &of_a, &at_b, &at_a), SMOLTCP_OK);
     run();

@@ -58,8 +58,8 @@ enum {
     SMOLTCP_ROW_NOTHING_NEW, SMOLTCP_ROW_BARE_ACK
 };
 
-/* Kinds of congestion control: none, or Reno (RFC 5681). */
-enum { SMOLTCP_CONGESTION_NONE = 0, SMOLTCP_CONGESTION_RENO = 1 };
+/* Kinds of congestion control: none, Reno (RFC 5681), or CUBIC (RFC 9438). */
+enum { SMOLTCP_CONGESTION_NONE = 0, SMOLTCP_CONGESTION_RENO = 1, SMOLTCP_CONGESTION_CUBIC = 2 };
 
 /* Rules of a TCP socket: smoltcp's, or the RFCs' where they differ (docs/RULES.md). By these the FIN of a peer is taken
  * that sends old bytes with it, a peer is heard that counts the byte of its probe, losses of one window cost a round

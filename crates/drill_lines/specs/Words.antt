@@ -15,11 +15,12 @@ version_of word =
     else (if bytes_eq word (codes "6") then Some (Some version.Ipv6)
     else (if bytes_eq word (codes "-") then Some None else None))
 
--- `reno` or `none`
+-- `reno`, `cubic` or `none`
 unfoldable pub congestion_of : Word → Option CongestionControl
 congestion_of word =
     if bytes_eq word (codes "reno") then Some congestion.Reno
-    else (if bytes_eq word (codes "none") then Some congestion.None else None)
+    else (if bytes_eq word (codes "cubic") then Some congestion.Cubic
+    else (if bytes_eq word (codes "none") then Some congestion.None else None))
 
 -- `both`, `rx`, `tx` or `none`
 unfoldable pub checksum_of : Word → Option Checksum

@@ -409,6 +409,7 @@ fn congestion(word: &[u8]) -> Option<CongestionControl>
 {
     match word {
         b"reno" => Some(CongestionControl::Reno),
+        b"cubic" => Some(CongestionControl::Cubic),
         b"none" => Some(CongestionControl::None),
         _ => None,
     }

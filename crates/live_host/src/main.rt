@@ -20,7 +20,7 @@ mod slot;
 use crate::fault::Fault;
 use crate::host::Counts;
 use crate::run::{LARGE_BUFFER, LEAST_BUFFER, MOST_SOCKETS, Setup, run};
-use smoltcp_socket::tcp::Rules;
+use smoltcp_socket::tcp::{CongestionControl, Rules};
 use smoltcp_socket::wire::Ipv4Address;
 use std::io::BufReader;
 use std::process::ExitCode;
@@ -36,8 +36,8 @@ on standard input, and writes its own as another on standard output.
 
 SEED     the key of its initial sequence numbers, which nobody should know: 0 to
          2^64 - 1, 1 where it is left out
-RULES    rfc, for peers that are not smoltcp and a wire that loses, or smoltcp,
-         which it is where it is left out
+RULES    rfc, for peers that are not smoltcp and a wire that loses, cubic, the
+         same with CUBIC for Reno, or smoltcp, which it is where it is left out
 SOCKETS  how many TCP sockets it has: 4 to 10000, 32 where it is left out; each
          has two buffers of 64 KB, or of 8 KB where there are more than 512; by
          the RFCs' rules of 1 MB where there are at most 32, and a quarter of
@@ -122,7 +122,7 @@ fn setup(
         Some(text) => text.as_str().parse::<u64>().ok(),
     };
     let rules = match rules {
-        None => Some(Rules::Smoltcp),
+        None => Some((Rules::Smoltcp, CongestionControl::Reno)),
         Some(word) => rules_of(word.as_str()),
     };
     let sockets = match sockets {
@@ -131,10 +131,11 @@ fn setup(
     };
     let buffer = buffer_of(buffer)?;
     match (address(addr), seed, rules, sockets) {
-        (Some(addr), Some(seed), Some(rules), Some(sockets)) => Ok(Setup {
+        (Some(addr), Some(seed), Some((rules, congestion)), Some(sockets)) => Ok(Setup {
             addr,
             seed,
             rules,
+            congestion,
             sockets,
             buffer,
         }),
@@ -163,10 +164,12 @@ fn buffer_of(text: Option<String>) -> Result<Option<usize>, Fault> {
     }
 }
 
-fn rules_of(word: &str) -> Option<Rules> {
+// The rules, and the kind of congestion control.
+fn rules_of(word: &str) -> Option<(Rules, CongestionControl)> {
     match word {
-        "rfc" => Some(Rules::Rfc),
-        "smoltcp" => Some(Rules::Smoltcp),
+        "rfc" => Some((Rules::Rfc, CongestionControl::Reno)),
+        "cubic" => Some((Rules::Rfc, CongestionControl::Cubic)),
+        "smoltcp" => Some((Rules::Smoltcp, CongestionControl::Reno)),
         _ => None,
     }
 }

@@ -10,7 +10,7 @@ use host_context::Words;
 use net_host::{GuardSettings, Interface, IpCidr, Secret, SocketHandle, SocketSet, SynCookies};
 use pcap::stream::{Format, HEADER, LONGEST, PcapError, RECORD, Record, stream_header};
 use smoltcp_socket::storage::{PacketBuffer, RingBuffer};
-use smoltcp_socket::tcp::Rules;
+use smoltcp_socket::tcp::{CongestionControl, Rules};
 use smoltcp_socket::time::Duration;
 use smoltcp_socket::wire::{IpAddress, IpListenEndpoint, Ipv4Address, Ipv6Address};
 use smoltcp_socket::{Socket, tcp, udp};
@@ -64,6 +64,8 @@ pub struct Setup {
     pub seed: u64,
     /// The rules of each TCP socket.
     pub rules: Rules,
+    /// The congestion control of each.
+    pub congestion: CongestionControl,
     /// How many TCP sockets.
     pub sockets: usize,
     /// The size of each of their buffers, in bytes, up to 1 MB; of none by the rules and the number of sockets.
@@ -180,7 +182,7 @@ fn add_sockets<'a>(
         let (Some(rx), Some(tx)) = (buffers.next(), buffers.next()) else {
             break;
         };
-        let handle = add_tcp(sockets, rx, tx, setup.rules)?;
+        let handle = add_tcp(sockets, rx, tx, setup)?;
         slots.push(Slot::new(alloc, handle))?;
     }
     match sockets.add(Socket::Udp(udp)) {
@@ -193,16 +195,17 @@ fn add_tcp<'a>(
     sockets: &mut Sockets<'a>,
     rx: &'a mut [u8],
     tx: &'a mut [u8],
-    rules: Rules,
+    setup: Setup,
 ) -> Result<SocketHandle, AllocError> {
     // a socket wants to know that
     if rx.len() > LARGE_BUFFER || tx.len() > LARGE_BUFFER {
         return Err(AllocError);
     }
     let mut socket = tcp::Socket::closed(RingBuffer::new(rx), RingBuffer::new(tx), None);
-    if rules == Rules::Rfc {
+    if setup.rules == Rules::Rfc {
         let _ = socket.set_rules(Rules::Rfc);
         socket.set_min_rto(LEAST_TIMEOUT);
+        socket.set_congestion_control(setup.congestion);
     }
     match sockets.add(Socket::Tcp(socket)) {
         Ok(handle) => Ok(handle),

@@ -34,7 +34,9 @@ lasting n = if is_short (micros_in n) then Some (micros_in n) else None
 -- the kind of congestion control with this number
 unfoldable pub control_by : ℕ → Option CongestionControl
 control_by n =
-    if n == 0 then Some congestion.None else if n == 1 then Some congestion.Reno else None
+    if n == 0 then Some congestion.None
+    else if n == 1 then Some congestion.Reno
+    else if n == 2 then Some congestion.Cubic else None
 
 -- the rules with this number
 unfoldable pub rules_by : ℕ → Option Rules

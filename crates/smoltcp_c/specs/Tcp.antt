@@ -76,6 +76,7 @@ byte_told (Some n) = pos n
 abbrev pub kind_told : CongestionControl → ℤ
 kind_told congestion.None = pos 0
 kind_told congestion.Reno = pos 1
+kind_told congestion.Cubic = pos 2
 
 abbrev pub rules_told : Rules → ℤ
 rules_told rules.Smoltcp = pos 0

@@ -84,6 +84,9 @@ fn control_by(kind: u32) -> Option<CongestionControl>
     if kind == 1 {
         return Some(CongestionControl::Reno);
     }
+    if kind == 2 {
+        return Some(CongestionControl::Cubic);
+    }
     None
 }
 
@@ -196,7 +199,7 @@ pub extern "C" fn smoltcp_tcp_pause_synack_nonnull(h: &mut TcpHandle, pause: u8)
 }
 
 /// Puts in a new controller of this kind, also where there is one of the kind: 0 for none, 1 for Reno (RFC 5681),
-/// which a new socket has. 0, or `ERROR_RANGE` for another number, where nothing changes.
+/// which a new socket has, 2 for CUBIC (RFC 9438). 0, or `ERROR_RANGE` for another number, where nothing changes.
 #[unsafe(no_mangle)]
 pub extern "C" fn smoltcp_tcp_set_congestion_control_nonnull(h: &mut TcpHandle, kind: u32) -> i64
     ensures other { control_by kind ≡ None → Refuses error_range h.old result h.new }
@@ -277,6 +280,7 @@ pub fn kind_told(kind: CongestionControl) -> i64
     match kind {
         CongestionControl::None => 0,
         CongestionControl::Reno => 1,
+        CongestionControl::Cubic => 2,
     }
 }
 

@@ -6,3 +6,4 @@ pub mod Receiving
 pub mod ReceiveBuffers
 pub mod Estimators
 pub mod Renos
+pub mod CubeRoots

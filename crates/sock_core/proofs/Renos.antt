@@ -7,12 +7,13 @@ use Rattle.sock_core.specs.Estimator.{Estimator}
 use Rattle.sock_core.specs.Reno.{RenoNumbers}
 use Rattle.sock_core.specs.declared.congestion.AnyController.{AnyController}
 use Rattle.sock_core.specs.declared.congestion.AnyController.TheVariants as controller
-use Rattle.sock_core.specs.Congestion.{bounded, growth, halved, reno_grows, reno_acked, reno_on_ack, reno_dup_acked, reno_lost, reno_timed_out, reno_with_mss, reno_with_remote_window, acked, Call, SetRemoteWindow, OnAck, OnDupAck, OnRto, OnLoss, SetMss, after_calls, AcksNothing, KeepsThreshold}
+use Rattle.sock_core.specs.Congestion.{bounded, growth, halved, reno_grows, reno_acked, reno_on_ack, reno_dup_acked, reno_lost, reno_timed_out, reno_with_mss, reno_with_remote_window, cubic_acked, acked, Call, SetRemoteWindow, OnAck, OnDupAck, OnRto, OnLoss, SetMss, after_calls, AcksNothing, KeepsThreshold}
 
 pub nothing_acked : (c : AnyController) (now : Instant) (flight : ℕ) (rtte : Estimator) → acked c now 0 flight rtte ≡ c
-unfolding acked reno_on_ack reno_acked
+unfolding acked reno_on_ack reno_acked cubic_acked
 nothing_acked (controller.None n) now flight rtte = refl
 nothing_acked (controller.Reno r) now flight rtte = refl
+nothing_acked (controller.Cubic c) now flight rtte = refl
 
 -- a call that acknowledges nothing new ends no time of timeouts
 dup_ack_stays : (r : RenoNumbers) (n : ℕ) → (reno_dup_acked r n).in_timeout ≡ r.in_timeout

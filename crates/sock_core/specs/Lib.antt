@@ -11,4 +11,6 @@ pub mod Received
 pub mod Kept
 pub mod Estimator
 pub mod Reno
+pub mod Cubic
 pub mod Congestion
+pub mod CubeRoot

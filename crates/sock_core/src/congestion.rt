@@ -1,4 +1,4 @@
-//! Congestion control: how many bytes may be in flight (RFC 5681). As smoltcp's Reno, or none.
+//! Congestion control: how many bytes may be in flight (RFC 5681). As smoltcp's Reno, CUBIC (RFC 9438), or none.
 ghost use Rattle.std.specs.Prelude.{◌≡◌, ℕ, ◌-◌, ◌^◌, ◌<◌, ◌≤◌, Bool, List};
 ghost use Rattle.sock_core.specs.Reno.{RenoNumbers};
 ghost use Rattle.sock_core.specs.Congestion.{fresh_reno, reno_acked};
@@ -9,6 +9,7 @@ ghost use Rattle.sock_core.specs.Estimator.{Estimator};
 ghost use Rattle.net_base.specs.declared.time.Instant.{Instant};
 ghost use Rattle.sock_core.specs.Congestion.{with_mss, with_remote_window, Call, AcksNothing, KeepsThreshold};
 
+pub use crate::cubic::Cubic;
 pub use crate::reno::Reno;
 use crate::rtte::RttEstimator;
 use net_base::time::Instant;
@@ -30,7 +31,7 @@ pub trait Controller {
 
     ghost after_partial_ack: { Self → Instant → ℕ → Self };
 
-    ghost after_bytes_acked: { Self → Instant → ℕ → Bool → Self };
+    ghost after_bytes_acked: { Self → Instant → ℕ → Bool → Estimator → Self };
 
     ghost after_open: { Self → ℕ → Self };
 
@@ -67,8 +68,8 @@ pub trait Controller {
 
     /// An acknowledgement of `len` new bytes came, and the window is to grow by bytes, not by acknowledgements (RFC
     /// 3465). `careful` says that not all that was sent before a timeout is acknowledged yet.
-    fn on_bytes_acked(&mut self, now: Instant, len: usize, careful: bool)
-        ensures { self.new ≡ after_bytes_acked self.old now len careful };
+    fn on_bytes_acked(&mut self, now: Instant, len: usize, careful: bool, rtt: &RttEstimator)
+        ensures { self.new ≡ after_bytes_acked self.old now len careful rtt.now };
 
     /// A connection was opened to a peer with this maximum segment size: the initial window is that of RFC 6928.
     fn open(&mut self, mss: usize)
@@ -108,13 +109,15 @@ pub trait Controller {
 #[derive(Debug, Clone, Copy)]
 pub struct NoControl;
 
-/// A controller of either kind.
+/// A controller of any kind.
 #[derive(Debug, Clone, Copy)]
 pub enum AnyController {
     /// No congestion control.
     None(NoControl),
     /// Reno.
     Reno(Reno),
+    /// CUBIC.
+    Cubic(Cubic),
 }
 
 impl AnyController {
@@ -133,6 +136,7 @@ impl AnyController {
         match self {
             AnyController::None(none) => none.window(),
             AnyController::Reno(reno) => reno.recovery_window(),
+            AnyController::Cubic(cubic) => cubic.recovery_window(),
         }
     }
 
@@ -143,6 +147,7 @@ impl AnyController {
         match self {
             AnyController::None(_) => usize::MAX,
             AnyController::Reno(reno) => reno.ssthresh(),
+            AnyController::Cubic(cubic) => cubic.ssthresh(),
         }
     }
 
@@ -155,6 +160,7 @@ impl AnyController {
         match self {
             AnyController::None(_) => {}
             AnyController::Reno(reno) => reno.undo(window, threshold),
+            AnyController::Cubic(cubic) => cubic.undo(window, threshold),
         }
     }
 }
@@ -183,7 +189,7 @@ impl Controller for NoControl {
 
     ghost after_partial_ack = { λ c now len. c };
 
-    ghost after_bytes_acked = { λ c now len careful. c };
+    ghost after_bytes_acked = { λ c now len careful rtt. c };
 
     ghost after_open = { λ c mss. c };
 
@@ -211,7 +217,7 @@ impl Controller for NoControl {
 
     fn on_partial_ack(&mut self, _now: Instant, _len: usize) {}
 
-    fn on_bytes_acked(&mut self, _now: Instant, _len: usize, _careful: bool) {}
+    fn on_bytes_acked(&mut self, _now: Instant, _len: usize, _careful: bool, _rtt: &RttEstimator) {}
 
     fn open(&mut self, _mss: usize) {}
 
@@ -261,6 +267,7 @@ impl Controller for AnyController {
         match self {
             AnyController::None(none) => none.window(),
             AnyController::Reno(reno) => reno.window(),
+            AnyController::Cubic(cubic) => cubic.window(),
         }
     }
 
@@ -269,6 +276,7 @@ impl Controller for AnyController {
         match self {
             AnyController::None(none) => none.set_remote_window(remote_window),
             AnyController::Reno(reno) => reno.set_remote_window(remote_window),
+            AnyController::Cubic(cubic) => cubic.set_remote_window(remote_window),
         }
     }
 
@@ -277,6 +285,7 @@ impl Controller for AnyController {
         match self {
             AnyController::None(none) => none.on_ack(now, len, in_flight, rtt),
             AnyController::Reno(reno) => reno.on_ack(now, len, in_flight, rtt),
+            AnyController::Cubic(cubic) => cubic.on_ack(now, len, in_flight, rtt),
         }
     }
 
@@ -285,14 +294,16 @@ impl Controller for AnyController {
         match self {
             AnyController::None(none) => none.on_partial_ack(now, len),
             AnyController::Reno(reno) => reno.on_partial_ack(now, len),
+            AnyController::Cubic(cubic) => cubic.on_partial_ack(now, len),
         }
     }
 
     #[tactic(auto, unfolding(crate::specs::Congestion::bytes_acked))]
-    fn on_bytes_acked(&mut self, now: Instant, len: usize, careful: bool) {
+    fn on_bytes_acked(&mut self, now: Instant, len: usize, careful: bool, rtt: &RttEstimator) {
         match self {
-            AnyController::None(none) => none.on_bytes_acked(now, len, careful),
-            AnyController::Reno(reno) => reno.on_bytes_acked(now, len, careful),
+            AnyController::None(none) => none.on_bytes_acked(now, len, careful, rtt),
+            AnyController::Reno(reno) => reno.on_bytes_acked(now, len, careful, rtt),
+            AnyController::Cubic(cubic) => cubic.on_bytes_acked(now, len, careful, rtt),
         }
     }
 
@@ -301,6 +312,7 @@ impl Controller for AnyController {
         match self {
             AnyController::None(none) => none.open(mss),
             AnyController::Reno(reno) => reno.open(mss),
+            AnyController::Cubic(cubic) => cubic.open(mss),
         }
     }
 
@@ -309,6 +321,7 @@ impl Controller for AnyController {
         match self {
             AnyController::None(none) => none.restart(),
             AnyController::Reno(reno) => reno.restart(),
+            AnyController::Cubic(cubic) => cubic.restart(),
         }
     }
 
@@ -317,6 +330,7 @@ impl Controller for AnyController {
         match self {
             AnyController::None(none) => none.on_dup_ack(now, len, in_flight),
             AnyController::Reno(reno) => reno.on_dup_ack(now, len, in_flight),
+            AnyController::Cubic(cubic) => cubic.on_dup_ack(now, len, in_flight),
         }
     }
 
@@ -325,6 +339,7 @@ impl Controller for AnyController {
         match self {
             AnyController::None(none) => none.on_rto(now, in_flight),
             AnyController::Reno(reno) => reno.on_rto(now, in_flight),
+            AnyController::Cubic(cubic) => cubic.on_rto(now, in_flight),
         }
     }
 
@@ -333,6 +348,7 @@ impl Controller for AnyController {
         match self {
             AnyController::None(none) => none.on_loss(now, in_flight),
             AnyController::Reno(reno) => reno.on_loss(now, in_flight),
+            AnyController::Cubic(cubic) => cubic.on_loss(now, in_flight),
         }
     }
 
@@ -341,6 +357,7 @@ impl Controller for AnyController {
         match self {
             AnyController::None(none) => none.pre_transmit(now),
             AnyController::Reno(reno) => reno.pre_transmit(now),
+            AnyController::Cubic(cubic) => cubic.pre_transmit(now),
         }
     }
 
@@ -349,6 +366,7 @@ impl Controller for AnyController {
         match self {
             AnyController::None(none) => none.post_transmit(now, len),
             AnyController::Reno(reno) => reno.post_transmit(now, len),
+            AnyController::Cubic(cubic) => cubic.post_transmit(now, len),
         }
     }
 
@@ -357,6 +375,7 @@ impl Controller for AnyController {
         match self {
             AnyController::None(none) => none.set_mss(mss),
             AnyController::Reno(reno) => reno.set_mss(mss),
+            AnyController::Cubic(cubic) => cubic.set_mss(mss),
         }
     }
 }

@@ -1,11 +1,12 @@
 //! Reno (RFC 5681), as smoltcp's, and the window by bytes (RFC 3465) and at the opening (RFC 6928).
-ghost use Rattle.std.specs.Prelude.{◌≡◌};
+ghost use Rattle.std.specs.Prelude.{◌≡◌, ◌||◌, not, nat_lt};
 ghost use Rattle.sock_core.specs.Congestion.{bounded, capped, deflated, fresh_reno, growth, growth_in_bytes, halved};
 ghost use Rattle.sock_core.specs.Congestion.{initial_window, most_growth, reno_acked, reno_counted, reno_grows};
 ghost use Rattle.sock_core.specs.Congestion.{reno_on_ack, reno_on_bytes_acked, reno_on_dup_ack, reno_on_loss};
 ghost use Rattle.sock_core.specs.Congestion.{reno_on_partial_ack, reno_on_rto, reno_opened, reno_partially_acked};
 ghost use Rattle.sock_core.specs.Congestion.{reno_restarted, reno_undone};
-ghost use Rattle.sock_core.specs.Congestion.{reno_post_transmit, reno_recovery_window};
+ghost use Rattle.sock_core.specs.Congestion.{reno_begins_anew, reno_post_transmit, reno_recovers, reno_recovery_window};
+ghost use Rattle.sock_core.specs.Congestion.{step_towards};
 ghost use Rattle.sock_core.specs.Congestion.{reno_pre_transmit, reno_with_mss, reno_with_remote_window};
 
 use crate::congestion::Controller;
@@ -93,6 +94,59 @@ impl Reno {
         self.in_recovery = false;
     }
 
+    /// The maximum segment size.
+    pub(crate) fn mss(&self) -> usize
+        ensures { result ≡ self.now.mss }
+    {
+        self.mss
+    }
+
+    /// Whether it is in a fast recovery.
+    pub(crate) fn recovers(&self) -> bool
+        ensures { result ≡ self.now.in_recovery }
+    {
+        self.in_recovery
+    }
+
+    /// Whether it is in congestion avoidance.
+    pub(crate) fn avoids(&self) -> bool
+        ensures { result ≡ not (self.now.in_recovery || nat_lt self.now.cwnd self.now.ssthresh) }
+    {
+        !(self.in_recovery || self.cwnd < self.ssthresh)
+    }
+
+    /// How far `len` acknowledged bytes of a window of them lead towards a larger one (RFC 9438, section 4.4).
+    pub(crate) fn step_towards(&self, target: u64, len: usize) -> usize
+        ensures { result ≡ step_towards self.now target len }
+    {
+        let most = self.cwnd.saturating_add(self.cwnd / 2) as u64;
+        let further = target.min(most).saturating_sub(self.cwnd as u64) as usize;
+        further.saturating_mul(len.min(self.cwnd)) / self.cwnd.max(1)
+    }
+
+    /// A fast recovery begins, with this threshold.
+    pub(crate) fn recover(&mut self, threshold: usize)
+        ensures { self.new ≡ reno_recovers self.old threshold }
+    {
+        self.ssthresh = threshold;
+        self.cwnd = threshold
+            .min(self.rwnd)
+            .saturating_add(self.mss.saturating_mul(3));
+        self.in_recovery = true;
+    }
+
+    /// A timeout: sending begins anew with a segment, and where it is the first one with this threshold.
+    pub(crate) fn begin_anew(&mut self, threshold: usize)
+        ensures { self.new ≡ reno_begins_anew self.old threshold }
+    {
+        if !self.in_timeout {
+            self.ssthresh = threshold;
+        }
+        self.cwnd = self.mss;
+        self.in_timeout = true;
+        self.in_recovery = false;
+    }
+
     // At most the peer's window, and at least a segment.
     fn bounded(&self, window: usize) -> usize
         ensures { result ≡ bounded self.now window }
@@ -101,7 +155,7 @@ impl Reno {
     }
 
     // How far an acknowledgement of `len` bytes opens the window.
-    fn growth(&self, len: usize) -> usize
+    pub(crate) fn growth(&self, len: usize) -> usize
         ensures { result ≡ growth self.now len }
     {
         if self.cwnd < self.ssthresh {
@@ -112,7 +166,7 @@ impl Reno {
     }
 
     // How far the window opens, counted in bytes (RFC 3465, sections 2.1 and 2.3; RFC 9406, section 4.2).
-    fn growth_in_bytes(&self, len: usize, careful: bool) -> usize
+    pub(crate) fn growth_in_bytes(&self, len: usize, careful: bool) -> usize
         ensures { result ≡ growth_in_bytes self.now len careful }
     {
         if self.cwnd < self.ssthresh {
@@ -172,7 +226,7 @@ impl Reno {
     }
 
     // Bytes are acknowledged, which ends a time of timeouts and a fast recovery, and opens the window so far.
-    fn grow(&mut self, more: usize)
+    pub(crate) fn grow(&mut self, more: usize)
         ensures { self.new ≡ reno_grows self.old more }
     {
         self.cwnd = if self.in_recovery {
@@ -215,7 +269,7 @@ impl Controller for Reno {
 
     ghost after_partial_ack = { reno_on_partial_ack };
 
-    ghost after_bytes_acked = { reno_on_bytes_acked };
+    ghost after_bytes_acked = { λ r now len careful rtt. reno_on_bytes_acked r now len careful };
 
     ghost after_open = { reno_opened };
 
@@ -252,7 +306,7 @@ impl Controller for Reno {
     }
 
     #[tactic(auto, unfolding(crate::specs::Congestion::reno_on_bytes_acked))]
-    fn on_bytes_acked(&mut self, _now: Instant, len: usize, careful: bool) {
+    fn on_bytes_acked(&mut self, _now: Instant, len: usize, careful: bool, _rtt: &RttEstimator) {
         self.count(len, careful);
     }
 
@@ -276,12 +330,7 @@ impl Controller for Reno {
 
     #[tactic(auto, unfolding(crate::specs::Congestion::reno_on_rto, crate::specs::Congestion::reno_timed_out))]
     fn on_rto(&mut self, _now: Instant, in_flight: usize) {
-        if !self.in_timeout {
-            self.ssthresh = self.halved(in_flight);
-        }
-        self.cwnd = self.mss;
-        self.in_timeout = true;
-        self.in_recovery = false;
+        self.begin_anew(self.halved(in_flight));
     }
 
     #[tactic(auto, unfolding(crate::specs::Congestion::reno_on_loss, crate::specs::Congestion::reno_lost))]
@@ -289,12 +338,7 @@ impl Controller for Reno {
         if self.in_recovery {
             return;
         }
-        let ssthresh = self.halved(in_flight);
-        self.ssthresh = ssthresh;
-        self.cwnd = ssthresh
-            .min(self.rwnd)
-            .saturating_add(self.mss.saturating_mul(3));
-        self.in_recovery = true;
+        self.recover(self.halved(in_flight));
     }
 
     #[tactic(auto, unfolding(crate::specs::Congestion::reno_pre_transmit))]

@@ -9,7 +9,7 @@ use crate::control_block::ControlBlock;
 use crate::socket::Socket;
 use crate::timer::Timer;
 use net_base::time::{Duration, Instant};
-use sock_core::congestion::{AnyController, NoControl, Reno};
+use sock_core::congestion::{AnyController, Cubic, NoControl, Reno};
 
 /// The kinds of congestion control.
 #[derive(Debug, Clone, Copy, PartialEq, Eq)]
@@ -18,6 +18,8 @@ pub enum CongestionControl {
     None,
     /// Reno (RFC 5681).
     Reno,
+    /// CUBIC (RFC 9438).
+    Cubic,
 }
 
 // The longest that the lowest retransmission timeout may be, in milliseconds.
@@ -39,6 +41,7 @@ impl CongestionControl {
         match self {
             CongestionControl::None => AnyController::None(NoControl),
             CongestionControl::Reno => AnyController::Reno(Reno::new()),
+            CongestionControl::Cubic => AnyController::Cubic(Cubic::new()),
         }
     }
 }
@@ -50,6 +53,7 @@ impl<'a> ControlBlock<'a> {
         match self.congestion_controller {
             AnyController::None(_) => CongestionControl::None,
             AnyController::Reno(_) => CongestionControl::Reno,
+            AnyController::Cubic(_) => CongestionControl::Cubic,
         }
     }
 

@@ -124,6 +124,7 @@ fn tcp_settings(socket: &tcp::Socket<'_, Clock>, line: &mut Line) {
     let congestion = match socket.congestion_control() {
         tcp::CongestionControl::None => "none",
         tcp::CongestionControl::Reno => "reno",
+        tcp::CongestionControl::Cubic => "cubic",
     };
     line.put(
         " timeout % ack-delay % keep-alive %",

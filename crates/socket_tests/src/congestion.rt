@@ -1,6 +1,6 @@
-//! Timeouts in milliseconds, and Reno's windows and thresholds.
+//! Timeouts in milliseconds, and windows and thresholds of Reno and CUBIC.
 use net_base::time::Instant;
-use sock_core::congestion::{Controller, Reno};
+use sock_core::congestion::{Controller, Cubic, Reno};
 use sock_core::rtte::RttEstimator;
 use std::test::Fail;
 
@@ -86,5 +86,53 @@ fn reno_growth_and_loss(rt: HostRuntime) -> Result<(), Fail> {
     assert!(rt; ack(&mut reno, 0) == 32768);
     assert!(rt; lose(&mut reno, 16384) == (8192, 11264));
     assert!(rt; hear_again(&mut reno) == 12288);
+    Ok(())
+}
+
+// CUBIC over segments of 1000 bytes, after a loss with this many bytes in flight and the recovery from it.
+fn cubic(in_flight: usize) -> Cubic {
+    let mut cubic = Cubic::new();
+    cubic.set_mss(1000);
+    cubic.set_remote_window(1000000);
+    lose_of(&mut cubic, in_flight);
+    ack(&mut cubic, 1000);
+    cubic
+}
+
+fn lose_of(cubic: &mut Cubic, in_flight: usize) {
+    cubic.on_loss(NOW, in_flight);
+}
+
+// The window once a whole one is acknowledged, so many milliseconds after the start.
+fn acked_at(cubic: &mut Cubic, millis: u64) -> usize {
+    let now = Instant { micros: millis as i64 * 1000 };
+    let len = cubic.window();
+    cubic.on_ack(now, len, 0, &RttEstimator::default());
+    cubic.window()
+}
+
+// The threshold is 0.7 of 100 segments (RFC 9438, section 4.6). At first W_est is beyond W_cubic, 9/17 of a segment more
+// (section 4.3); after K, the cube root of 30 / 0.4, which is 4.217 s, the window is what it was (section 4.2), and two
+// seconds later 0.4 * 8 segments more.
+#[test]
+fn cubic_returns_to_where_it_was(rt: HostRuntime) -> Result<(), Fail> {
+    let mut cubic = cubic(100000);
+    assert!(rt; (cubic.ssthresh(), cubic.window()) == (70000, 70000));
+    assert!(rt; acked_at(&mut cubic, 0) == 70529);
+    assert!(rt; acked_at(&mut cubic, 4217) == 100000);
+    assert!(rt; acked_at(&mut cubic, 6217) == 103200);
+    Ok(())
+}
+
+// A loss at less than before, 80 segments, leaves 0.85 of them for W_max (section 4.7), where the window is after the
+// cube root of 12 / 0.4, 3.107 s.
+#[test]
+fn cubic_gives_way(rt: HostRuntime) -> Result<(), Fail> {
+    let mut cubic = cubic(100000);
+    lose_of(&mut cubic, 80000);
+    ack(&mut cubic, 1000);
+    assert!(rt; (cubic.ssthresh(), cubic.window()) == (56000, 56000));
+    acked_at(&mut cubic, 0);
+    assert!(rt; acked_at(&mut cubic, 3107) == 68000);
     Ok(())
 }

@@ -1,5 +1,5 @@
 -- What holds between any two calls of SND.UNA, SND.NXT, the transmit queue and the timer, by state.
-use Rattle.std.proofs.Common.{◌≡◌, ℕ, ◌+◌, ◌-◌, ◌*◌, ◌<◌, ◌≤◌, ◌^◌, Bool, true, false, refl, Option, Some, None, is_some, length, arith}
+use Rattle.std.proofs.Common.{◌≡◌, ℕ, ◌+◌, ◌-◌, ◌*◌, ◌<◌, ◌≤◌, ◌^◌, Bool, true, false, ◌||◌, nat_lt, refl, sym, subst, Option, Some, None, is_some, length, arith}
 use Rattle.std.specs.Prelude.{if◌then◌else◌, ◌==◌, max, min}
 use Rattle.net_base.specs.declared.time.Duration.{Duration}
 use Rattle.net_base.specs.declared.time.Instant.{Instant}
@@ -7,6 +7,7 @@ use Rattle.control_wire.specs.Seq.{seq_sub}
 use Rattle.control_wire.specs.declared.seq_number.TcpSeqNumber.{TcpSeqNumber}
 use Rattle.sock_core.specs.Congestion as congestion
 use Rattle.sock_core.specs.Estimator.{Estimator}
+use Rattle.sock_core.specs.Cubic.{CubicNumbers}
 use Rattle.sock_core.specs.Reno.{RenoNumbers}
 use Rattle.sock_core.specs.Seq.{is_before, later_of}
 use Rattle.sock_core.specs.declared.congestion.AnyController.{AnyController}
@@ -77,6 +78,7 @@ pub record RenoOpen (r : RenoNumbers) : Type 0 where
 abbrev pub IsOpen : AnyController → Type 0
 IsOpen (controller.None n) = Unit {0}
 IsOpen (controller.Reno r) = RenoOpen r
+IsOpen (controller.Cubic c) = RenoOpen c.reno
 
 pub record Ordered (st : State) (t : Timer) (keep : Option Duration) (peer : Option Tuple) (una nxt : TcpSeqNumber) (q : Queue) (c : AnyController) : Type 0 where
   pub una_small : una.0 < 2 ^ 32
@@ -236,79 +238,136 @@ module _ (r : RenoNumbers) (h : RenoOpen r) where
       go true = record { cwnd = bounded_open (r.cwnd + n); mss = h.mss; ssthresh = h.ssthresh }
       go false = h
 
+  reno_recovers_open : (threshold : ℕ) → 0 < threshold → RenoOpen (congestion.reno_recovers r threshold)
+  reno_recovers_open threshold p = record { cwnd = omega (arith, h.mss); mss = h.mss; ssthresh = p }
+
   reno_lost_open : (flight : ℕ) → RenoOpen (congestion.reno_lost r flight)
   unfolding congestion.reno_lost
   reno_lost_open flight = go r.in_recovery
     where
-      go : (b : Bool) → RenoOpen (if b then r else record r { ssthresh = congestion.halved r flight; cwnd = congestion.capped (min (congestion.halved r flight) r.rwnd + congestion.capped (r.mss * 3)); in_recovery = true })
+      go : (b : Bool) → RenoOpen (if b then r else congestion.reno_recovers r (congestion.halved r flight))
       go true = h
-      go false = record { cwnd = omega (arith, h.mss); mss = h.mss; ssthresh = halved_open flight }
+      go false = reno_recovers_open (congestion.halved r flight) (halved_open flight)
+
+  reno_begins_anew_open : (threshold : ℕ) → 0 < threshold → RenoOpen (congestion.reno_begins_anew r threshold)
+  reno_begins_anew_open threshold p = record { cwnd = h.mss; mss = h.mss; ssthresh = go r.in_timeout }
+    where
+      go : (b : Bool) → 0 < (if b then r.ssthresh else threshold)
+      go true = h.ssthresh
+      go false = p
 
   reno_timed_out_open : (flight : ℕ) → RenoOpen (congestion.reno_timed_out r flight)
   unfolding congestion.reno_timed_out
-  reno_timed_out_open flight = record { cwnd = h.mss; mss = h.mss; ssthresh = go r.in_timeout }
-    where
-      go : (b : Bool) → 0 < (if b then r.ssthresh else congestion.halved r flight)
-      go true = h.ssthresh
-      go false = halved_open flight
+  reno_timed_out_open flight = reno_begins_anew_open (congestion.halved r flight) (halved_open flight)
+
+  reno_restarted_open : RenoOpen (congestion.reno_restarted r)
+  unfolding congestion.reno_restarted
+  reno_restarted_open = record { cwnd = omega (arith, h.cwnd, h.mss); mss = h.mss; ssthresh = h.ssthresh }
 
   reno_undone_open : (n m : ℕ) → RenoOpen (congestion.reno_undone r n m)
   unfolding congestion.reno_undone
   reno_undone_open n m = record { cwnd = omega (arith, h.cwnd); mss = h.mss; ssthresh = omega (arith, h.ssthresh) }
 
+module _ (c : CubicNumbers) (h : RenoOpen c.reno) where
+  -- an epoch's beginning leaves Reno's numbers alone
+  same_reno : (now : Instant) → (congestion.epoch_begun c now).reno ≡ c.reno
+  same_reno now = go (c.w_est == 0)
+    where
+      begun : CubicNumbers
+      begun = record c { w_max = max c.w_max (congestion.short c.reno.cwnd); w_est = congestion.short c.reno.cwnd; epoch = now; k = congestion.time_to_rise c.reno.mss (c.w_max - congestion.short c.reno.cwnd) }
+
+      go : (b : Bool) → (if b then begun else c).reno ≡ c.reno
+      go true = refl
+      go false = refl
+
+  cubic_grows_open : (b : Bool) (now : Instant) (n more : ℕ) (rtte : Estimator) → RenoOpen (if b then c else congestion.cubic_grows c now n more rtte).reno
+  cubic_grows_open true now n more rtte = h
+  cubic_grows_open false now n more rtte = by (c.reno.in_recovery || nat_lt c.reno.cwnd c.reno.ssthresh)
+    where
+      open_begun : RenoOpen (congestion.epoch_begun c now).reno
+      open_begun = subst RenoOpen (sym (same_reno now)) h
+
+      by : (b : Bool) → RenoOpen (if b then record c { reno = congestion.reno_grows c.reno more } else congestion.cubic_avoided c now n rtte).reno
+      by true = reno_grows_open c.reno h false more
+      by false = reno_grows_open (congestion.epoch_begun c now).reno open_begun false _
+
+  reduced_open : (flight : ℕ) → 0 < congestion.reduced c flight
+  reduced_open flight = omega (arith, h.mss)
+
+  cubic_lost_open : (flight : ℕ) → RenoOpen (congestion.cubic_lost c flight).reno
+  unfolding congestion.cubic_lost
+  cubic_lost_open flight = go c.reno.in_recovery
+    where
+      lost : CubicNumbers
+      lost = record c { reno = congestion.reno_recovers c.reno (congestion.reduced c flight); w_max = congestion.converged c flight; w_est = 0 }
+
+      go : (b : Bool) → RenoOpen (if b then c else lost).reno
+      go true = h
+      go false = reno_recovers_open c.reno h (congestion.reduced c flight) (reduced_open flight)
+
 pub acked_open : (c : AnyController) (now : Instant) (n flight : ℕ) (rtte : Estimator) → IsOpen c → IsOpen (congestion.acked c now n flight rtte)
-unfolding congestion.acked congestion.reno_on_ack
+unfolding congestion.acked congestion.reno_on_ack congestion.cubic_acked
 acked_open (controller.None x) now n flight rtte h = tt
 acked_open (controller.Reno r) now n flight rtte h = reno_acked_open r h n
+acked_open (controller.Cubic c) now n flight rtte h = cubic_grows_open c h (n == 0) now n (congestion.growth c.reno n) rtte
 
-pub bytes_acked_open : (c : AnyController) (now : Instant) (n : ℕ) (careful : Bool) → IsOpen c → IsOpen (congestion.bytes_acked c now n careful)
-unfolding congestion.bytes_acked congestion.reno_on_bytes_acked
-bytes_acked_open (controller.None x) now n careful h = tt
-bytes_acked_open (controller.Reno r) now n careful h = reno_counted_open r h n careful
+pub bytes_acked_open : (c : AnyController) (now : Instant) (n : ℕ) (careful : Bool) (rtte : Estimator) → IsOpen c → IsOpen (congestion.bytes_acked c now n careful rtte)
+unfolding congestion.bytes_acked congestion.reno_on_bytes_acked congestion.cubic_counted
+bytes_acked_open (controller.None x) now n careful rtte h = tt
+bytes_acked_open (controller.Reno r) now n careful rtte h = reno_counted_open r h n careful
+bytes_acked_open (controller.Cubic c) now n careful rtte h = cubic_grows_open c h (n == 0) now n (congestion.growth_in_bytes c.reno n careful) rtte
 
 pub opened_open : (c : AnyController) (mss : ℕ) → IsOpen c → IsOpen (congestion.opened c mss)
-unfolding congestion.opened
+unfolding congestion.opened congestion.cubic_opened
 opened_open (controller.None x) mss h = tt
 opened_open (controller.Reno r) mss h = reno_opened_open r h mss
+opened_open (controller.Cubic c) mss h = reno_opened_open c.reno h mss
 
 pub partially_acked_open : (c : AnyController) (now : Instant) (n : ℕ) → IsOpen c → IsOpen (congestion.partially_acked c now n)
-unfolding congestion.partially_acked congestion.reno_on_partial_ack
+unfolding congestion.partially_acked congestion.reno_on_partial_ack congestion.cubic_partially_acked
 partially_acked_open (controller.None x) now n h = tt
 partially_acked_open (controller.Reno r) now n h = reno_partially_open r h n
+partially_acked_open (controller.Cubic c) now n h = reno_partially_open c.reno h n
 
 pub dup_acked_open : (c : AnyController) (now : Instant) (n flight : ℕ) → IsOpen c → IsOpen (congestion.dup_acked c now n flight)
 unfolding congestion.dup_acked congestion.reno_on_dup_ack
 dup_acked_open (controller.None x) now n flight h = tt
 dup_acked_open (controller.Reno r) now n flight h = reno_dup_open r h n
+dup_acked_open (controller.Cubic c) now n flight h = reno_dup_open c.reno h n
 
 pub lost_open : (c : AnyController) (now : Instant) (n : ℕ) → IsOpen c → IsOpen (congestion.lost c now n)
 unfolding congestion.lost congestion.reno_on_loss
 lost_open (controller.None x) now n h = tt
 lost_open (controller.Reno r) now n h = reno_lost_open r h n
+lost_open (controller.Cubic c) now n h = cubic_lost_open c h n
 
 pub timed_out_open : (c : AnyController) (now : Instant) (n : ℕ) → IsOpen c → IsOpen (congestion.timed_out c now n)
-unfolding congestion.timed_out congestion.reno_on_rto
+unfolding congestion.timed_out congestion.reno_on_rto congestion.cubic_timed_out
 timed_out_open (controller.None x) now n h = tt
 timed_out_open (controller.Reno r) now n h = reno_timed_out_open r h n
+timed_out_open (controller.Cubic c) now n h = reno_begins_anew_open c.reno h (congestion.reduced c n) (reduced_open c h n)
 
 pub undone_open : (c : AnyController) (n m : ℕ) → IsOpen c → IsOpen (congestion.undone c n m)
-unfolding congestion.undone
+unfolding congestion.undone congestion.cubic_undone
 undone_open (controller.None x) n m h = tt
 undone_open (controller.Reno r) n m h = reno_undone_open r h n m
+undone_open (controller.Cubic c) n m h = reno_undone_open c.reno h n m
 
 pub pre_transmitted_open : (c : AnyController) (now : Instant) → IsOpen c → IsOpen (congestion.pre_transmitted c now)
 unfolding congestion.pre_transmitted congestion.reno_pre_transmit
 pre_transmitted_open (controller.None x) now h = tt
 pre_transmitted_open (controller.Reno r) now h = h
+pre_transmitted_open (controller.Cubic c) now h = h
 
 pub restarted_open : (r : Rules) (at : Option Instant) (now : Instant) (c : AnyController) → IsOpen c → IsOpen (restarted_by r at now c)
-unfolding congestion.restarted congestion.reno_restarted
+unfolding congestion.restarted congestion.cubic_restarted
 restarted_open rules.Smoltcp at now c h = h
 restarted_open rules.Rfc at now c h = by (was_idle at now)
   where
     restarts : (c : AnyController) → IsOpen c → IsOpen (congestion.restarted c)
     restarts (controller.None x) h = tt
-    restarts (controller.Reno r) h = record { cwnd = omega (arith, h.cwnd, h.mss); mss = h.mss; ssthresh = h.ssthresh }
+    restarts (controller.Reno r) h = reno_restarted_open r h
+    restarts (controller.Cubic c) h = reno_restarted_open c.reno h
 
     by : (b : Bool) → IsOpen (if b then congestion.restarted c else c)
     by true = restarts c h
@@ -318,16 +377,19 @@ pub post_transmitted_open : (c : AnyController) (now : Instant) (n : ℕ) → Is
 unfolding congestion.post_transmitted congestion.reno_post_transmit
 post_transmitted_open (controller.None x) now n h = tt
 post_transmitted_open (controller.Reno r) now n h = h
+post_transmitted_open (controller.Cubic c) now n h = h
 
 pub window_open : (c : AnyController) (n : ℕ) → IsOpen c → IsOpen (congestion.with_remote_window c n)
 unfolding congestion.with_remote_window
 window_open (controller.None x) n h = tt
 window_open (controller.Reno r) n h = record { cwnd = h.cwnd; mss = h.mss; ssthresh = h.ssthresh }
+window_open (controller.Cubic c) n h = record { cwnd = h.cwnd; mss = h.mss; ssthresh = h.ssthresh }
 
 mss_open : (c : AnyController) (n : ℕ) → IsOpen c → IsOpen (congestion.with_mss c (max n 48))
 unfolding congestion.with_mss
 mss_open (controller.None x) n h = tt
 mss_open (controller.Reno r) n h = record { cwnd = h.cwnd; mss = omega arith; ssthresh = h.ssthresh }
+mss_open (controller.Cubic c) n h = record { cwnd = h.cwnd; mss = omega arith; ssthresh = h.ssthresh }
 
 pub taken_open : (c : AnyController) (o : Option ℕ) → IsOpen c → IsOpen (controller_taken c o)
 taken_open c None h = h
@@ -340,3 +402,4 @@ taken_open c (Some n) h = go (n == 0)
 pub kind_open : (k : CongestionControl) → IsOpen (of_kind k)
 kind_open kind.None = tt
 kind_open kind.Reno = record { cwnd = omega arith; mss = omega arith; ssthresh = omega arith }
+kind_open kind.Cubic = record { cwnd = omega arith; mss = omega arith; ssthresh = omega arith }

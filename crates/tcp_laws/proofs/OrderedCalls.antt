@@ -278,22 +278,27 @@ none_is (Some t) e = absurd cc
 abbrev cwnd_of : AnyController → ℕ
 cwnd_of (controller.None x) = 1
 cwnd_of (controller.Reno r) = r.cwnd
+cwnd_of (controller.Cubic c) = c.reno.cwnd
 
 abbrev mss_of : AnyController → ℕ
 mss_of (controller.None x) = 1
 mss_of (controller.Reno r) = r.mss
+mss_of (controller.Cubic c) = c.reno.mss
 
 abbrev ssthresh_of : AnyController → ℕ
 ssthresh_of (controller.None x) = 1
 ssthresh_of (controller.Reno r) = r.ssthresh
+ssthresh_of (controller.Cubic c) = c.reno.ssthresh
 
 open_numbers : (c : AnyController) → IsOpen c → (0 < cwnd_of c) × (0 < mss_of c) × (0 < ssthresh_of c)
 open_numbers (controller.None x) h = (omega arith, omega arith, omega arith)
 open_numbers (controller.Reno r) h = (h.cwnd, h.mss, h.ssthresh)
+open_numbers (controller.Cubic c) h = (h.cwnd, h.mss, h.ssthresh)
 
 open_by : (c : AnyController) → 0 < cwnd_of c → 0 < mss_of c → 0 < ssthresh_of c → IsOpen c
 open_by (controller.None x) a b d = tt
 open_by (controller.Reno r) a b d = record { cwnd = a; mss = b; ssthresh = d }
+open_by (controller.Cubic c) a b d = record { cwnd = a; mss = b; ssthresh = d }
 
 module _ (v w : View) (h : IsOrdered v) where
   setting_ordered : Sets v w → IsOrdered w

@@ -462,7 +462,7 @@ module _ (now : Instant) (word : ℕ) (ip : IpRepr) (s : Segment) (small : word 
 
       told : (o n : Bool) → IsOpen (if o then opened w.congestion_controller w.remote_mss else (if n then told_of_count b w now (told_repaired b w now) else w.congestion_controller))
       told true n = opened_open w.congestion_controller w.remote_mss i
-      told false true = bytes_acked_open _ now _ (is_timed_out b.recovery) (repaired (is_repaired b w))
+      told false true = bytes_acked_open _ now _ (is_timed_out b.recovery) w.rtte (repaired (is_repaired b w))
       told false false = i
 
       by : (p o g : Bool) → IsOpen (if p then partially_acked (before_it b w) now (seq_sub w.local_seq_no b.una) else (if o then before_it b w else (if g then dup_acked w.congestion_controller now w.remote_mss (flight_of w) else told_of_bytes b w now)))

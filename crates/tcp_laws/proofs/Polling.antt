@@ -91,6 +91,7 @@ same_pre_transmitted : (c : AnyController) (now : Instant) → pre_transmitted c
 unfolding pre_transmitted reno_pre_transmit
 same_pre_transmitted (controller.None n) now = refl
 same_pre_transmitted (controller.Reno r) now = refl
+same_pre_transmitted (controller.Cubic c) now = refl
 
 same_readied : (v : View) (now : Instant) → is_none v.remote_last_ts ≡ false → readied v now ≡ v
 unfolding readied last_ts_set

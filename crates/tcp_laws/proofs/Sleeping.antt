@@ -6,8 +6,9 @@ use Rattle.std.proofs.lemmas.Option.{none-some}
 use Rattle.net_base.specs.declared.time.Duration.{Duration}
 use Rattle.net_base.specs.declared.time.Instant.{Instant}
 use Rattle.control_wire.specs.Seq.{seq_add}
-use Rattle.sock_core.specs.Congestion.{bounded, recovery_window, congestion_window}
+use Rattle.sock_core.specs.Congestion.{bounded, recovery_window, reno_recovery_window, congestion_window}
 use Rattle.sock_core.specs.Facts.{Facts}
+use Rattle.sock_core.specs.Reno.{RenoNumbers}
 use Rattle.sock_core.specs.declared.congestion.AnyController.{AnyController}
 use Rattle.sock_core.specs.declared.congestion.AnyController.TheVariants as controller
 use Rattle.sock_core.specs.declared.context.PollAt.{PollAt}
@@ -30,7 +31,7 @@ use Rattle.sock_tcp.specs.declared.timer.Timer.{Timer}
 use Rattle.sock_tcp.specs.declared.timer.Timer.TheVariants as timer
 use Rattle.sock_tcp.specs.declared.tuple.Tuple.{Tuple}
 use Rattle.tcp_laws.specs.Waking.{HasToSend, WaitsSmall}
-use Rattle.tcp_laws.proofs.Ordered.{IsOpen, IsOrdered, IsPeeredIn, Row}
+use Rattle.tcp_laws.proofs.Ordered.{IsOpen, IsOrdered, IsPeeredIn, RenoOpen, Row}
 use Rattle.tcp_laws.proofs.OrderedCalls.{reached_ordered}
 
 -- ---- what `Ingress` says
@@ -212,14 +213,19 @@ fin_due v t f o hu hn z n e =
 open_window : (c : AnyController) → IsOpen c → 0 < congestion_window c
 open_window (controller.None x) h = omega arith
 open_window (controller.Reno r) h = h.cwnd
+open_window (controller.Cubic c) h = h.cwnd
 
-open_recovery : (c : AnyController) → IsOpen c → 0 < recovery_window c
-open_recovery (controller.None x) h = omega arith
-open_recovery (controller.Reno r) h = by r.in_recovery
+open_reno_recovery : (r : RenoNumbers) → RenoOpen r → 0 < reno_recovery_window r
+open_reno_recovery r h = by r.in_recovery
   where
     by : (b : Bool) → 0 < (if b then bounded r r.ssthresh else r.cwnd)
     by true = omega (arith, h.mss)
     by false = h.cwnd
+
+open_recovery : (c : AnyController) → IsOpen c → 0 < recovery_window c
+open_recovery (controller.None x) h = omega arith
+open_recovery (controller.Reno r) h = open_reno_recovery r h
+open_recovery (controller.Cubic c) h = open_reno_recovery c.reno h
 
 -- with nothing in flight the congestion window leaves something
 pub congestion_leaves : (v : View) → IsOpen v.congestion_controller → flight v ≡ 0 → 0 < congestion_left v

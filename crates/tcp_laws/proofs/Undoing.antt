@@ -1,7 +1,7 @@
 -- What undoes a recovery that was for nothing, and what decides that it was not.
 use Rattle.std.proofs.Common.{◌≡◌, ℕ, Bool, true, false, not, ◌&&◌, ◌||◌, refl, ap, arith}
 use Rattle.std.specs.Prelude.{if◌then◌else◌}
-use Rattle.sock_core.specs.Congestion.{reno_undone, undone}
+use Rattle.sock_core.specs.Congestion.{cubic_undone, reno_undone, undone}
 use Rattle.sock_core.specs.declared.congestion.AnyController.{AnyController}
 use Rattle.sock_core.specs.declared.congestion.AnyController.TheVariants as controller
 use Rattle.sock_tcp.specs.Rfc.Recovery.{before_of, controller_after, echo_known, is_decided, is_undone, recovered, undone_by_blocks, undone_by_echo, undone_if}
@@ -10,9 +10,10 @@ use Rattle.sock_tcp.specs.declared.undo.Undo.{Undo}
 use Rattle.tcp_laws.specs.Undoing.{FirstEchoDecides, IsAtLeast, NothingIsUndoneTwice, UndoesWhatWasForNothing}
 
 at_least : (c : AnyController) (n m : ℕ) → IsAtLeast (undone c n m) n m
-unfolding undone reno_undone
+unfolding undone reno_undone cubic_undone
 at_least (controller.None x) n m = tt
 at_least (controller.Reno r) n m = (omega arith, omega arith)
+at_least (controller.Cubic c) n m = (omega arith, omega arith)
 
 told : (u : Bool) (c : AnyController) (x : Undo) → u ≡ true → IsAtLeast (undone_if u c x) x.window x.threshold
 told true c x e = at_least c x.window x.threshold

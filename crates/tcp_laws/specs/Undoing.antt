@@ -10,10 +10,11 @@ use Rattle.sock_tcp.specs.View.{View}
 use Rattle.sock_tcp.specs.declared.recovery.Before.{Before}
 use Rattle.sock_tcp.specs.declared.undo.Undo.{Undo}
 
--- window and threshold of Reno; without congestion control there are none
+-- window and threshold of the controller; without congestion control there are none
 abbrev pub IsAtLeast : AnyController → ℕ → ℕ → Type 0
 IsAtLeast (controller.None n) window threshold = Unit {0}
 IsAtLeast (controller.Reno r) window threshold = (window ≤ r.cwnd) × (threshold ≤ r.ssthresh)
+IsAtLeast (controller.Cubic c) window threshold = (window ≤ c.reno.cwnd) × (threshold ≤ c.reno.ssthresh)
 
 -- as before the recovery of which this was kept
 pub record IsAsBefore (u : Undo) (w : View) : Type 0 where

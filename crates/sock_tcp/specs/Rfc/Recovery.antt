@@ -437,7 +437,8 @@ abbrev pub bytes_counted : Before → View → ℕ → ℕ
 bytes_counted b w window = if is_limited_by_user b w window then 0 else seq_sub w.local_seq_no b.una
 
 abbrev pub told_of_count : Before → View → Instant → AnyController → AnyController
-told_of_count b w now c = bytes_acked c now (bytes_counted b w (congestion_window c)) (is_timed_out b.recovery)
+told_of_count b w now c =
+    bytes_acked c now (bytes_counted b w (congestion_window c)) (is_timed_out b.recovery) w.rtte
 
 -- of new bytes it hears how many they are (RFC 5681, section 3.1; RFC 3465), and at the opening, unless a SYN was lost,
 -- that it may send more (RFC 6928). A SYN moves SND.UNA too, and is no byte
