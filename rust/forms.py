@@ -47,6 +47,8 @@ HOSTS = {"net_host", "host_link", "two_hosts", "hosted_bench", "host_bench", "fi
 WAKING = {"smoltcp_socket": "sockets", "sock_tcp": "sockets::sock_tcp"}
 # texts of a crate, and what stands in their place: moments of any number, as smoltcp's; reads of several bytes that are
 # spelled as single bytes, for which kit/bytes.rs has calls; and columns that without a heap have fewer places than sockets
+# what stands before an item that is there in builds with CUBIC alone
+OF_CUBIC = '#[cfg(feature = "socket-tcp-cubic")]\n'
 READS = {
     "net_base": {
         "const fn from_micros(micros: i64)": "fn from_micros(micros: impl Into<i64>)",
@@ -74,7 +76,14 @@ READS = {
             "crate::kit::of_blocks(least_bounds(alloc, blocks.div_ceil(FAN_OUT)))?",
     },
     "host_index": {"const COUNT: usize = 256;": "const COUNT: usize = crate::kit::KNOWN;"},
-    "sock_core": {"    ring: RingBuffer<'a, u8>,": "    pub(crate) ring: RingBuffer<'a, u8>,"},
+    "sock_core": {
+        "    ring: RingBuffer<'a, u8>,": "    pub(crate) ring: RingBuffer<'a, u8>,",
+        "    /// CUBIC.\n": f"    /// CUBIC.\n    {OF_CUBIC}",
+        "            AnyController::Cubic(": f"            {OF_CUBIC}            AnyController::Cubic(",
+    },
+    "socket_script": {"        tcp::CongestionControl::Cubic =>":
+                      f"        {OF_CUBIC}        tcp::CongestionControl::Cubic =>"},
+    "drill_lines": {"        b\"cubic\" =>": f"        {OF_CUBIC}        b\"cubic\" =>"},
     "ip_wire": {
         """total = add_sixty_four(total, bytes, at);
         total = add_sixty_four(total, bytes, at + 64);""": "total = total + crate::kit::sixteen_le64(bytes, at);",
@@ -98,7 +107,13 @@ READS = {
 # what a socket remembers for the RFCs' rules alone, which takes no memory in builds without them
 OF_RFC = {"recovery": ("Recovery", "Recovery::Open"), "sacked": ("Scoreboard", "NOTHING_TOLD"),
           "undo": ("Undo", "NOTHING_TO_UNDO")}
-READS["sock_tcp"] = {}
+READS["sock_tcp"] = {
+    "    /// CUBIC (RFC 9438).\n": f"    /// CUBIC (RFC 9438).\n    {OF_CUBIC}",
+    "            CongestionControl::Cubic =>": f"            {OF_CUBIC}            CongestionControl::Cubic =>",
+    "            AnyController::Cubic(": f"            {OF_CUBIC}            AnyController::Cubic(",
+    "AnyController, Cubic, NoControl": "self, AnyController, NoControl",
+    "Cubic::new()": "congestion::Cubic::new()",
+}
 for name, (kind, nothing) in OF_RFC.items():
     READS["sock_tcp"][f"    pub(crate) {name}: {kind},"] = f"    pub(crate) {name}: crate::kit::OfRfc<{kind}>,"
     READS["sock_tcp"][f"            {name}: {nothing},"] = f"            {name}: crate::kit::OfRfc::new({nothing}),"
@@ -131,7 +146,8 @@ LIST = {
                + ", ".join(f"{old} -> {new}" for old, new in RENAMED.items()),
     "rules": "of sock_tcp, self.rules -> crate::kit::in_force(self.rules), where it is read: smoltcp's rules alone, in "
              "builds without those of the RFCs; and what a socket remembers for those alone, "
-             f"{', '.join(sorted(OF_RFC))}: T -> crate::kit::OfRfc<T>, read by .get() and written by .set(..)",
+             f"{', '.join(sorted(OF_RFC))}: T -> crate::kit::OfRfc<T>, read by .get() and written by .set(..); and of all "
+             "crates, #[cfg(feature = \"socket-tcp-cubic\")] before what is CUBIC's",
     "address": f"Ipv4Address and Ipv6Address of {ADDRESS_CRATE}: cut, those of core::net in their place; "
                "Ipv4Address(x) -> crate::kit::ipv4(x), and .0 of one -> .octets()",
     "waking": f"of {', '.join(sorted(HOSTS))}, smoltcp_socket:: -> crate::sockets::, sock_tcp:: -> crate::sockets::sock_tcp::",

@@ -310,6 +310,8 @@ fn behind<'t>(word: &'t [u8], beginning: &[u8]) -> Option<&'t [u8]> {
 fn congestion(word: &[u8]) -> Option<CongestionControl> {
     match word {
         b"reno" => Some(CongestionControl::Reno),
+        #[cfg(feature = "socket-tcp-cubic")]
+        b"cubic" => Some(CongestionControl::Cubic),
         b"none" => Some(CongestionControl::None),
         _ => None,
     }

@@ -1,7 +1,8 @@
 // Made from crates/sock_core/src/congestion.rt by rust/translate: change it there.
-//! Congestion control: how many bytes may be in flight (RFC 5681). As smoltcp's Reno, or none.
+//! Congestion control: how many bytes may be in flight (RFC 5681). As smoltcp's Reno, CUBIC (RFC 9438), or none.
 
 use crate::proved::net_base::time::Instant;
+pub use crate::proved::sock_core::cubic::Cubic;
 pub use crate::proved::sock_core::reno::Reno;
 use crate::proved::sock_core::rtte::RttEstimator;
 
@@ -24,7 +25,7 @@ pub trait Controller {
 
     /// An acknowledgement of `len` new bytes came, and the window is to grow by bytes, not by acknowledgements (RFC
     /// 3465). `careful` says that not all that was sent before a timeout is acknowledged yet.
-    fn on_bytes_acked(&mut self, now: Instant, len: usize, careful: bool);
+    fn on_bytes_acked(&mut self, now: Instant, len: usize, careful: bool, rtt: &RttEstimator);
 
     /// A connection was opened to a peer with this maximum segment size: the initial window is that of RFC 6928.
     fn open(&mut self, mss: usize);
@@ -56,13 +57,16 @@ pub trait Controller {
 #[derive(Debug, Clone, Copy)]
 pub struct NoControl;
 
-/// A controller of either kind.
+/// A controller of any kind.
 #[derive(Debug, Clone, Copy)]
 pub enum AnyController {
     /// No congestion control.
     None(NoControl),
     /// Reno.
     Reno(Reno),
+    /// CUBIC.
+    #[cfg(feature = "socket-tcp-cubic")]
+    Cubic(Cubic),
 }
 
 impl AnyController {
@@ -77,6 +81,8 @@ impl AnyController {
         match self {
             AnyController::None(none) => none.window(),
             AnyController::Reno(reno) => reno.recovery_window(),
+            #[cfg(feature = "socket-tcp-cubic")]
+            AnyController::Cubic(cubic) => cubic.recovery_window(),
         }
     }
 
@@ -85,6 +91,8 @@ impl AnyController {
         match self {
             AnyController::None(_) => usize::MAX,
             AnyController::Reno(reno) => reno.ssthresh(),
+            #[cfg(feature = "socket-tcp-cubic")]
+            AnyController::Cubic(cubic) => cubic.ssthresh(),
         }
     }
 
@@ -94,6 +102,8 @@ impl AnyController {
         match self {
             AnyController::None(_) => {}
             AnyController::Reno(reno) => reno.undo(window, threshold),
+            #[cfg(feature = "socket-tcp-cubic")]
+            AnyController::Cubic(cubic) => cubic.undo(window, threshold),
         }
     }
 }
@@ -118,7 +128,7 @@ impl Controller for NoControl {
 
     fn on_partial_ack(&mut self, _now: Instant, _len: usize) {}
 
-    fn on_bytes_acked(&mut self, _now: Instant, _len: usize, _careful: bool) {}
+    fn on_bytes_acked(&mut self, _now: Instant, _len: usize, _careful: bool, _rtt: &RttEstimator) {}
 
     fn open(&mut self, _mss: usize) {}
 
@@ -142,6 +152,8 @@ impl Controller for AnyController {
         match self {
             AnyController::None(none) => none.window(),
             AnyController::Reno(reno) => reno.window(),
+            #[cfg(feature = "socket-tcp-cubic")]
+            AnyController::Cubic(cubic) => cubic.window(),
         }
     }
 
@@ -149,6 +161,8 @@ impl Controller for AnyController {
         match self {
             AnyController::None(none) => none.set_remote_window(remote_window),
             AnyController::Reno(reno) => reno.set_remote_window(remote_window),
+            #[cfg(feature = "socket-tcp-cubic")]
+            AnyController::Cubic(cubic) => cubic.set_remote_window(remote_window),
         }
     }
 
@@ -156,6 +170,8 @@ impl Controller for AnyController {
         match self {
             AnyController::None(none) => none.on_ack(now, len, in_flight, rtt),
             AnyController::Reno(reno) => reno.on_ack(now, len, in_flight, rtt),
+            #[cfg(feature = "socket-tcp-cubic")]
+            AnyController::Cubic(cubic) => cubic.on_ack(now, len, in_flight, rtt),
         }
     }
 
@@ -163,13 +179,17 @@ impl Controller for AnyController {
         match self {
             AnyController::None(none) => none.on_partial_ack(now, len),
             AnyController::Reno(reno) => reno.on_partial_ack(now, len),
+            #[cfg(feature = "socket-tcp-cubic")]
+            AnyController::Cubic(cubic) => cubic.on_partial_ack(now, len),
         }
     }
 
-    fn on_bytes_acked(&mut self, now: Instant, len: usize, careful: bool) {
+    fn on_bytes_acked(&mut self, now: Instant, len: usize, careful: bool, rtt: &RttEstimator) {
         match self {
-            AnyController::None(none) => none.on_bytes_acked(now, len, careful),
-            AnyController::Reno(reno) => reno.on_bytes_acked(now, len, careful),
+            AnyController::None(none) => none.on_bytes_acked(now, len, careful, rtt),
+            AnyController::Reno(reno) => reno.on_bytes_acked(now, len, careful, rtt),
+            #[cfg(feature = "socket-tcp-cubic")]
+            AnyController::Cubic(cubic) => cubic.on_bytes_acked(now, len, careful, rtt),
         }
     }
 
@@ -177,6 +197,8 @@ impl Controller for AnyController {
         match self {
             AnyController::None(none) => none.open(mss),
             AnyController::Reno(reno) => reno.open(mss),
+            #[cfg(feature = "socket-tcp-cubic")]
+            AnyController::Cubic(cubic) => cubic.open(mss),
         }
     }
 
@@ -184,6 +206,8 @@ impl Controller for AnyController {
         match self {
             AnyController::None(none) => none.restart(),
             AnyController::Reno(reno) => reno.restart(),
+            #[cfg(feature = "socket-tcp-cubic")]
+            AnyController::Cubic(cubic) => cubic.restart(),
         }
     }
 
@@ -191,6 +215,8 @@ impl Controller for AnyController {
         match self {
             AnyController::None(none) => none.on_dup_ack(now, len, in_flight),
             AnyController::Reno(reno) => reno.on_dup_ack(now, len, in_flight),
+            #[cfg(feature = "socket-tcp-cubic")]
+            AnyController::Cubic(cubic) => cubic.on_dup_ack(now, len, in_flight),
         }
     }
 
@@ -198,6 +224,8 @@ impl Controller for AnyController {
         match self {
             AnyController::None(none) => none.on_rto(now, in_flight),
             AnyController::Reno(reno) => reno.on_rto(now, in_flight),
+            #[cfg(feature = "socket-tcp-cubic")]
+            AnyController::Cubic(cubic) => cubic.on_rto(now, in_flight),
         }
     }
 
@@ -205,6 +233,8 @@ impl Controller for AnyController {
         match self {
             AnyController::None(none) => none.on_loss(now, in_flight),
             AnyController::Reno(reno) => reno.on_loss(now, in_flight),
+            #[cfg(feature = "socket-tcp-cubic")]
+            AnyController::Cubic(cubic) => cubic.on_loss(now, in_flight),
         }
     }
 
@@ -212,6 +242,8 @@ impl Controller for AnyController {
         match self {
             AnyController::None(none) => none.pre_transmit(now),
             AnyController::Reno(reno) => reno.pre_transmit(now),
+            #[cfg(feature = "socket-tcp-cubic")]
+            AnyController::Cubic(cubic) => cubic.pre_transmit(now),
         }
     }
 
@@ -219,6 +251,8 @@ impl Controller for AnyController {
         match self {
             AnyController::None(none) => none.post_transmit(now, len),
             AnyController::Reno(reno) => reno.post_transmit(now, len),
+            #[cfg(feature = "socket-tcp-cubic")]
+            AnyController::Cubic(cubic) => cubic.post_transmit(now, len),
         }
     }
 
@@ -226,6 +260,8 @@ impl Controller for AnyController {
         match self {
             AnyController::None(none) => none.set_mss(mss),
             AnyController::Reno(reno) => reno.set_mss(mss),
+            #[cfg(feature = "socket-tcp-cubic")]
+            AnyController::Cubic(cubic) => cubic.set_mss(mss),
         }
     }
 }

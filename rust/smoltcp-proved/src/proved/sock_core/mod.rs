@@ -4,6 +4,8 @@
 
 pub mod congestion;
 pub mod context;
+mod cube_root;
+mod cubic;
 pub mod kept;
 pub mod places;
 pub mod ranges;

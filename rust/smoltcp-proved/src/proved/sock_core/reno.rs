@@ -48,13 +48,52 @@ impl Reno {
         self.in_recovery = false;
     }
 
+    /// The maximum segment size.
+    pub(crate) fn mss(&self) -> usize {
+        self.mss
+    }
+
+    /// Whether it is in a fast recovery.
+    pub(crate) fn recovers(&self) -> bool {
+        self.in_recovery
+    }
+
+    /// Whether it is in congestion avoidance.
+    pub(crate) fn avoids(&self) -> bool {
+        !(self.in_recovery || self.cwnd < self.ssthresh)
+    }
+
+    /// How far `len` acknowledged bytes of a window of them lead towards a larger one (RFC 9438, section 4.4).
+    pub(crate) fn step_towards(&self, target: u64, len: usize) -> usize {
+        let most = self.cwnd.saturating_add(self.cwnd / 2) as u64;
+        let further = target.min(most).saturating_sub(self.cwnd as u64) as usize;
+        further.saturating_mul(len.min(self.cwnd)) / self.cwnd.max(1)
+    }
+
+    /// A fast recovery begins, with this threshold.
+    pub(crate) fn recover(&mut self, threshold: usize) {
+        self.ssthresh = threshold;
+        self.cwnd = threshold.min(self.rwnd).saturating_add(self.mss.saturating_mul(3));
+        self.in_recovery = true;
+    }
+
+    /// A timeout: sending begins anew with a segment, and where it is the first one with this threshold.
+    pub(crate) fn begin_anew(&mut self, threshold: usize) {
+        if !self.in_timeout {
+            self.ssthresh = threshold;
+        }
+        self.cwnd = self.mss;
+        self.in_timeout = true;
+        self.in_recovery = false;
+    }
+
     // At most the peer's window, and at least a segment.
     fn bounded(&self, window: usize) -> usize {
         window.min(self.rwnd).max(self.mss)
     }
 
     // How far an acknowledgement of `len` bytes opens the window.
-    fn growth(&self, len: usize) -> usize {
+    pub(crate) fn growth(&self, len: usize) -> usize {
         if self.cwnd < self.ssthresh {
             len.min(self.mss)
         } else {
@@ -63,7 +102,7 @@ impl Reno {
     }
 
     // How far the window opens, counted in bytes (RFC 3465, sections 2.1 and 2.3; RFC 9406, section 4.2).
-    fn growth_in_bytes(&self, len: usize, careful: bool) -> usize {
+    pub(crate) fn growth_in_bytes(&self, len: usize, careful: bool) -> usize {
         if self.cwnd < self.ssthresh {
             len.min(self.most_growth(careful))
         } else {
@@ -103,7 +142,7 @@ impl Reno {
     }
 
     // Bytes are acknowledged, which ends a time of timeouts and a fast recovery, and opens the window so far.
-    fn grow(&mut self, more: usize) {
+    pub(crate) fn grow(&mut self, more: usize) {
         self.cwnd =
             if self.in_recovery { self.ssthresh } else { self.bounded(self.cwnd.saturating_add(more)) };
         self.in_timeout = false;
@@ -143,7 +182,7 @@ impl Controller for Reno {
         self.gain_in_part(len);
     }
 
-    fn on_bytes_acked(&mut self, _now: Instant, len: usize, careful: bool) {
+    fn on_bytes_acked(&mut self, _now: Instant, len: usize, careful: bool, _rtt: &RttEstimator) {
         self.count(len, careful);
     }
 
@@ -163,22 +202,14 @@ impl Controller for Reno {
     }
 
     fn on_rto(&mut self, _now: Instant, in_flight: usize) {
-        if !self.in_timeout {
-            self.ssthresh = self.halved(in_flight);
-        }
-        self.cwnd = self.mss;
-        self.in_timeout = true;
-        self.in_recovery = false;
+        self.begin_anew(self.halved(in_flight));
     }
 
     fn on_loss(&mut self, _now: Instant, in_flight: usize) {
         if self.in_recovery {
             return;
         }
-        let ssthresh = self.halved(in_flight);
-        self.ssthresh = ssthresh;
-        self.cwnd = ssthresh.min(self.rwnd).saturating_add(self.mss.saturating_mul(3));
-        self.in_recovery = true;
+        self.recover(self.halved(in_flight));
     }
 
     fn pre_transmit(&mut self, _now: Instant) {}

@@ -279,7 +279,7 @@ impl Before {
         if self.is_news(after) && self.state.carries_data() {
             let mut controller = self.told_repaired(after, now);
             let count = self.bytes_counted(after, controller.window());
-            controller.on_bytes_acked(now, count, self.recovery.is_timed_out());
+            controller.on_bytes_acked(now, count, self.recovery.is_timed_out(), &after.rtte);
             return controller;
         }
         after.congestion_controller

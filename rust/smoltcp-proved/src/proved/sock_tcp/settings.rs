@@ -2,7 +2,7 @@
 //! What a user may set.
 
 use crate::proved::net_base::time::{Duration, Instant};
-use crate::proved::sock_core::congestion::{AnyController, NoControl, Reno};
+use crate::proved::sock_core::congestion::{self, AnyController, NoControl, Reno};
 use crate::proved::sock_tcp::control_block::ControlBlock;
 use crate::proved::sock_tcp::socket::Socket;
 use crate::proved::sock_tcp::timer::Timer;
@@ -14,6 +14,9 @@ pub enum CongestionControl {
     None,
     /// Reno (RFC 5681).
     Reno,
+    /// CUBIC (RFC 9438).
+    #[cfg(feature = "socket-tcp-cubic")]
+    Cubic,
 }
 
 // The longest that the lowest retransmission timeout may be, in milliseconds.
@@ -30,6 +33,8 @@ impl CongestionControl {
         match self {
             CongestionControl::None => AnyController::None(NoControl),
             CongestionControl::Reno => AnyController::Reno(Reno::new()),
+            #[cfg(feature = "socket-tcp-cubic")]
+            CongestionControl::Cubic => AnyController::Cubic(congestion::Cubic::new()),
         }
     }
 }
@@ -39,6 +44,8 @@ impl<'a> ControlBlock<'a> {
         match self.congestion_controller {
             AnyController::None(_) => CongestionControl::None,
             AnyController::Reno(_) => CongestionControl::Reno,
+            #[cfg(feature = "socket-tcp-cubic")]
+            AnyController::Cubic(_) => CongestionControl::Cubic,
         }
     }
 

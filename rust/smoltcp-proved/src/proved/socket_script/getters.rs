@@ -121,6 +121,8 @@ fn tcp_settings(socket: &tcp::Socket<'_, Clock>, line: &mut Line) {
     let congestion = match socket.congestion_control() {
         tcp::CongestionControl::None => "none",
         tcp::CongestionControl::Reno => "reno",
+        #[cfg(feature = "socket-tcp-cubic")]
+        tcp::CongestionControl::Cubic => "cubic",
     };
     line.put(
         " timeout % ack-delay % keep-alive %",
