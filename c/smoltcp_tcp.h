@@ -238,7 +238,8 @@ int64_t smoltcp_tcp_set_hop_limit(struct smoltcp_tcp *s, uint8_t hop_limit);
  * Errors: SMOLTCP_ERROR_NULL. */
 int64_t smoltcp_tcp_pause_synack(struct smoltcp_tcp *s, uint8_t pause);
 
-/* Puts in a new controller of this kind, also where there is one of the kind. A new socket has Reno.
+/* Puts in a new controller of this kind, also where there is one of the kind: SMOLTCP_CONGESTION_NONE,
+ * SMOLTCP_CONGESTION_RENO, which a new socket has, or SMOLTCP_CONGESTION_CUBIC.
  *
  * Errors: SMOLTCP_ERROR_RANGE, SMOLTCP_ERROR_NULL. */
 int64_t smoltcp_tcp_set_congestion_control(struct smoltcp_tcp *s, uint32_t kind);
