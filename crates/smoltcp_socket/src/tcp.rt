@@ -2,6 +2,6 @@
 
 pub use sock_core::{RttEstimator, before, congestion, later, not_after, window_shift};
 pub use sock_tcp::{
-    CongestionControl, ConnectError, Generator, ListenError, RecvError, Reply, Row, Rules,
+    CongestionControl, ConnectError, Generator, ListenError, Reason, RecvError, Reply, Row, Rules,
     RulesError, SendError, Socket, SocketBuffer, State,
 };

@@ -35,3 +35,5 @@ pub mod Outgoing
 pub mod Work
 pub mod Ended
 pub mod Negotiated
+pub mod Next
+pub mod Reasons

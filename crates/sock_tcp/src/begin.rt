@@ -22,7 +22,7 @@ use sock_core::Context;
 use sock_core::congestion::Controller;
 
 // Whether the interface still has the local address of the connection.
-fn has_local_address<C: Context>(cx: &C, tuple: &Tuple) -> bool
+pub(crate) fn has_local_address<C: Context>(cx: &C, tuple: &Tuple) -> bool
     ensures { result ≡ (C.facts cx.now).has_address tuple.now.local.addr }
 {
     cx.has_ip_addr(tuple.local.addr)
@@ -170,7 +170,7 @@ impl<'a> ControlBlock<'a> {
     }
 
     // Whether it is a SYN|ACK that waits.
-    fn is_paused(&self) -> bool
+    pub(crate) fn is_paused(&self) -> bool
         ensures { result ≡ is_paused self.now.state self.now.synack_paused }
     {
         matches!(self.state, State::SynReceived) && self.synack_paused

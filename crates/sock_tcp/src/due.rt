@@ -170,7 +170,7 @@ impl<'a> ControlBlock<'a> {
         self.nagle && self.flight() != 0 && out < mss && !self.state.is_closing()
     }
 
-    fn is_held_back(&self, out: usize, mss: usize) -> bool
+    pub(crate) fn is_held_back(&self, out: usize, mss: usize) -> bool
         requires { out ≡ sendable self.now }
         ensures { result ≡ is_held_back self.now mss }
     {

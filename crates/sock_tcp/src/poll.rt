@@ -75,7 +75,7 @@ impl<'a> ControlBlock<'a> {
     }
 
     #[tactic(auto, unfolding(crate::specs::Poll::poll_moment, crate::specs::Due::data_due))]
-    fn poll_at<C: Context>(&self, cx: &C) -> PollAt
+    pub(crate) fn poll_at<C: Context>(&self, cx: &C) -> PollAt
         ensures { result ≡ poll_moment self.now (C.facts cx.now) }
     {
         let tuple = match &self.tuple {
