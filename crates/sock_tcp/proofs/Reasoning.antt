@@ -13,7 +13,7 @@ use Rattle.sock_tcp.specs.Next.{due_reason, has_fin, is_timed_out, last_or, reas
 use Rattle.sock_tcp.specs.Opening.{renewed}
 use Rattle.sock_tcp.specs.Poll.{poll_moment}
 use Rattle.sock_tcp.specs.Polls.{is_reached, timeout_poll}
-use Rattle.sock_tcp.specs.Reasons.{Does, ReasonsSay}
+use Rattle.sock_tcp.specs.Reasons.{Follows, ReasonsSay}
 use Rattle.sock_tcp.specs.Rfc.OwnWindow.{is_grown}
 use Rattle.sock_tcp.specs.Rfc.TailLoss.{may_speak, probes_tail}
 use Rattle.sock_tcp.specs.Timers.{is_close_over, is_keep_alive_over, is_over, is_probe_over}
@@ -62,7 +62,7 @@ module _ (v : View) (f : Facts) (t : Tuple) (e : v.tuple ≡ Some t) where
 
   -- by what is due, in the order of `is_due`: a fast retransmission, data, a SYN, a FIN, what has waited, a window, the
   -- RST, a keep-alive, no probe, the end of TIME-WAIT
-  table : (a s c d h w x k p z : Bool) (b : Begun) → p ≡ false → Does v f u (if x then reason.Reset else (if a then reason.Retransmission else (if s then reason.Data else (if c then reason.Syn else (if d then reason.Fin else (if h then reason.Delayed else (if w then reason.WindowUpdate else (if k then reason.KeepAlive else (if z then reason.TimeWaitOver else reason.Waits (poll_moment v f)))))))))) b (if (a || s || (c || d) || h || w || x || k || p) then record { view = u; goes_on = true } else record { view = if z then time_wait_ended v.rules u else u; goes_on = false })
+  table : (a s c d h w x k p z : Bool) (b : Begun) → p ≡ false → Follows v f u (if x then reason.Reset else (if a then reason.Retransmission else (if s then reason.Data else (if c then reason.Syn else (if d then reason.Fin else (if h then reason.Delayed else (if w then reason.WindowUpdate else (if k then reason.KeepAlive else (if z then reason.TimeWaitOver else reason.Waits (poll_moment v f)))))))))) b (if (a || s || (c || d) || h || w || x || k || p) then record { view = u; goes_on = true } else record { view = if z then time_wait_ended v.rules u else u; goes_on = false })
   table true s c d h w true k p z b n = refl
   table true s c d h w false k p z b n = refl
   table false true c d h w true k p z b n = refl
@@ -95,30 +95,30 @@ module _ (v : View) (f : Facts) (t : Tuple) (e : v.tuple ≡ Some t) where
   on : Begun
   on = record { view = u; goes_on = true }
 
-  goes : is_probe_over v.timer now ≡ false → Does v f u (due_reason v mss now poll) on (by_due (is_due u t f) u f)
+  goes : is_probe_over v.timer now ≡ false → Follows v f u (due_reason v mss now poll) on (by_due (is_due u t f) u f)
   unfolding is_due data_due window_doubled is_grown receive_window
   goes n =
     let d = table (v.pending_fast_retransmit && not (length v.tx_buffer.bytes == 0)) (not (sendable v == 0) && not (is_held_back v mss)) (is_opening v.state && (flight v == 0)) (has_fin v) (is_reached (held_poll v) now) (window_doubled v) (is_closed v.state) (is_keep_alive_over v.timer now) (is_probe_over v.timer now) (is_close_over v.timer now) on n in
-    subst (λ (x : Begun). Does v f u (due_reason v mss now poll) on x) (sym (due_is (is_due u t f))) d
+    subst (λ (x : Begun). Follows v f u (due_reason v mss now poll) on x) (sym (due_is (is_due u t f))) d
 
-  rest : is_probe_over v.timer now ≡ false → Does v f u (unpaused_reason v mss now poll) (unless_paused u) (after (unless_paused u) f)
+  rest : is_probe_over v.timer now ≡ false → Follows v f u (unpaused_reason v mss now poll) (unless_paused u) (after (unless_paused u) f)
   rest n = go (is_paused v.state v.synack_paused)
     where
-      go : (b : Bool) → Does v f u (if b then reason.Paused else due_reason v mss now poll) (record { view = u; goes_on = not b }) (after (record { view = u; goes_on = not b }) f)
+      go : (b : Bool) → Follows v f u (if b then reason.Paused else due_reason v mss now poll) (record { view = u; goes_on = not b }) (after (record { view = u; goes_on = not b }) f)
       go true = refl
-      go false = subst (λ (o : Option Tuple). Does v f u (due_reason v mss now poll) on (before_emit_to o u f)) (sym e) (goes n)
+      go false = subst (λ (o : Option Tuple). Follows v f u (due_reason v mss now poll) on (before_emit_to o u f)) (sym e) (goes n)
 
   -- by the timer, which asks for nothing, or comes first
-  timed : (x : Timer) → v.timer ≡ x → Does v f u (timer_reason x v mss now poll) (unless_paused (after_timer x u now)) (after (unless_paused (after_timer x u now)) f)
+  timed : (x : Timer) → v.timer ≡ x → Follows v f u (timer_reason x v mss now poll) (unless_paused (after_timer x u now)) (after (unless_paused (after_timer x u now)) f)
   timed (timer.Retransmit at) k = go (is_over at now)
     where
-      go : (b : Bool) → Does v f u (if b then reason.RetransmissionTimeout else unpaused_reason v mss now poll) (unless_paused (if b then retransmission_begun u now else u)) (after (unless_paused (if b then retransmission_begun u now else u)) f)
+      go : (b : Bool) → Follows v f u (if b then reason.RetransmissionTimeout else unpaused_reason v mss now poll) (unless_paused (if b then retransmission_begun u now else u)) (after (unless_paused (if b then retransmission_begun u now else u)) f)
       go true = refl
       go false = rest (rw k refl)
   timed timer.FastRetransmit k = refl
   timed (timer.ZeroWindowProbe at delay) k = go (is_over at now) refl
     where
-      go : (b : Bool) → is_over at now ≡ b → Does v f u (if b then reason.WindowProbe else unpaused_reason v mss now poll) (unless_paused (if b then probing_begun v.rules u else u)) (after (unless_paused (if b then probing_begun v.rules u else u)) f)
+      go : (b : Bool) → is_over at now ≡ b → Follows v f u (if b then reason.WindowProbe else unpaused_reason v mss now poll) (unless_paused (if b then probing_begun v.rules u else u)) (after (unless_paused (if b then probing_begun v.rules u else u)) f)
       go true n = refl
       go false n = rest (rw k n)
   timed (timer.Idle at) k = rest (rw k refl)
@@ -128,18 +128,18 @@ module _ (v : View) (f : Facts) (t : Tuple) (e : v.tuple ≡ Some t) where
   unfolding is_due
   closed_due = grind (common_steps)
 
-  said : Does v f u (reason_by v mss now poll) (unless_paused (after_timers u now)) (after (unless_paused (after_timers u now)) f)
+  said : Follows v f u (reason_by v mss now poll) (unless_paused (after_timers u now)) (after (unless_paused (after_timers u now)) f)
   unfolding after_timers may_speak
   said = by (is_timed_out v now)
     where
-      late : (b : Bool) → Does v f u (if b then reason.TailLossProbe else timer_reason v.timer v mss now poll) (unless_paused (timers_by b u now)) (after (unless_paused (timers_by b u now)) f)
+      late : (b : Bool) → Follows v f u (if b then reason.TailLossProbe else timer_reason v.timer v mss now poll) (unless_paused (timers_by b u now)) (after (unless_paused (timers_by b u now)) f)
       late true = refl
       late false = timed v.timer refl
 
       closed : View
       closed = record u { state = state.Closed }
 
-      by : (b : Bool) → Does v f u (if b then reason.UserTimeout else (if probes_tail v now then reason.TailLossProbe else timer_reason v.timer v mss now poll)) (unless_paused (if b then closed else timers_by (probes_tail u now) u now)) (after (unless_paused (if b then closed else timers_by (probes_tail u now) u now)) f)
+      by : (b : Bool) → Follows v f u (if b then reason.UserTimeout else (if probes_tail v now then reason.TailLossProbe else timer_reason v.timer v mss now poll)) (unless_paused (if b then closed else timers_by (probes_tail u now) u now)) (after (unless_paused (if b then closed else timers_by (probes_tail u now) u now)) f)
       by true = subst (λ (o : Option Tuple). before_emit_to o closed f ≡ going_on closed) (sym e) (ap (λ (b : Bool). by_due b closed f) closed_due)
       by false = late (probes_tail v now)
 
@@ -150,10 +150,10 @@ reasons_say v f = by v.tuple refl
     now : Instant
     now = moment_of f
 
-    by : (o : Option Tuple) → v.tuple ≡ o → Does v f (readied v now) (reason_to o v f) (begun_to o v f) (after (begun_to o v f) f)
+    by : (o : Option Tuple) → v.tuple ≡ o → Follows v f (readied v now) (reason_to o v f) (begun_to o v f) (after (begun_to o v f) f)
     by None e = refl
     by (Some t) e = go (f.has_address t.local.addr)
       where
-        go : (b : Bool) → Does v f (readied v now) (if b then reason_by v (effective_mss v t f) now (poll_moment v f) else reason.AddressGone) (if b then unless_paused (after_timers (readied v now) now) else ended (renewed v)) (after (if b then unless_paused (after_timers (readied v now) now) else ended (renewed v)) f)
-        go true = subst (λ (r : View). Does v f r (reason_by v (effective_mss v t f) now (poll_moment v f)) (unless_paused (after_timers r now)) (after (unless_paused (after_timers r now)) f)) (sym (ready_is v now)) (said v f t e)
+        go : (b : Bool) → Follows v f (readied v now) (if b then reason_by v (effective_mss v t f) now (poll_moment v f) else reason.AddressGone) (if b then unless_paused (after_timers (readied v now) now) else ended (renewed v)) (after (if b then unless_paused (after_timers (readied v now) now) else ended (renewed v)) f)
+        go true = subst (λ (r : View). Follows v f r (reason_by v (effective_mss v t f) now (poll_moment v f)) (unless_paused (after_timers r now)) (after (unless_paused (after_timers r now)) f)) (sym (ready_is v now)) (said v f t e)
         go false = refl

@@ -14,18 +14,18 @@ use Rattle.sock_tcp.specs.declared.state.State.TheVariants as state
 
 -- With a reason a dispatch of v, which begins as b, and is e before the emit: r is v with the moment of the last
 -- segment, or with now where that was forgotten. Where it goes on, a segment of the view is offered to `emit`.
-abbrev pub Does : View → Facts → View → Reason → Begun → Begun → Type 0
-Does v f r reason.NoPeer b e = e ≡ ended v
-Does v f r reason.AddressGone b e = e ≡ ended (renewed v)
-Does v f r reason.UserTimeout b e = e ≡ going_on (record r { state = state.Closed })
-Does v f r reason.TailLossProbe b e = b ≡ unless_paused (tail_probed r (moment_of f))
-Does v f r reason.RetransmissionTimeout b e = b ≡ unless_paused (retransmission_begun r (moment_of f))
-Does v f r reason.FastRetransmission b e = b ≡ unless_paused (fast_retransmission_marked r (moment_of f))
-Does v f r reason.WindowProbe b e = b ≡ unless_paused (probing_begun v.rules r)
-Does v f r reason.Paused b e = e ≡ ended r
-Does v f r reason.TimeWaitOver b e = e ≡ ended (time_wait_ended v.rules r)
-Does v f r (reason.Waits poll) b e = (e ≡ ended r) × (poll ≡ poll_moment v f)
-Does v f r _ b e = e ≡ going_on r
+abbrev pub Follows : View → Facts → View → Reason → Begun → Begun → Type 0
+Follows v f r reason.NoPeer b e = e ≡ ended v
+Follows v f r reason.AddressGone b e = e ≡ ended (renewed v)
+Follows v f r reason.UserTimeout b e = e ≡ going_on (record r { state = state.Closed })
+Follows v f r reason.TailLossProbe b e = b ≡ unless_paused (tail_probed r (moment_of f))
+Follows v f r reason.RetransmissionTimeout b e = b ≡ unless_paused (retransmission_begun r (moment_of f))
+Follows v f r reason.FastRetransmission b e = b ≡ unless_paused (fast_retransmission_marked r (moment_of f))
+Follows v f r reason.WindowProbe b e = b ≡ unless_paused (probing_begun v.rules r)
+Follows v f r reason.Paused b e = e ≡ ended r
+Follows v f r reason.TimeWaitOver b e = e ≡ ended (time_wait_ended v.rules r)
+Follows v f r (reason.Waits poll) b e = (e ≡ ended r) × (poll ≡ poll_moment v f)
+Follows v f r _ b e = e ≡ going_on r
 
 abbrev pub ReasonsSay : Type 0
-ReasonsSay = (v : View) (f : Facts) → Does v f (readied v (moment_of f)) (reason_of v f) (begun v f) (before_emit v f)
+ReasonsSay = (v : View) (f : Facts) → Follows v f (readied v (moment_of f)) (reason_of v f) (begun v f) (before_emit v f)
