@@ -35,3 +35,4 @@ pub mod Outgoing
 pub mod Work
 pub mod Ended
 pub mod Negotiated
+pub mod PathMtu
