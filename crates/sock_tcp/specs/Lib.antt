@@ -37,3 +37,4 @@ pub mod Ended
 pub mod Negotiated
 pub mod Next
 pub mod Reasons
+pub mod PathMtu

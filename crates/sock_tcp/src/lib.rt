@@ -37,6 +37,7 @@ pub mod next;
 mod numbers;
 mod open;
 mod own_window;
+mod path_mtu;
 mod peer_window;
 mod pipe;
 pub mod poll;

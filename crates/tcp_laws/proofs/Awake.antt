@@ -48,8 +48,10 @@ use Rattle.sock_tcp.specs.declared.tuple.Tuple.{Tuple}
 use Rattle.tcp_laws.specs.Awake.{IsByOwn, IsReachedByOwn, KeepsRules, NeverSleeps, OwnEnds, OwnRun, OwnThen}
 use Rattle.tcp_laws.specs.Polling.{IsReached, Sleeps, SleepsIn}
 use Rattle.tcp_laws.specs.SocketRun.{Counts, Run, SendsTo, Sets, Step, starting}
-use Rattle.tcp_laws.specs.SocketRun.{Listen, Connect, SendSlice, Send, WriteStr, RecvSlice, Recv, Close, Abort, Set, Process, Dispatch, Ends, Then, SetCongestionControl, SetTimeout, SetAckDelay, SetNagle, SetKeepAlive, SetHopLimit, PauseSynAck, SetTsvalGenerator, SetRules, SetMinRto}
+use Rattle.tcp_laws.specs.SocketRun.{Listen, Connect, SendSlice, Send, WriteStr, RecvSlice, Recv, Close, Abort, Set, SetPathMtu, Process, Dispatch, Ends, Then, SetCongestionControl, SetTimeout, SetAckDelay, SetNagle, SetKeepAlive, SetHopLimit, PauseSynAck, SetTsvalGenerator, SetRules, SetMinRto}
 use Rattle.tcp_laws.proofs.AckAlone.{RstOrAck, rst_or_ack}
+use Rattle.tcp_laws.proofs.Narrowing.{narrowed_as}
+use Rattle.sock_tcp.specs.PathMtu.{all_sent_again, path_mtu_set, shortened}
 use Rattle.tcp_laws.proofs.Kept.{KeptByBeginnings, KeptByUses, before_kept, closure_kept, closure_read_kept, connect_kept, listen_kept, listening_is, slice_kept, slice_read_kept, step_kept}
 use Rattle.tcp_laws.proofs.Ordered.{IsOrdered, IsPeeredIn, no_distance}
 use Rattle.tcp_laws.proofs.OrderedCalls.{begins_ordered, kept_ordered, reached_ordered, same_flag}
@@ -288,6 +290,11 @@ sets_awake v w (SetRules x e) k a = subst IsOwnAwake (sym e) (by (is_open v.stat
     by false o = λ i. record { rfc = i; row = shut_row v.state v.timer (flight v) v.remote_win_len (length v.tx_buffer.bytes) o }
 sets_awake v w (SetMinRto x e) k a = subst IsOwnAwake (sym e) (λ i. let h = a i in record { rfc = h.rfc; row = h.row })
 
+-- what goes out again is waited for
+mtu_awake : (v : View) (now : Instant) (mtu : ℕ) → IsOwnAwake v → IsOwnAwake (path_mtu_set v now mtu)
+unfolding shortened all_sent_again
+mtu_awake v now mtu a = narrowed_as IsOwnAwake v now mtu a (λ mss le i. let h = a i in record { rfc = h.rfc; row = h.row }) (λ u e b i. let h = b i in record { rfc = h.rfc; row = rests_row u.state (retransmit_from now (retransmitted u.rtte)) (seq_sub u.local_seq_no u.local_seq_no) u.remote_win_len (length u.tx_buffer.bytes) tt })
+
 -- ---- any call
 
 record All (v : View) : Type 0 where
@@ -327,6 +334,7 @@ module _ (v w : View) (i j : Counts) where
     call_awake (Close h is) b o = subst IsOwnAwake (sym h) (λ e. let k = a.awake e in record { rfc = k.rfc; row = called_as (λ st. AwakeIn st v.timer (flight v) v.remote_win_len (length v.tx_buffer.bytes)) (waits_in v.state v.rules) v.state k.row (close_row v.state v.timer (flight v) v.remote_win_len (length v.tx_buffer.bytes) k.row) })
     call_awake (Abort h is) b o = subst IsOwnAwake (sym h) (λ e. record { rfc = e; row = tt })
     call_awake (Set x is) b o = sets_awake v w x b a.awake
+    call_awake (SetPathMtu now mtu h is) b o = subst IsOwnAwake (sym h) (mtu_awake v now mtu a.awake)
     call_awake (Process r now word ip s small numbered short bare h is) b o = by_rules same step a.awake
       where
         same : w.rules ≡ v.rules

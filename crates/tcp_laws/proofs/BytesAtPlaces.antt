@@ -18,7 +18,7 @@ use Rattle.sock_tcp.specs.Queue.{queue_of}
 use Rattle.sock_tcp.specs.Queues.{ReadsWithIf, SendsWithIf, fitting, may_recv, may_send, queued, read_off, readable}
 use Rattle.tcp_laws.specs.SocketBytes.{IsBrought, KeepsPlaces, begins, byte_of}
 use Rattle.tcp_laws.specs.SocketRun.{Counts, Dispatched, Run, Step, any_filling, any_taking, is_reset, listens_again, opens_listener, starting, starting_if, with_segment}
-use Rattle.tcp_laws.specs.SocketRun.{Listen, Connect, SendSlice, Send, WriteStr, RecvSlice, Recv, Close, Abort, Set, Process, Dispatch}
+use Rattle.tcp_laws.specs.SocketRun.{Listen, Connect, SendSlice, Send, WriteStr, RecvSlice, Recv, Close, Abort, Set, SetPathMtu, Process, Dispatch}
 use Rattle.sock_tcp.specs.View.{View, fresh}
 use Rattle.sock_tcp.specs.Window.{accepted_window, is_inside, cut_of, cut_bytes}
 use Rattle.sock_tcp.specs.declared.error.ConnectError.{ConnectError}
@@ -31,7 +31,7 @@ use Rattle.sock_tcp.specs.declared.tuple.Tuple.{Tuple}
 use Rattle.tcp_laws.proofs.DispatchFrames.{before_keeps, sends_keeps}
 use Rattle.tcp_laws.proofs.Receiving.{only_appends}
 use Rattle.tcp_laws.proofs.Kept.{listening_is, not_zero}
-use Rattle.tcp_laws.proofs.SocketSteps.{Holds, holds_after, same_number, setting_leaves}
+use Rattle.tcp_laws.proofs.SocketSteps.{Holds, holds_after, mtu_rx, same_number, setting_leaves}
 
 -- ---- places
 
@@ -206,6 +206,7 @@ step_keeps_places v w k j c (Recv r h is) b = calm_keeps v w k j (Recv r h is) r
 step_keeps_places v w k j c (Close h is) b = calm_keeps v w k j (Close h is) refl (calm_rx v w k j (same_joined k j is) (ap (λ (x : View). x.rx_buffer) h))
 step_keeps_places v w k j c (Abort h is) b = calm_keeps v w k j (Abort h is) refl (calm_rx v w k j (same_joined k j is) (ap (λ (x : View). x.rx_buffer) h))
 step_keeps_places v w k j c (Set h is) b = calm_keeps v w k j (Set h is) refl (calm_rx v w k j (same_joined k j is) (setting_leaves (λ u. u.rx_buffer ≡ v.rx_buffer) v w (λ x. refl) (λ x. refl) (λ timeout delay nagle hops paused is_there rules estimator. refl) h))
+step_keeps_places v w k j c (SetPathMtu now mtu h is) b = calm_keeps v w k j (SetPathMtu now mtu h is) refl (calm_rx v w k j (same_joined k j is) (ap (λ (x : View). x.rx_buffer) h ∙ mtu_rx v now mtu))
 step_keeps_places v w k j c (Process r now word ip s small numbered short bare h is) b =
     let m : MayTake r v s w = subst (MayTake r v s) (sym h) (only_appends r v now word ip s c.room numbered.seq_number short) in
     segment_keeps r v w k j (Process r now word ip s small numbered short bare h is) s m (no_start (listens_again v.state w.state) w (with_segment k v w) j b is) (λ o bs x. x)

@@ -22,12 +22,12 @@ use Rattle.sock_tcp.specs.declared.rules.Rules.TheVariants as rules
 use Rattle.sock_tcp.specs.declared.window.Window.{Window}
 use Rattle.tcp_laws.proofs.BytesAtPlaces.{closure_rx, dispatch_rx, listen_stays, no_start, queued_rx, refused}
 use Rattle.tcp_laws.proofs.Receiving.{only_appends}
-use Rattle.tcp_laws.proofs.SocketSteps.{Holds, holds_after, same_number, setting_leaves, step_keeps}
+use Rattle.tcp_laws.proofs.SocketSteps.{Holds, holds_after, mtu_rx, same_number, setting_leaves, step_keeps}
 use Rattle.tcp_laws.specs.Honored.{GoesOn, HasTold, Lasts, Stands, ToldWindowsAreHonored, width}
 use Rattle.tcp_laws.specs.Laws.{MayTake}
 use Rattle.tcp_laws.specs.SocketBytes.{begins}
 use Rattle.tcp_laws.specs.SocketRun.{Counts, Step, any_taking, handed_slice, is_reset, listens_again, opens_listener, taken_out, with_segment}
-use Rattle.tcp_laws.specs.SocketRun.{Listen, Connect, SendSlice, Send, WriteStr, RecvSlice, Recv, Close, Abort, Set, Process, Dispatch}
+use Rattle.tcp_laws.specs.SocketRun.{Listen, Connect, SendSlice, Send, WriteStr, RecvSlice, Recv, Close, Abort, Set, SetPathMtu, Process, Dispatch}
 
 -- ---- what a call does to the room of the receive buffer, and to how many bytes were handed out
 
@@ -83,6 +83,7 @@ step_moves v w k j c (Recv r h is) b = record {
 step_moves v w k j c (Close h is) b = alike v w k j (ap (λ (x : View). x.rx_buffer) h) (same_handed k j is)
 step_moves v w k j c (Abort h is) b = alike v w k j (ap (λ (x : View). x.rx_buffer) h) (same_handed k j is)
 step_moves v w k j c (Set h is) b = alike v w k j (setting_leaves (λ u. u.rx_buffer ≡ v.rx_buffer) v w (λ x. refl) (λ x. refl) (λ timeout delay nagle hops paused is_there rules estimator. refl) h) (same_handed k j is)
+step_moves v w k j c (SetPathMtu now mtu h is) b = alike v w k j (ap (λ (x : View). x.rx_buffer) h ∙ mtu_rx v now mtu) (same_handed k j is)
 step_moves v w k j c (Process r now word ip s small numbered short bare h is) b =
     let m : MayTake r v s w = subst (MayTake r v s) (sym h) (only_appends r v now word ip s c.room numbered.seq_number short) in
     record {

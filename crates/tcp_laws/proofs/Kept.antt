@@ -18,9 +18,11 @@ pub use Rattle.sock_tcp.proofs.KeptSegments.{acked_view, timer_then, heard_kept,
 use Rattle.sock_tcp.specs.Advance.{dropped}
 use Rattle.sock_tcp.specs.Begin.{last_ts_set, last_ts_set_at, told_ready, readied, retransmission_begun, fast_retransmission_marked, after_timer, after_timers, begun, begun_to, unless_paused, ended, nothing_due, by_due, before_emit, before_emit_to, peer_of, time_wait_ended, probing_begun, timers_by}
 use Rattle.sock_tcp.specs.Closing.{aborted, closed}
-use Rattle.sock_tcp.specs.Content.{Sending}
+use Rattle.sock_tcp.specs.Content.{Sending, carries_data}
+use Rattle.tcp_laws.proofs.Narrowing.{narrowed_as}
 use Rattle.sock_tcp.specs.Due.{is_due}
 use Rattle.sock_tcp.specs.Opening.{Listens, after_connect, connected, endpoints, is_listening, is_open, listened, renewed}
+use Rattle.sock_tcp.specs.PathMtu.{all_sent_again, shortened}
 use Rattle.sock_tcp.specs.Polls.{is_reached, timeout_poll}
 use Rattle.sock_tcp.specs.Process.{processed_by}
 use Rattle.sock_tcp.specs.Queue.{queue_of}
@@ -46,7 +48,7 @@ use Rattle.sock_tcp.specs.declared.tuple.Tuple.{Tuple}
 use Rattle.tcp_laws.specs.Clocks.{interval_in, interval_set, latest, moment_in}
 use Rattle.tcp_laws.specs.Polling.{IsReached}
 use Rattle.tcp_laws.specs.SocketRun.{Counts, IsNumbered, Run, SendsTo, Sets, Step, any_filling, any_taking}
-use Rattle.tcp_laws.specs.SocketRun.{Listen, Connect, SendSlice, Send, WriteStr, RecvSlice, Recv, Close, Abort, Set, Process, Dispatch, Ends, Then}
+use Rattle.tcp_laws.specs.SocketRun.{Listen, Connect, SendSlice, Send, WriteStr, RecvSlice, Recv, Close, Abort, Set, SetPathMtu, Process, Dispatch, Ends, Then}
 use Rattle.sock_tcp.specs.declared.rules.Rules.{Rules}
 use Rattle.sock_tcp.specs.declared.rules.Rules.TheVariants as rules
 
@@ -259,6 +261,8 @@ pub record Kept (P : Instant → View → Type 0) (Begins : Instant → Type 0) 
   pub beginnings : (now : Instant) → KeptByBeginnings (P now) now
   pub resets : (now : Instant) (v : View) → P now v → P now (renewed v)
   pub sendings : (o : Option Tuple) (f : Facts) (u w : View) (out : Option Sending) → SendsTo o f u out w → P (moment_of f) u → P (moment_of f) w
+  pub shortens : (now : Instant) (v : View) (mss : ℕ) → (48 ≤ v.remote_mss → 48 ≤ mss) → P now v → P now (shortened v mss)
+  pub repeats : (now : Instant) (v : View) → carries_data v.state ≡ true → P now v → P now (all_sent_again v now)
 
 module _ (P : Instant → View → Type 0) (Begins : Instant → Type 0) (Comes : Instant → Instant → Type 0) (Allows : Option Duration → Type 0) (k : Kept P Begins Comes Allows) where
   pub step_kept : (v w : View) (i j : Counts) (last : Instant) (s : Step v i w j) → Begins last → ForSome (moment_in s) (Comes last) → Allows (interval_in s) → P last v → P (latest (moment_in s) last) w
@@ -272,6 +276,9 @@ module _ (P : Instant → View → Type 0) (Begins : Instant → Type 0) (Comes 
   step_kept v w i j last (Close h is) b n m p = subst (P last) (sym h) ((k.calls last b).closes v p)
   step_kept v w i j last (Abort h is) b n m p = subst (P last) (sym h) ((k.calls last b).aborts v p)
   step_kept v w i j last (Set x is) b n m p = (k.calls last b).sets v w x m p
+  step_kept v w i j last (SetPathMtu now mtu h is) b n m p =
+      let u = k.later last now v (n now refl) p in
+      subst (P now) (sym h) (narrowed_as (P now) v now mtu u (λ mss le. k.shortens now v mss le u) (λ x e y. k.repeats now x e y))
   step_kept v w i j last (Process r now word ip s small numbered short bare h is) b n m p = subst (P now) (sym h) (k.segments r now word ip s v small numbered bare (k.later last now v (n now refl) p))
   step_kept v w i j last (Dispatch f out h is) b n m p =
       let now = moment_of f in

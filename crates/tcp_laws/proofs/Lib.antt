@@ -8,6 +8,7 @@ pub mod Releasing
 pub mod DispatchFrames
 pub mod PayloadParts
 pub mod SocketSteps
+pub mod Narrowing
 pub mod Kept
 pub mod CallsAsSteps
 pub mod SegmentsAsSteps

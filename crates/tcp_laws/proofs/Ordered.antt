@@ -391,6 +391,11 @@ mss_open (controller.None x) n h = tt
 mss_open (controller.Reno r) n h = record { cwnd = h.cwnd; mss = omega arith; ssthresh = h.ssthresh }
 mss_open (controller.Cubic c) n h = record { cwnd = h.cwnd; mss = omega arith; ssthresh = h.ssthresh }
 
+pub shortened_open : (c : AnyController) (n : ℕ) → IsOpen c → IsOpen (congestion.with_mss c (max n 1))
+unfolding congestion.with_mss
+shortened_open (controller.None x) n h = tt
+shortened_open (controller.Reno r) n h = record { cwnd = h.cwnd; mss = omega arith; ssthresh = h.ssthresh }
+
 pub taken_open : (c : AnyController) (o : Option ℕ) → IsOpen c → IsOpen (controller_taken c o)
 taken_open c None h = h
 taken_open c (Some n) h = go (n == 0)

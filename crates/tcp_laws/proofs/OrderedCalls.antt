@@ -12,6 +12,8 @@ use Rattle.sock_core.specs.Facts.{Facts}
 use Rattle.sock_core.specs.Received.{receiving}
 use Rattle.sock_core.specs.declared.congestion.AnyController.{AnyController}
 use Rattle.sock_core.specs.declared.congestion.AnyController.TheVariants as controller
+use Rattle.sock_tcp.specs.Content.{carries_data}
+use Rattle.sock_tcp.specs.PathMtu.{all_sent_again, shortened}
 use Rattle.sock_tcp.specs.Begin.{readied, retransmission_begun, fast_retransmission_marked, after_timers, before_emit}
 use Rattle.sock_tcp.specs.Closing.{closed, waits_in}
 use Rattle.sock_tcp.specs.Due.{flight}
@@ -36,7 +38,7 @@ use Rattle.sock_tcp.specs.declared.timer.Timer.{Timer}
 use Rattle.sock_tcp.specs.declared.timer.Timer.TheVariants as timer
 use Rattle.sock_tcp.specs.declared.tuple.Tuple.{Tuple}
 use Rattle.tcp_laws.proofs.Kept.{Kept, KeptByBeginnings, KeptByCalls, before_kept, listening_is, readied_kept, reached_kept, timers_kept}
-use Rattle.tcp_laws.proofs.Ordered.{HasMoment, IsOpen, IsOpening, IsOrdered, IsPeeredIn, Row, closed_row, is_close, idle_has_moment, kind_open, lost_open, no_distance, pre_transmitted_open, timed_out_open}
+use Rattle.tcp_laws.proofs.Ordered.{HasMoment, IsOpen, IsOpening, IsOrdered, IsPeeredIn, Row, closed_row, idle_has_moment, is_close, kind_open, lost_open, no_distance, pre_transmitted_open, shortened_open, timed_out_open}
 use Rattle.tcp_laws.proofs.OrderedSegments.{process_ordered}
 use Rattle.tcp_laws.proofs.OrderedSendings.{sends_ordered}
 use Rattle.tcp_laws.proofs.SocketSteps.{same_number, setting_leaves}
@@ -355,6 +357,25 @@ calls_ordered = record {
   sets = λ v w x m h. setting_ordered v w h x;
 }
 
+-- ---- the path MTU
+
+shortened_ordered : (v : View) (mss : ℕ) → IsOrdered v → IsOrdered (shortened v mss)
+unfolding shortened
+shortened_ordered v mss h = record { una_small = h.una_small; nxt_small = h.nxt_small; room = h.room; congestion = shortened_open v.congestion_controller mss h.congestion; peered = h.peered; row = h.row }
+
+-- nothing is in flight, and what goes out again is waited for
+repeated_row : (st : State) (now : Instant) (e : Estimator) (keep : Option Duration) (flight n : ℕ) → carries_data st ≡ true → flight ≡ 0 → Row st (retransmit_from now e) keep flight n
+repeated_row state.Established now e keep flight n c f = (tt, omega (arith, f))
+repeated_row state.CloseWait now e keep flight n c f = (tt, omega (arith, f))
+repeated_row state.FinWait1 now e keep flight n c f = (tt, omega (arith, f))
+repeated_row state.Closing now e keep flight n c f = (tt, omega (arith, f))
+repeated_row state.LastAck now e keep flight n c f = (tt, omega (arith, f))
+repeated_row _ now e keep flight n c f = absurd cc
+
+repeated_ordered : (v : View) (now : Instant) → carries_data v.state ≡ true → IsOrdered v → IsOrdered (all_sent_again v now)
+unfolding all_sent_again
+repeated_ordered v now e h = record { una_small = h.una_small; nxt_small = h.una_small; room = h.room; congestion = h.congestion; peered = h.peered; row = repeated_row v.state now (retransmitted v.rtte) v.keep_alive (seq_sub v.local_seq_no v.local_seq_no) (length v.tx_buffer.bytes) e (no_distance v.local_seq_no h.una_small) }
+
 -- ---- any call
 
 pub kept_ordered : Kept (λ at. IsOrdered) (λ at. Unit {0}) (λ last now. Unit {0}) (λ d. Unit {0})
@@ -365,6 +386,8 @@ kept_ordered = record {
   beginnings = λ now. begins_ordered now;
   resets = λ now v h. renewed_ordered v h.room;
   sendings = λ o f u w out h i. sends_ordered o f u out w h i;
+  shortens = λ now v mss le h. shortened_ordered v mss h;
+  repeats = λ now v e h. repeated_ordered v now e h;
 }
 
 pub fresh_ordered : (rx tx : Ring ℕ) → length tx.queue + length tx.spare ≤ 2 ^ 30 → IsOrdered (fresh (receiving rx) (queue_of tx))

@@ -10,6 +10,7 @@ use Rattle.sock_core.specs.Estimator.{Estimator, acked, acked_at, backed_off, be
 use Rattle.sock_core.specs.declared.rtte.Timing.{Timing}
 use Rattle.sock_core.specs.declared.rtte.StampTiming.{StampTiming}
 use Rattle.control_wire.specs.Seq.{seq_of}
+use Rattle.sock_tcp.specs.PathMtu.{all_sent_again, shortened}
 use Rattle.sock_tcp.specs.Due.{is_opening}
 use Rattle.sock_tcp.specs.Rfc.RoundTrips.{echo_heard, sending_measured, stamp_timed}
 use Rattle.sock_tcp.specs.declared.emission.Emitted.{Emitted}
@@ -207,6 +208,7 @@ calls_paced = record {
 }
 
 kept_paced : Kept (λ at. IsPaced) (λ at. Unit {0}) (λ last now. Unit {0}) (λ d. Unit {0})
+unfolding shortened all_sent_again
 kept_paced = record {
   later = λ last now v c h. h;
   calls = λ last b. calls_paced;
@@ -214,6 +216,8 @@ kept_paced = record {
   beginnings = λ now. begins_paced now;
   resets = λ now v h. new_paced v;
   sendings = λ o f u w out h i. sends_kept IsPaced f (sends_paced (moment_of f)) o u w out h i;
+  shortens = λ now v mss le h. h;
+  repeats = λ now v e h. fast_paced v.rtte h;
 }
 
 pub reached_paced : (v : View) → IsReached v → IsPaced v

@@ -13,6 +13,7 @@ use Rattle.control_wire.specs.declared.tcp.TcpControl.{TcpControl}
 use Rattle.sock_core.specs.Places.{number_is_before}
 use Rattle.sock_core.specs.Seq.{is_before, later_of}
 use Rattle.sock_core.proofs.Numbers as numbers
+use Rattle.sock_tcp.specs.PathMtu.{all_sent_again, shortened}
 use Rattle.sock_tcp.specs.Acked.{acked_of}
 use Rattle.sock_tcp.specs.Advance.{advance_in, advanced, counted_control, fallen_back, fin_counted, options_taken, syn_answered, syn_received}
 use Rattle.sock_tcp.specs.Arrival.{Arrival, arrival}
@@ -287,6 +288,7 @@ unfolding renewed fresh
 renewed_fits v = refl
 
 kept_pointed : Kept (λ at. IsPointed) (λ at. Unit {0}) (λ last now. Unit {0}) (λ d. Unit {0})
+unfolding shortened all_sent_again
 kept_pointed = record {
   later = λ last now v c h. h;
   calls = λ last b. calls_pointed last;
@@ -294,6 +296,8 @@ kept_pointed = record {
   beginnings = λ now. begins_pointed now;
   resets = λ now v h. (kept_ordered.resets now v h.0, renewed_fits v);
   sendings = λ o f u w out h i. (kept_ordered.sendings o f u w out h i.0, sends_kept (λ u. fits u.recovery ≡ true) f (sends_fit _) o u w out h i.1);
+  shortens = λ now v mss le h. (kept_ordered.shortens now v mss le h.0, h.1);
+  repeats = λ now v e h. (kept_ordered.repeats now v e h.0, timed_fits v.rules v.recovery v.remote_last_seq h.1 h.0.nxt_small);
 }
 
 pub reached_pointed : (v : View) → IsReached v → IsPointed v

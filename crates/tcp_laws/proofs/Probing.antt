@@ -7,6 +7,7 @@ use Rattle.net_base.specs.declared.time.Instant.{Instant}
 use Rattle.control_wire.specs.Segment.{Segment}
 use Rattle.sock_core.specs.Estimator.{Estimator, backed_off, retransmitted}
 use Rattle.sock_core.specs.Facts.{Facts}
+use Rattle.sock_tcp.specs.PathMtu.{all_sent_again, shortened}
 use Rattle.sock_tcp.specs.Advance.{fallen_back, fin_counted, mss_taken, options_taken, syn_answered, syn_received}
 use Rattle.sock_tcp.specs.Begin.{retransmission_begun, fast_retransmission_marked, before_emit}
 use Rattle.sock_tcp.specs.Opening.{connected, listened, renewed}
@@ -225,6 +226,7 @@ calls_probing = record {
 -- ---- any call
 
 pub kept_probing : Kept (λ at. IsProbing) (λ at. Unit {0}) (λ last now. Unit {0}) (λ d. Unit {0})
+unfolding shortened all_sent_again
 kept_probing = record {
   later = λ last now v c h. h;
   calls = λ last b. calls_probing;
@@ -232,6 +234,8 @@ kept_probing = record {
   beginnings = λ now. begins_probing now;
   resets = λ now v h. new_probing v;
   sendings = λ o f u w out h i. sends_kept IsProbing f (sends_probing (moment_of f)) o u w out h i;
+  shortens = λ now v mss le h. record { window = h.window; mss = le h.mss };
+  repeats = λ now v e h. record { window = tt; mss = h.mss };
 }
 
 pub before_probing : (f : Facts) (v : View) → IsProbing v → IsProbing (before_emit v f).view

@@ -7,6 +7,7 @@ use Rattle.control_wire.specs.Segment.{Segment}
 use Rattle.sock_core.specs.Received.{Received, behind_run, cleared, gathered, handed_out, makes_fifth_range, receiving, received, room_of, run_of, taken_in, written}
 use Rattle.sock_core.specs.WindowShift.{window_shift}
 use Rattle.sock_core.proofs.Shifts.{is_shift_least}
+use Rattle.sock_tcp.specs.PathMtu.{all_sent_again, shortened}
 use Rattle.sock_tcp.specs.Advance.{fallen_back, fin_counted, options_taken, shift_taken, syn_answered, syn_received}
 use Rattle.sock_tcp.specs.Begin.{retransmission_begun, fast_retransmission_marked}
 use Rattle.sock_tcp.specs.Opening.{connected, listened, renewed}
@@ -153,6 +154,7 @@ calls_scaled = record {
 }
 
 kept_scaled : Kept (λ at. IsScaled) (λ at. Unit {0}) (λ last now. Unit {0}) (λ d. Unit {0})
+unfolding shortened all_sent_again
 kept_scaled = record {
   later = λ last now v c h. h;
   calls = λ last b. calls_scaled;
@@ -160,6 +162,8 @@ kept_scaled = record {
   beginnings = λ now. begins_scaled now;
   resets = λ now v h. new_scaled v;
   sendings = λ o f u w out h i. sends_kept IsScaled f (sends_scaled (moment_of f)) o u w out h i;
+  shortens = λ now v mss le h. h;
+  repeats = λ now v e h. h;
 }
 
 -- so after any list of calls a receive buffer that has a byte has room for one unit of the window field

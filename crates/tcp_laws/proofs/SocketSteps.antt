@@ -26,7 +26,7 @@ use Rattle.sock_tcp.specs.Process.{processed_by}
 use Rattle.sock_tcp.specs.Queue.{Queue, queue_of}
 use Rattle.sock_tcp.specs.Queues.{Reads, ReadsWithIf, Sends, SendsWithIf, fitting, may_recv, may_send, queued, read_off, readable, recv_refusal}
 use Rattle.tcp_laws.specs.SocketRun.{Counts, Dispatched, IsNumbered, IsPart, Promised, Run, SendsTo, Sets, Step, accepted, any_filling, any_taking, filled_in, handed_slice, is_reset, listens_again, opens_listener, starting, starting_if, taken_out, with_handed, with_segment, with_sent}
-use Rattle.tcp_laws.specs.SocketRun.{Listen, Connect, SendSlice, Send, WriteStr, RecvSlice, Recv, Close, Abort, Set, Process, Dispatch, SetCongestionControl, SetTimeout, SetAckDelay, SetNagle, SetKeepAlive, SetHopLimit, PauseSynAck, SetTsvalGenerator, SetRules, SetMinRto, Ends, Then}
+use Rattle.tcp_laws.specs.SocketRun.{Listen, Connect, SendSlice, Send, WriteStr, RecvSlice, Recv, Close, Abort, Set, SetPathMtu, Process, Dispatch, SetCongestionControl, SetTimeout, SetAckDelay, SetNagle, SetKeepAlive, SetHopLimit, PauseSynAck, SetTsvalGenerator, SetRules, SetMinRto, Ends, Then}
 use Rattle.sock_tcp.specs.Settings.{of_kind}
 use Rattle.sock_tcp.specs.View.{View, fresh}
 use Rattle.sock_tcp.specs.declared.emission.Kind.TheVariants as kind
@@ -41,6 +41,8 @@ use Rattle.sock_tcp.specs.declared.state.State.TheVariants as state
 use Rattle.sock_tcp.specs.declared.tuple.Tuple.{Tuple}
 use Rattle.tcp_laws.proofs.DispatchFrames.{Keeps, before_keeps, before_resets, sends_keeps}
 use Rattle.tcp_laws.proofs.Kept.{listening_is, not_zero}
+use Rattle.tcp_laws.proofs.Narrowing.{narrowed_as}
+use Rattle.sock_tcp.specs.PathMtu.{all_sent_again, path_mtu_set, shortened}
 use Rattle.tcp_laws.proofs.PayloadParts.{sends_part}
 use Rattle.tcp_laws.proofs.Receiving.{only_appends}
 use Rattle.tcp_laws.proofs.Releasing.{Releases, process_releases}
@@ -177,6 +179,16 @@ setting_leaves P v w c k o (PauseSynAck x e) = subst P (sym e) (o v.timeout v.ac
 setting_leaves P v w c k o (SetTsvalGenerator x e) = subst P (sym e) (o v.timeout v.ack_delay v.nagle v.hop_limit v.synack_paused x v.rules v.rtte)
 setting_leaves P v w c k o (SetRules x e) = subst P (sym e) (o v.timeout v.ack_delay v.nagle v.hop_limit v.synack_paused v.stamps x v.rtte)
 setting_leaves P v w c k o (SetMinRto x e) = subst P (sym e) (o v.timeout v.ack_delay v.nagle v.hop_limit v.synack_paused v.stamps v.rules (bounded_below v.rtte x))
+
+-- ---- the path MTU
+
+mtu_holds : (v : View) (k : Counts) (now : Instant) (mtu : ℕ) → Holds v k → Holds (path_mtu_set v now mtu) k
+unfolding shortened all_sent_again
+mtu_holds v k now mtu c = narrowed_as (λ u. Holds u k) v now mtu c (λ mss le. c) (λ u e h. h)
+
+pub mtu_rx : (v : View) (now : Instant) (mtu : ℕ) → (path_mtu_set v now mtu).rx_buffer ≡ v.rx_buffer
+unfolding shortened all_sent_again
+mtu_rx v now mtu = narrowed_as (λ u. u.rx_buffer ≡ v.rx_buffer) v now mtu refl (λ mss le. refl) (λ u e h. h)
 
 -- ---- connect
 
@@ -327,6 +339,7 @@ step_keeps v w k j (Recv r h is) c = subst (Holds w) (sym is) (closure_read (may
 step_keeps v w k j (Close h is) c = subst (Holds w) (sym is) (subst (λ u. Holds u k) (sym h) c)
 step_keeps v w k j (Abort h is) c = subst (Holds w) (sym is) (subst (λ u. Holds u k) (sym h) c)
 step_keeps v w k j (Set h is) c = subst (Holds w) (sym is) (setting_leaves (λ u. Holds u k) v w (λ x. c) (λ x. c) (λ timeout delay nagle hops paused is_there rules estimator. c) h)
+step_keeps v w k j (SetPathMtu now mtu h is) c = subst (Holds w) (sym is) (subst (λ u. Holds u k) (sym h) (mtu_holds v k now mtu c))
 step_keeps v w k j (Process x now word ip s small numbered short bare h is) c = subst (Holds w) (sym is) (process_kept x v w k now word ip s c small numbered short h)
 step_keeps v w k j (Dispatch f out h is) c = subst (Holds w) (sym is) (dispatch_kept v w k f out c h)
 

@@ -7,6 +7,7 @@ use Rattle.net_base.specs.declared.time.Duration.{Duration}
 use Rattle.net_base.specs.declared.time.Instant.{Instant}
 use Rattle.control_wire.specs.Segment.{Segment}
 use Rattle.control_wire.specs.declared.seq_number.TcpSeqNumber.{TcpSeqNumber}
+use Rattle.sock_tcp.specs.PathMtu.{all_sent_again, shortened}
 use Rattle.sock_tcp.specs.Advance.{fallen_back, fin_counted, options_taken, syn_answered, syn_received}
 use Rattle.sock_tcp.specs.Begin.{retransmission_begun, fast_retransmission_marked}
 use Rattle.sock_tcp.specs.Opening.{connected, listened, renewed}
@@ -201,6 +202,7 @@ module _ (most : Duration) (minute : 60000000 ≤ most.micros) where
   -- ---- any call
 
   pub kept_timed : Kept (λ last. IsTimed last most) (λ last. pos 0 ≤ℤ last.micros) (λ last now. last.micros ≤ℤ now.micros) (λ d. IsAtMost d most)
+  unfolding shortened all_sent_again
   kept_timed = record {
     later = λ last now v c h. later_timed last now most v c h;
     calls = λ last z. calls_timed last z;
@@ -208,4 +210,6 @@ module _ (most : Duration) (minute : 60000000 ≤ most.micros) where
     beginnings = λ now. begins_timed now;
     resets = λ now v h. renewed_timed now v h;
     sendings = λ o f u w out h i. sends_kept (IsTimed (moment_of f) most) f (sends_timed (moment_of f)) o u w out h i;
+    shortens = λ now v mss le h. h;
+    repeats = λ now v e h. record { timer = rto_by most minute now (retransmitted v.rtte) (fast_short v.rtte h.timeout); waits = h.waits; timeout = fast_short v.rtte h.timeout; keep_short = h.keep_short; delay_short = h.delay_short; idle = h.idle };
   }

@@ -16,7 +16,7 @@ use Rattle.sock_tcp.specs.View.{View, fresh, moment_of}
 use Rattle.sock_tcp.specs.declared.tuple.Tuple.{Tuple}
 use Rattle.tcp_laws.specs.Polling.{ComesBy}
 use Rattle.tcp_laws.specs.SocketRun.{Counts, Sets, Step, starting}
-use Rattle.tcp_laws.specs.SocketRun.{Process, Dispatch, Set, SetKeepAlive, SetAckDelay}
+use Rattle.tcp_laws.specs.SocketRun.{Process, Dispatch, Set, SetPathMtu, SetKeepAlive, SetAckDelay}
 
 -- ---- a list of calls with its clock
 
@@ -24,6 +24,7 @@ use Rattle.tcp_laws.specs.SocketRun.{Process, Dispatch, Set, SetKeepAlive, SetAc
 abbrev pub moment_in : {v w : View} {k j : Counts} → Step v k w j → Option Instant
 moment_in (Process r now word ip s small numbered short bare view counts) = Some now
 moment_in (Dispatch f out sends counts) = Some (moment_of f)
+moment_in (SetPathMtu now mtu view counts) = Some now
 moment_in _ = None
 
 -- the interval of keep-alives, or the delay of acknowledgements, that a call sets

@@ -23,6 +23,7 @@ use Rattle.tcp_laws.specs.Laws.{MayTake}
 use Rattle.sock_tcp.specs.Opening.{after_connect, endpoints, is_listening, is_open, Listens}
 use Rattle.sock_tcp.specs.Process.{processed, processed_by}
 use Rattle.sock_tcp.specs.Outgoing.{packet_of}
+use Rattle.sock_tcp.specs.PathMtu.{path_mtu_set}
 use Rattle.sock_tcp.specs.Queue.{IsLent}
 use Rattle.sock_tcp.specs.Queues.{fitting, may_send, Sends, SendsWithIf, SendsWith, Writes}
 use Rattle.sock_tcp.specs.Queues.{may_recv, Reads, ReadsWithIf, ReadsWith}
@@ -224,6 +225,9 @@ pub data Step (v : View) (k : Counts) (w : View) (j : Counts) : Type 0 where
   Abort : w ≡ aborted v
       → j ≡ k → Step v k w j
   Set : Sets v w
+      → j ≡ k → Step v k w j
+  SetPathMtu : (now : Instant) (mtu : ℕ)
+      → w ≡ path_mtu_set v now mtu
       → j ≡ k → Step v k w j
   Process : (r : Rules) (now : Instant) (word : ℕ) (ip : IpRepr) (s : Segment)
       → word < 2 ^ 32 → IsNumbered s → length s.payload ≤ 65535

@@ -14,6 +14,7 @@ ghost use Rattle.tcp_laws.specs.Laws.{MayTake};
 ghost use Rattle.tcp_laws.specs.Polling.{IsReached};
 ghost use Rattle.sock_tcp.specs.Opening.{Connects, Listens};
 ghost use Rattle.sock_tcp.specs.Process.{source_kept, processed, Accepts, Processes};
+ghost use Rattle.sock_tcp.specs.PathMtu.{path_mtu_set};
 ghost use Rattle.sock_tcp.specs.Queue.{queue_of};
 ghost use Rattle.sock_tcp.specs.Queues.{SendsWith, ReadsWith};
 ghost use Rattle.tcp_laws.specs.SocketBytes.{begins, KeepsPlaces};
@@ -210,4 +211,5 @@ pub fn settings_are_calls()
     ensures generator { (v : View) (k : Counts) (x : Bool) → Step v k (record v { stamps = x }) k }
     ensures rules { (v : View) (k : Counts) (x : Rules) → Step v k (record v { rules = x }) k }
     ensures min_rto { (v : View) (k : Counts) (x : ℕ) → Step v k (record v { rtte = bounded_below v.rtte x }) k }
+    ensures path_mtu { (v : View) (k : Counts) (now : Instant) (mtu : ℕ) → Step v k (path_mtu_set v now mtu) k }
 {}

@@ -1,5 +1,5 @@
 use Rattle.std.proofs.Common.{refl}
-use Rattle.tcp_laws.specs.SocketRun.{Set, SetCongestionControl, SetTimeout, SetAckDelay, SetNagle, SetKeepAlive, SetHopLimit, PauseSynAck, SetTsvalGenerator, SetRules, SetMinRto}
+use Rattle.tcp_laws.specs.SocketRun.{Set, SetPathMtu, SetCongestionControl, SetTimeout, SetAckDelay, SetNagle, SetKeepAlive, SetHopLimit, PauseSynAck, SetTsvalGenerator, SetRules, SetMinRto}
 use Rattle.tcp_laws.proofs.streams.settings_are_calls.Goals as goal
 
 pub returns-clause-congestion_control : goal.returns-clause-congestion_control
@@ -31,3 +31,6 @@ returns-clause-rules c v k x = Set (SetRules x refl) refl
 
 pub returns-clause-min_rto : goal.returns-clause-min_rto
 returns-clause-min_rto c v k x = Set (SetMinRto x refl) refl
+
+pub returns-clause-path_mtu : goal.returns-clause-path_mtu
+returns-clause-path_mtu c v k now mtu = SetPathMtu now mtu refl refl
