@@ -395,6 +395,7 @@ pub shortened_open : (c : AnyController) (n : ℕ) → IsOpen c → IsOpen (cong
 unfolding congestion.with_mss
 shortened_open (controller.None x) n h = tt
 shortened_open (controller.Reno r) n h = record { cwnd = h.cwnd; mss = omega arith; ssthresh = h.ssthresh }
+shortened_open (controller.Cubic c) n h = record { cwnd = h.cwnd; mss = omega arith; ssthresh = h.ssthresh }
 
 pub taken_open : (c : AnyController) (o : Option ℕ) → IsOpen c → IsOpen (controller_taken c o)
 taken_open c None h = h
