@@ -21,3 +21,4 @@ pub mod Emitting
 pub mod Lending
 pub mod Quiet
 pub mod Sending
+pub mod UserTimeout
