@@ -197,9 +197,10 @@ int64_t smoltcp_tcp_remote_endpoint(const struct smoltcp_tcp *s, struct smoltcp_
  * Errors: SMOLTCP_ERROR_NULL. */
 int64_t smoltcp_tcp_listen_endpoint(const struct smoltcp_tcp *s, struct smoltcp_endpoint *out);
 
-/* Ends a connection from which nothing was heard for so long, in microseconds, at most 2^61; below 0: never, as in a
- * new socket (RFC 9293, section 3.9.1). An idle one ends too, unless keep-alives of a shorter interval ask its peer.
- * Without a timeout a connection can wait for ever: docs/STALLS.md.
+/* Ends a connection from which nothing was heard for so long, in microseconds, at most 2^61; below 0: never. Five
+ * minutes in a new socket (RFC 9293, section 3.9.1.1). By the RFCs' rules it runs while something is not acknowledged
+ * (RFC 5482), and where a keep-alive is not answered; by smoltcp's also while a connection is idle. Without a timeout a
+ * connection can wait for ever: docs/STALLS.md.
  *
  * Errors: SMOLTCP_ERROR_RANGE, SMOLTCP_ERROR_NULL. */
 int64_t smoltcp_tcp_set_timeout(struct smoltcp_tcp *s, int64_t micros);

@@ -17,6 +17,7 @@ use Rattle.sock_tcp.specs.Content.{Sending, asked, offset_of, content}
 use Rattle.sock_tcp.specs.Due.{is_due}
 use Rattle.sock_tcp.specs.Opening.{renewed}
 use Rattle.sock_tcp.specs.Polls.{is_reached, timeout_poll}
+use Rattle.sock_tcp.specs.Rfc.UserTimeout.{timeout_of}
 use Rattle.sock_tcp.specs.Queue.{IsLent}
 use Rattle.sock_tcp.specs.Rfc.TailLoss.{probes_tail, probed_by, tail_probed, tail_armed}
 use Rattle.sock_tcp.specs.Rfc.RoundTrips.{sending_measured}
@@ -82,7 +83,7 @@ timer_shows (timer.Close t) v now bounds = Same refl
 
 timers_show : (v : View) (now : Instant) → (HasIss (phase_of v.state) → HasSendingBounds (shown v)) → DispatchEffect (shown v) (shown (after_timers v now))
 unfolding after_timers tail_probed probed_by
-timers_show v now bounds = go (is_reached (timeout_poll v.timeout v.remote_last_ts) now)
+timers_show v now bounds = go (is_reached (timeout_poll (timeout_of v) v.remote_last_ts) now)
   where
     probed : (b : Bool) → DispatchEffect (shown v) (shown (timers_by b v now))
     probed true = Same refl

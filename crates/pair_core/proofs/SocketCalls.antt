@@ -177,7 +177,7 @@ set_call (setting.Nagle on) v k = (k, calls.Set (calls.SetNagle on refl) refl, t
 set_call (setting.HopLimit n) v k = (k, calls.Set (calls.SetHopLimit n.hop_limit refl) refl, tt)
 set_call (setting.Congestion c) v k = (k, calls.Set (calls.SetCongestionControl c refl) refl, tt)
 set_call (setting.Pause on) v k = (k, calls.Set (calls.PauseSynAck on refl) refl, tt)
-set_call (setting.Rules x) v k = (k, calls.Set (calls.SetRules (rules_set v x).rules refl) refl, λ o. goes_on_open (is_open v.state) v.rules x o)
+set_call (setting.Rules x) v k = (k, calls.Set (calls.SetRules (rules_set v x).rules (rules_set v x).timeout refl) refl, λ o. goes_on_open (is_open v.state) v.rules x o)
 
 -- the source of timestamps that a new socket has
 pub source_call : (v : View) (is_there : Bool) → IsCall v (record v { stamps = is_there })

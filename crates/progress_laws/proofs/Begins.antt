@@ -21,6 +21,7 @@ use Rattle.sock_tcp.specs.Due.{is_closing, is_due}
 use Rattle.sock_tcp.specs.Process.{Outcome}
 use Rattle.progress_laws.specs.Smoltcp.{processed}
 use Rattle.sock_tcp.specs.Polls.{is_reached, timeout_poll}
+use Rattle.sock_tcp.specs.Rfc.UserTimeout.{timeout_by, timeout_of}
 use Rattle.sock_tcp.specs.Rfc.Recovery.{begun_by, marked_by}
 use Rattle.sock_tcp.specs.Rfc.TailLoss.{is_retransmission_over, may_probe_by, may_speak, probes_tail, probed_by, tail_probed}
 use Rattle.sock_tcp.proofs.Recovering.{begun_as, marked_as}
@@ -134,6 +135,9 @@ pub record Alike (v x : View) : Type 0 where
   pub marked : x.pending_fast_retransmit ≡ v.pending_fast_retransmit
   pub mss : x.remote_mss ≡ v.remote_mss
   pub delay : x.ack_delay_timer ≡ v.ack_delay_timer
+
+same_timeout : {v x : View} → Same v x → timeout_of x ≡ timeout_of v
+same_timeout s = λ i. timeout_by (s.same_rules i) (s.state i) (length (s.tx i).bytes == 0) (s.timeout i) (s.keep_alive i)
 
 pub readied_alike : (v : View) (now : Instant) → Alike v (readied v now)
 unfolding readied last_ts_set
@@ -255,8 +259,8 @@ module _ (v : View) (t : Tuple) (f : Facts) (h : GoesOn v t f) (c : is_paused v.
   unfolding after_timers
   timers_are = rw alive refl
     where
-      alive : is_reached (timeout_poll x.timeout x.remote_last_ts) now ≡ false
-      alive = ap (λ d. is_reached (timeout_poll d x.remote_last_ts) now) still.same.timeout ∙ h.alive
+      alive : is_reached (timeout_poll (timeout_of x) x.remote_last_ts) now ≡ false
+      alive = ap (λ d. is_reached (timeout_poll d x.remote_last_ts) now) (same_timeout still.same) ∙ h.alive
 
   -- by smoltcp's rules what the timer asks for
   pub smoltcp_begins : v.rules ≡ rules.Smoltcp → beginning ≡ after_timer v.timer x now

@@ -16,7 +16,9 @@ use Rattle.sock_tcp.specs.Content.{Sending, asked, carries_data, emission_kind, 
 use Rattle.sock_tcp.specs.Due.{congestion_left, data_due, effective_mss, flight, is_closed, is_due}
 use Rattle.sock_tcp.specs.Rfc.OwnWindow.{space_field}
 use Rattle.sock_tcp.specs.declared.rules.Rules.TheVariants as rules
+use Rattle.sock_tcp.proofs.UserTimeout.{none_runs}
 use Rattle.sock_tcp.specs.Polls.{is_reached, timeout_poll}
+use Rattle.sock_tcp.specs.Rfc.UserTimeout.{timeout_of}
 use Rattle.sock_tcp.specs.Queue.{Queue}
 use Rattle.sock_tcp.specs.Queues.{may_send}
 use Rattle.sock_tcp.specs.Timers.{after as moment_after, idle_from, is_close_over, is_keep_alive_over, is_over, is_probe_over, keep_alive_renewed, retransmit_unless_set, rto_of}
@@ -136,8 +138,8 @@ begins_again : (x : View) (now at : Instant) → x.timeout ≡ None → x.rules 
 unfolding after_timers
 begins_again x now at none smoltcp waits over = ap (λ b. if b then record x { state = state.Closed } else timers_by (probes_tail x now) x now) alive ∙ ap (λ b. timers_by b x now) no_tail ∙ ap (λ tm. after_timer tm x now) waits ∙ ap (λ c. if c then retransmission_begun x now else x) over
   where
-    alive : is_reached (timeout_poll x.timeout x.remote_last_ts) now ≡ false
-    alive = ap (λ o. is_reached (timeout_poll o x.remote_last_ts) now) none
+    alive : is_reached (timeout_poll (timeout_of x) x.remote_last_ts) now ≡ false
+    alive = ap (λ o. is_reached (timeout_poll o x.remote_last_ts) now) (none_runs x none)
 
     no_tail : probes_tail x now ≡ false
     no_tail = ap (λ r. may_probe_by r (may_speak x) && is_retransmission_over x.timer now) smoltcp

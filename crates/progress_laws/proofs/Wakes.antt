@@ -8,6 +8,7 @@ use Rattle.sock_core.specs.declared.context.PollAt.{PollAt}
 use Rattle.sock_core.specs.declared.context.PollAt.TheVariants as poll
 use Rattle.sock_tcp.specs.Due.{held_poll}
 use Rattle.sock_tcp.specs.Poll.{is_due_now, poll_moment, poll_moment_to}
+use Rattle.sock_tcp.proofs.UserTimeout.{none_runs}
 use Rattle.sock_tcp.specs.Polls.{earlier, timeout_poll, timer_poll}
 use Rattle.sock_tcp.specs.Timers.{after}
 use Rattle.sock_tcp.specs.View.{View}
@@ -44,7 +45,7 @@ is_held (poll.Time t) = inr (λ e. cc)
 
 moment : (v : View) (t : Tuple) (f : Facts) (b : Bool) → v.tuple ≡ Some t → v.timeout ≡ None → is_due_now v t f ≡ b → timer_poll v.timer ≡ poll.Ingress → held_poll v ≡ poll.Ingress → poll_moment v f ≡ (if b then poll.Now else poll.Ingress)
 unfolding poll_moment
-moment v t f b peer none y i x = ap (λ o. poll_moment_to o v f) peer ∙ (λ j. if y j then poll.Now else earlier (i j) (earlier (timeout_poll (none j) v.remote_last_ts) (x j)))
+moment v t f b peer none y i x = ap (λ o. poll_moment_to o v f) peer ∙ (λ j. if y j then poll.Now else earlier (i j) (earlier (timeout_poll (none_runs v none j) v.remote_last_ts) (x j)))
 
 pub work_wakes_or_sleeps : WorkWakesOrSleeps
 work_wakes_or_sleeps v last most t f r peer no_timeout work = by (has_moment v.timer) (is_held (held_poll v)) (is_due_now v t f) refl

@@ -10,6 +10,7 @@ use Rattle.sock_tcp.specs.Content.{Sending, asked, carries_data, content, offset
 use Rattle.sock_tcp.specs.Due.{flight}
 use Rattle.sock_tcp.specs.declared.rules.Rules.TheVariants as rules
 use Rattle.sock_tcp.specs.Polls.{is_reached, timeout_poll, timer_poll}
+use Rattle.sock_tcp.specs.Rfc.UserTimeout.{timeout_of}
 use Rattle.sock_tcp.specs.Queue.{IsLent}
 use Rattle.sock_tcp.specs.Sent.{left_by}
 use Rattle.sock_tcp.specs.Timers.{is_close_over}
@@ -43,7 +44,7 @@ DispatchesOk f v out w = SendsOkTo (peer_of (before_emit v f)) f (before_emit v 
 pub record GoesOn (v : View) (t : Tuple) (f : Facts) : Type 0 where
   pub peer : v.tuple ≡ Some t
   pub address : f.has_address t.local.addr ≡ true
-  pub alive : is_reached (timeout_poll v.timeout (readied v (moment_of f)).remote_last_ts) (moment_of f) ≡ false
+  pub alive : is_reached (timeout_poll (timeout_of v) (readied v (moment_of f)).remote_last_ts) (moment_of f) ≡ false
   pub no_end : is_close_over v.timer (moment_of f) ≡ false
 
 -- and what its timer waits for has come

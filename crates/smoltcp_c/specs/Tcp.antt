@@ -10,6 +10,7 @@ use Rattle.sock_tcp.specs.declared.ended.Ended.{Ended}
 use Rattle.sock_tcp.specs.Opening.{is_open, rules_set}
 use Rattle.sock_core.specs.Received.{Received}
 use Rattle.sock_tcp.specs.Queue.{Queue}
+use Rattle.sock_tcp.specs.Rfc.UserTimeout.{usual_timeout}
 use Rattle.sock_tcp.specs.View.{View, fresh}
 use Rattle.smoltcp_c.specs.Answers.{error_state}
 use Rattle.smoltcp_c.specs.declared.handles.TcpHandle.{TcpHandle}
@@ -17,9 +18,9 @@ use Rattle.smoltcp_c.specs.declared.handles.TcpHandle.{TcpHandle}
 abbrev pub view : TcpHandle → View
 view h = h.socket.control_block
 
--- what init makes: a new socket, by the RFCs' rules
+-- what init makes: a new socket, by the RFCs' rules, with their user timeout
 abbrev pub made_over : Received → Queue → View
-made_over rx tx = record (fresh rx tx) { rules = rules.Rfc }
+made_over rx tx = record (fresh rx tx) { rules = rules.Rfc; timeout = Some usual_timeout }
 
 abbrev pub clock : TcpHandle → Option Clock
 clock h = h.socket.tsval_generator

@@ -22,3 +22,4 @@ pub mod Lending
 pub mod Quiet
 pub mod Sending
 pub mod Reasoning
+pub mod UserTimeout

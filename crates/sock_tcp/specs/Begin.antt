@@ -12,6 +12,7 @@ use Rattle.sock_tcp.specs.Rfc.Recovery.{begun_by, marked_by, timed_out_by}
 use Rattle.sock_tcp.specs.Rfc.Scoreboard.{nothing_told}
 use Rattle.sock_tcp.specs.Rfc.TailLoss.{probes_tail, tail_probed}
 use Rattle.sock_tcp.specs.Rfc.Undo.{undo_marked, undo_timed_out}
+use Rattle.sock_tcp.specs.Rfc.UserTimeout.{timeout_of}
 use Rattle.sock_tcp.specs.Timers.{is_over, is_close_over}
 use Rattle.sock_tcp.specs.View.{View, moment_of}
 use Rattle.sock_tcp.specs.declared.rules.Rules.{Rules}
@@ -108,10 +109,11 @@ abbrev pub timers_by : Bool → View → Instant → View
 timers_by true v now = tail_probed v now
 timers_by false v now = after_timer v.timer v now
 
--- the user timeout is over: CLOSED, and the timer is left alone. Else a probe, or what the timer asks for
+-- the user timeout is over, which by the RFCs' rules runs while the peer owes something: CLOSED, and the timer is left
+-- alone. Else a probe, or what the timer asks for
 unfoldable pub after_timers : View → Instant → View
 after_timers v now =
-    if is_reached (timeout_poll v.timeout v.remote_last_ts) now then record v { state = state.Closed }
+    if is_reached (timeout_poll (timeout_of v) v.remote_last_ts) now then record v { state = state.Closed }
     else timers_by (probes_tail v now) v now
 
 -- ---- the beginning, in this order: no peer, the local address gone, the moment of the last segment, the timers, a

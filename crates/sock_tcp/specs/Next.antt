@@ -12,6 +12,7 @@ use Rattle.sock_tcp.specs.Due.{sendable, window_doubled}
 use Rattle.sock_tcp.specs.Poll.{poll_moment}
 use Rattle.sock_tcp.specs.Polls.{is_reached, timeout_poll}
 use Rattle.sock_tcp.specs.Rfc.TailLoss.{probes_tail}
+use Rattle.sock_tcp.specs.Rfc.UserTimeout.{timeout_of}
 use Rattle.sock_tcp.specs.Timers.{is_close_over, is_keep_alive_over, is_over}
 use Rattle.sock_tcp.specs.View.{View, moment_of}
 use Rattle.sock_tcp.specs.declared.next.Reason.{Reason}
@@ -65,7 +66,7 @@ last_or None now = now
 last_or (Some last) now = last
 
 abbrev pub is_timed_out : View → Instant → Bool
-is_timed_out v now = is_reached (timeout_poll v.timeout (Some (last_or v.remote_last_ts now))) now
+is_timed_out v now = is_reached (timeout_poll (timeout_of v) (Some (last_or v.remote_last_ts now))) now
 
 abbrev pub reason_by : View → ℕ → Instant → PollAt → Reason
 reason_by v mss now poll =

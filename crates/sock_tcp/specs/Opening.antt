@@ -11,6 +11,7 @@ use Rattle.sock_core.specs.Facts.{Facts}
 use Rattle.sock_core.specs.Received.{cleared}
 use Rattle.sock_tcp.specs.Draw.{Draws}
 use Rattle.sock_tcp.specs.Queue.{emptied}
+use Rattle.sock_tcp.specs.Rfc.UserTimeout.{timeout_chosen}
 use Rattle.sock_tcp.specs.Settings.{kind_of, of_kind}
 use Rattle.sock_tcp.specs.View.{View, fresh}
 use Rattle.sock_tcp.specs.declared.rules.Rules.{Rules}
@@ -63,7 +64,11 @@ renewed v =
 -- ---- the rules, which an open socket keeps
 
 abbrev pub rules_set : View → Rules → View
-rules_set v x = record v { rules = if is_open v.state then v.rules else x }
+rules_set v x =
+    record v {
+      rules = if is_open v.state then v.rules else x;
+      timeout = if is_open v.state then v.timeout else timeout_chosen x v.timeout;
+    }
 
 abbrev pub rules_answer : View → Result (Unit {0}) RulesError
 rules_answer v = if is_open v.state then Err rules_error.InvalidState else Ok tt

@@ -42,7 +42,7 @@ timer_poll timer.FastRetransmit = poll.Now
 timer_poll (timer.ZeroWindowProbe t delay) = poll.Time t
 timer_poll (timer.Close t) = poll.Time t
 
--- the user timeout, from the moment when the last segment came
+-- the user timeout, where it runs, from the moment when the last segment came
 abbrev pub timeout_poll : Option Duration → Option Instant → PollAt
 timeout_poll (Some timeout) (Some last) = poll.Time (after last timeout)
 timeout_poll timeout last = poll.Ingress

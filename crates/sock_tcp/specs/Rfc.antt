@@ -3,6 +3,7 @@ pub mod Refused
 pub mod Scoreboard
 pub mod Undo
 pub mod Idle
+pub mod UserTimeout
 pub mod RoundTrips
 pub mod Recovery
 pub mod Numbers

@@ -27,6 +27,9 @@ impl<'a> ControlBlock<'a> {
     pub(crate) fn close(&mut self)
         ensures { self.new ≡ closed self.old }
     {
+        if self.begins_waiting(self.tx_buffer.is_empty()) {
+            self.has_remote_last_ts = false;
+        }
         match (self.state, self.rules) {
             (State::SynReceived, Rules::Rfc) => self.close_waits = true,
             _ => {

@@ -38,7 +38,8 @@ impl DelayKind {
 
 impl<'a> ControlBlock<'a> {
     pub(crate) fn timeout(&self) -> Option<Duration>
-        ensures { result ≡ self.now.timeout }
+        ensures value { result ≡ self.now.timeout }
+        ensures short { IsShort result }
     {
         kept(self.has_timeout, self.timeout)
     }
@@ -58,7 +59,8 @@ impl<'a> ControlBlock<'a> {
     }
 
     pub(crate) fn keep_alive(&self) -> Option<Duration>
-        ensures { result ≡ self.now.keep_alive }
+        ensures value { result ≡ self.now.keep_alive }
+        ensures short { IsShort result }
     {
         kept(self.has_keep_alive, self.keep_alive)
     }

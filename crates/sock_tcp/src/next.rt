@@ -179,7 +179,7 @@ impl<'a> ControlBlock<'a> {
             None => now,
             Some(last) => last,
         };
-        match self.timeout() {
+        match self.silence() {
             None => false,
             Some(timeout) => is_over(after(last, timeout), now),
         }

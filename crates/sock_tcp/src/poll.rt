@@ -1,6 +1,6 @@
 //! When a socket wants its next dispatch.
 ghost use Rattle.std.specs.Prelude.{◌≡◌, IsTrue, Some, false};
-ghost use Rattle.sock_tcp.specs.Polls.{is_reached, earlier, timeout_poll, timer_poll};
+ghost use Rattle.sock_tcp.specs.Polls.{is_reached, earlier, timer_poll};
 ghost use Rattle.sock_tcp.specs.Poll.{is_due_by, is_due_now, poll_moment, poll_moment_by};
 ghost use Rattle.sock_tcp.specs.Window.{next_ack};
 ghost use Rattle.sock_tcp.specs.Due.{ack_due, held_poll, window_doubled};
@@ -11,7 +11,7 @@ ghost use Rattle.sock_tcp.specs.Work.{has_work};
 use crate::control_block::ControlBlock;
 use crate::socket::Socket;
 use crate::state::State;
-use crate::timer::{Timer, after, is_over};
+use crate::timer::{Timer, is_over};
 use net_base::time::Instant;
 use sock_core::{Context, PollAt};
 
@@ -42,18 +42,6 @@ pub(crate) fn earlier(poll: PollAt, other: PollAt) -> PollAt
 }
 
 impl<'a> ControlBlock<'a> {
-    // When the user timeout is over.
-    #[inline(always)]
-    pub(crate) fn timeout_poll(&self) -> PollAt
-        ensures { result ≡ timeout_poll self.now.timeout self.now.remote_last_ts }
-    {
-        if self.has_timeout && self.has_remote_last_ts {
-            PollAt::Time(after(self.remote_last_ts, self.timeout))
-        } else {
-            PollAt::Ingress
-        }
-    }
-
     #[tactic(auto, unfolding(crate::specs::Work::has_work))]
     fn has_work(&self) -> bool
         ensures { result ≡ has_work self.now }

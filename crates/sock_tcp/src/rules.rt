@@ -1,8 +1,11 @@
 //! Which rules a socket follows, where smoltcp's differ from the RFCs'.
 ghost use Rattle.std.specs.Prelude.{◌≡◌};
 ghost use Rattle.sock_tcp.specs.Opening.{rules_answer, rules_set};
+ghost use Rattle.sock_tcp.specs.Rfc.UserTimeout.{timeout_chosen};
 
+use crate::control_block::ControlBlock;
 use crate::socket::Socket;
+use crate::user_timeout::timeout_chosen;
 use std::fmt;
 
 /// The rules of a TCP socket.
@@ -37,6 +40,10 @@ pub enum Rules {
     /// with three seconds (RFC 6298, rules 5.1 and 5.7). Where it is over while the peer has no window, the window is
     /// probed for with the byte at SND.UNA, and no window is probed with nothing to send (RFC 9293, section 3.8.6.1).
     ///
+    /// Bytes, a SYN or a FIN that are not acknowledged go out again until the user timeout is over, which is five
+    /// minutes where none was set (RFC 9293, sections 3.8.3 and 3.9.1.1), and runs while something is not acknowledged,
+    /// or a keep-alive is not answered (RFC 5482). No lower layer is told before (R1).
+    ///
     /// The congestion window begins with ten segments (RFC 6928), grows by what is acknowledged (RFC 3465, RFC 9406),
     /// where at least half of it was queued (RFC 7661, section 4.2), and is at most ten segments again after a
     /// retransmission timeout without sending (RFC 5681, section 4.1).
@@ -67,6 +74,16 @@ impl fmt::Display for RulesError {
     }
 }
 
+impl<'a> ControlBlock<'a> {
+    fn choose(&mut self, rules: Rules)
+        ensures view { self.new ≡ record self.old { rules = rules; timeout = timeout_chosen rules self.old.timeout } }
+        ensures stamps { self.new.stamps ≡ self.old.stamps }
+    {
+        self.rules = rules;
+        self.keep_timeout(timeout_chosen(rules, self.timeout()));
+    }
+}
+
 impl<'a, G> Socket<'a, G> {
     /// The socket's rules.
     pub fn rules(&self) -> Rules
@@ -75,7 +92,8 @@ impl<'a, G> Socket<'a, G> {
         self.control_block.rules
     }
 
-    /// Chooses the rules of a socket that is not open, for all its connections from now on.
+    /// Chooses the rules of a socket that is not open, for all its connections from now on. With `Rules::Rfc` a socket
+    /// without a user timeout gets one of five minutes (RFC 9293, section 3.9.1.1).
     ///
     /// # Errors
     /// An open one answers `RulesError::InvalidState`, and nothing changes.
@@ -88,7 +106,7 @@ impl<'a, G> Socket<'a, G> {
         if self.control_block.is_open() {
             return Err(RulesError::InvalidState);
         }
-        self.control_block.rules = rules;
+        self.control_block.choose(rules);
         Ok(())
     }
 }

@@ -20,6 +20,7 @@ use Rattle.sock_tcp.specs.Content.{asked, carries_data, data_control, filled, ho
 use Rattle.sock_tcp.specs.Due.{congestion_left, effective_mss, flight, ip_header_len, mtu_for, is_closing, is_due, is_opening, own_mss, ranges_room, sendable, tells_ranges, timestamp_room, window_field}
 use Rattle.sock_tcp.specs.Opening.{renewed}
 use Rattle.sock_tcp.specs.Polls.{is_reached, timeout_poll}
+use Rattle.sock_tcp.specs.Rfc.UserTimeout.{timeout_of}
 use Rattle.sock_tcp.specs.Queue.{IsLent, Queue}
 use Rattle.sock_tcp.specs.Rfc.Scoreboard.{hole_number, hole_start}
 use Rattle.sock_tcp.specs.Timers.{idle_from, is_over, retransmit_from, rto_of}
@@ -52,7 +53,7 @@ IsSet t now = Unit {0}
 -- a last segment came, and either the user timeout is over, or it is not and the timer was looked at
 pub record Settled (u : View) (now : Instant) : Type 0 where
   pub known : is_none u.remote_last_ts ≡ false
-  pub alive : (u.state ≡ state.Closed) ⊎ ((is_reached (timeout_poll u.timeout u.remote_last_ts) now ≡ false) × IsSet u.timer now)
+  pub alive : (u.state ≡ state.Closed) ⊎ ((is_reached (timeout_poll (timeout_of u) u.remote_last_ts) now ≡ false) × IsSet u.timer now)
 
 idle_set : (now : Instant) (keep : Option Duration) → IsSet (idle_from now keep) now
 idle_set now None = tt
@@ -61,7 +62,7 @@ idle_set now (Some d) = tt
 timed_set : (now : Instant) (e : Estimator) → 0 < e.rto → IsSet (retransmit_from now e) now
 timed_set now e h = not_yet now (rto_of e) (omega (arith, h))
 
-timer_settles : (t : Timer) (x : View) (now : Instant) → 0 < x.rtte.rto → x.timer ≡ t → is_none x.remote_last_ts ≡ false → is_reached (timeout_poll x.timeout x.remote_last_ts) now ≡ false → Settled (after_timer t x now) now
+timer_settles : (t : Timer) (x : View) (now : Instant) → 0 < x.rtte.rto → x.timer ≡ t → is_none x.remote_last_ts ≡ false → is_reached (timeout_poll (timeout_of x) x.remote_last_ts) now ≡ false → Settled (after_timer t x now) now
 unfolding retransmission_begun fast_retransmission_marked
 timer_settles (timer.Retransmit at) x now paced is known e = go (is_over at now) refl
   where
@@ -83,13 +84,13 @@ timer_settles (timer.Close at) x now paced is known e = record { known = known; 
 
 pub timers_settle : (x : View) (now : Instant) → 0 < x.rtte.rto → is_none x.remote_last_ts ≡ false → Settled (after_timers x now) now
 unfolding after_timers tail_probed probed_by
-timers_settle x now paced known = go (is_reached (timeout_poll x.timeout x.remote_last_ts) now) refl
+timers_settle x now paced known = go (is_reached (timeout_poll (timeout_of x) x.remote_last_ts) now) refl
   where
-    probed : (b : Bool) → is_reached (timeout_poll x.timeout x.remote_last_ts) now ≡ false → Settled (timers_by b x now) now
+    probed : (b : Bool) → is_reached (timeout_poll (timeout_of x) x.remote_last_ts) now ≡ false → Settled (timers_by b x now) now
     probed true e = record { known = known; alive = inr (e, timed_set now (retransmitted x.rtte) (fast_paced x.rtte paced)) }
     probed false e = timer_settles x.timer x now paced refl known e
 
-    go : (b : Bool) → is_reached (timeout_poll x.timeout x.remote_last_ts) now ≡ b → Settled (if b then record x { state = state.Closed } else timers_by (probes_tail x now) x now) now
+    go : (b : Bool) → is_reached (timeout_poll (timeout_of x) x.remote_last_ts) now ≡ b → Settled (if b then record x { state = state.Closed } else timers_by (probes_tail x now) x now) now
     go true e = record { known = known; alive = inl refl }
     go false e = probed (probes_tail x now) e
 

@@ -283,9 +283,9 @@ sets_awake v w (SetKeepAlive x e) k a = subst IsOwnAwake (sym e) (λ i. let h = 
 sets_awake v w (SetHopLimit x e) k a = subst IsOwnAwake (sym e) (λ i. let h = a i in record { rfc = h.rfc; row = h.row })
 sets_awake v w (PauseSynAck x e) k a = subst IsOwnAwake (sym e) (λ i. let h = a i in record { rfc = h.rfc; row = h.row })
 sets_awake v w (SetTsvalGenerator x e) k a = subst IsOwnAwake (sym e) (λ i. let h = a i in record { rfc = h.rfc; row = h.row })
-sets_awake v w (SetRules x e) k a = subst IsOwnAwake (sym e) (by (is_open v.state) refl)
+sets_awake v w (SetRules x d e) k a = subst IsOwnAwake (sym e) (by (is_open v.state) refl)
   where
-    by : (b : Bool) → is_open v.state ≡ b → IsOwnAwake (record v { rules = x })
+    by : (b : Bool) → is_open v.state ≡ b → IsOwnAwake (record v { rules = x; timeout = d })
     by true o = λ i. let h = a (sym (k o) ∙ i) in record { rfc = i; row = h.row }
     by false o = λ i. record { rfc = i; row = shut_row v.state v.timer (flight v) v.remote_win_len (length v.tx_buffer.bytes) o }
 sets_awake v w (SetMinRto x e) k a = subst IsOwnAwake (sym e) (λ i. let h = a i in record { rfc = h.rfc; row = h.row })

@@ -12,6 +12,7 @@ use Rattle.sock_core.specs.declared.context.PollAt.TheVariants as poll
 use Rattle.sock_tcp.specs.Due.{ack_due, ack_poll, data_due, flight, held_poll, is_closed, sendable, window_doubled}
 use Rattle.sock_tcp.specs.Poll.{is_due_now, poll_moment, poll_moment_to}
 use Rattle.sock_tcp.specs.Polls.{delay_poll, earlier, timer_poll, timeout_poll}
+use Rattle.sock_tcp.specs.Rfc.UserTimeout.{timeout_of}
 use Rattle.sock_tcp.specs.Rfc.SmallSegments.{held_by, small_poll}
 use Rattle.sock_tcp.specs.Timers.{after, is_over}
 use Rattle.sock_tcp.specs.View.{View, fresh}
@@ -102,13 +103,13 @@ module _ (v : View) (last : Instant) (most : Duration) (t : Tuple) (f : Facts) (
   timed = reached_timed v last most r
 
   abbrev rest : PollAt
-  rest = earlier (timeout_poll v.timeout v.remote_last_ts) (held_poll v)
+  rest = earlier (timeout_poll (timeout_of v) v.remote_last_ts) (held_poll v)
 
   by_timer : ComesBy (timer_poll v.timer) by → ComesBy (earlier (timer_poll v.timer) rest) by
   by_timer h = first_comes (timer_poll v.timer) rest by h
 
   by_held : (held_poll v ≡ poll.Ingress → ⊥) → ComesBy (earlier (timer_poll v.timer) rest) by
-  by_held n = second_comes (timer_poll v.timer) rest by (second_comes (timeout_poll v.timeout v.remote_last_ts) (held_poll v) by (any_comes (held_poll v) by n (held v.rules)))
+  by_held n = second_comes (timer_poll v.timer) rest by (second_comes (timeout_poll (timeout_of v) v.remote_last_ts) (held_poll v) by (any_comes (held_poll v) by n (held v.rules)))
     where
       small : PollAt
       small = small_poll ((flight v == 0) && not (sendable v == 0)) v.idle_at

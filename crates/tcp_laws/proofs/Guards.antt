@@ -10,6 +10,7 @@ use Rattle.sock_core.specs.declared.context.PollAt.TheVariants as poll
 use Rattle.sock_tcp.specs.Due.{held_poll}
 use Rattle.sock_tcp.specs.Poll.{is_due_now, poll_moment, poll_moment_to}
 use Rattle.sock_tcp.specs.Polls.{earlier, timer_poll, timeout_poll}
+use Rattle.sock_tcp.specs.Rfc.UserTimeout.{timeout_of}
 use Rattle.sock_tcp.specs.Timers.{after}
 use Rattle.sock_tcp.specs.View.{View}
 use Rattle.tcp_laws.specs.Polling.{ComesBy, WakesWithin, TimeoutWakes}
@@ -42,17 +43,17 @@ itself : (at : Instant) → ComesBy (poll.Time at) at
 itself at = grind (arith, ints)
 
 module _ (v : View) (t : Tuple) (d : Duration) (f : Facts) where
-  known : (last : Instant) → v.remote_last_ts ≡ Some last → v.timeout ≡ Some d → ComesBy (poll_moment_to (Some t) v f) (after last d)
+  known : (last : Instant) → v.remote_last_ts ≡ Some last → timeout_of v ≡ Some d → ComesBy (poll_moment_to (Some t) v f) (after last d)
   known last e i = go (is_due_now v t f)
     where
-      by_timeout : ComesBy (timeout_poll v.timeout v.remote_last_ts) (after last d)
+      by_timeout : ComesBy (timeout_poll (timeout_of v) v.remote_last_ts) (after last d)
       by_timeout = rw (e, i) (itself (after last d))
 
-      go : (b : Bool) → ComesBy (if b then poll.Now else earlier (timer_poll v.timer) (earlier (timeout_poll v.timeout v.remote_last_ts) (held_poll v))) (after last d)
+      go : (b : Bool) → ComesBy (if b then poll.Now else earlier (timer_poll v.timer) (earlier (timeout_poll (timeout_of v) v.remote_last_ts) (held_poll v))) (after last d)
       go true = tt
-      go false = second_comes (timer_poll v.timer) (earlier (timeout_poll v.timeout v.remote_last_ts) (held_poll v)) (after last d) (first_comes (timeout_poll v.timeout v.remote_last_ts) (held_poll v) (after last d) by_timeout)
+      go false = second_comes (timer_poll v.timer) (earlier (timeout_poll (timeout_of v) v.remote_last_ts) (held_poll v)) (after last d) (first_comes (timeout_poll (timeout_of v) v.remote_last_ts) (held_poll v) (after last d) by_timeout)
 
-  by_last : (o : Option Instant) → v.remote_last_ts ≡ o → v.timeout ≡ Some d → WakesWithin o d (poll_moment_to (Some t) v f)
+  by_last : (o : Option Instant) → v.remote_last_ts ≡ o → timeout_of v ≡ Some d → WakesWithin o d (poll_moment_to (Some t) v f)
   by_last None e i = rw e refl
   by_last (Some last) e i = known last e i
 

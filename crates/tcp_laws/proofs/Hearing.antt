@@ -35,7 +35,9 @@ use Rattle.sock_tcp.specs.declared.verdict.Verdict.TheVariants as verdicts
 use Rattle.sock_tcp.specs.declared.window.Cut.{Cut}
 use Rattle.sock_tcp.specs.declared.window.Window.{Window}
 use Rattle.sock_tcp.proofs.Windows.{far, not_after}
-use Rattle.tcp_laws.specs.Waking.{AcksNothing, GoesOrWaits, HeardNothing, WaitsSmall, LastAckHearsNothing, Resends, TellsWindow, ThirdDuplicateWakes, WindowWakes, hears_window}
+use Rattle.tcp_laws.specs.Polling.{IsReached}
+use Rattle.tcp_laws.specs.SocketRun.{IsNumbered}
+use Rattle.tcp_laws.specs.Waking.{AcksNothing, GoesOrWaits, HeardNothing, IsThirdDuplicate, WaitsSmall, LastAckHearsNothing, Resends, TellsWindow, ThirdDuplicateWakes, WindowWakes, hears_window}
 use Rattle.tcp_laws.proofs.Ordered.{IsOrdered, Row}
 use Rattle.tcp_laws.proofs.Kept.{KeptByAnswers, bytes_kept, challenged_kept, heard_kept, outside_kept}
 use Rattle.tcp_laws.proofs.OrderedCalls.{reached_ordered}
@@ -240,7 +242,7 @@ passed_as : (r : Rules) (v : View) (now : Instant) (word : ℕ) (ip : IpRepr) (s
 unfolding processed_by
 passed_as r v now word ip s p = ap (λ x. by_verdict r x v (arrival now (tuple_of ip s) word (windowed r v s))) p
 
-tells : (v : View) (now : Instant) (word : ℕ) (ip : IpRepr) (s : Segment) → TellsWindow v now s → (processed v now word ip s).view.remote_win_len ≡ window_of s.control (told_by v.rules v s) v.remote_win_scale
+pub tells : (v : View) (now : Instant) (word : ℕ) (ip : IpRepr) (s : Segment) → TellsWindow v now s → (processed v now word ip s).view.remote_win_len ≡ window_of s.control (told_by v.rules v s) v.remote_win_scale
 tells v now word ip s h = ap (λ (o : Outcome). o.view.remote_win_len) (passed_as v.rules v now word ip s h.passes) ∙ tells_inside v.rules v now word ip (windowed v.rules v s) h.hears h.inside h.no_bit
 
 goes_or_waits : (r : Rules) (w : View) (t : Tuple) (f : Facts) → w.rules ≡ r → (data_due w t f ≡ true) ⊎ ((may_wait w ≡ true) × WaitsSmall w t f) → GoesOrWaits r w t f
@@ -305,7 +307,7 @@ not_all nxt k una hn hk hu fn z b = go (is_not_after nxt k) refl
     go false e = e
     go true e = absurd (either (not_after nxt k e))
 
-not_zero : (n : ℕ) → 0 < n → (n == 0) ≡ false
+pub not_zero : (n : ℕ) → 0 < n → (n == 0) ≡ false
 not_zero n h = go (n == 0) refl
   where
     go : (b : Bool) → (n == 0) ≡ b → (n == 0) ≡ false
@@ -320,9 +322,16 @@ not_behind k una hk hu z = go (is_before k una) refl
     go false e = e
     go true e = absurd (omega (arith, far k una e, hk, hu, z))
 
-pub third_duplicate_wakes : ThirdDuplicateWakes
+-- the segment passes, and lies in the window: what the rows of its state do, and what follows
+abbrev pub inside_of : View → Instant → ℕ → IpRepr → Segment → Outcome
+inside_of v now word ip s = inside_as v.rules v now word ip (windowed v.rules v s) v.state (c v.rules v now word ip (windowed v.rules v s))
+
+pub passes_inside : (v : View) (now : Instant) (word : ℕ) (ip : IpRepr) (s : Segment) → TellsWindow v now s → (processed v now word ip s).view ≡ (closed_then v.rules (recovered_by v.rules v now (windowed v.rules v s) (inside_of v now word ip s))).view
+passes_inside v now word ip s h = ap (λ (o : Outcome). o.view) (passed_as v.rules v now word ip s h.passes) ∙ ap (λ (o : Outcome). o.view) (in_window v.rules v now word ip (windowed v.rules v s) (has v.rules v now word ip (windowed v.rules v s) v.state h.hears) h.inside)
+
+pub third_is_fast : (v : View) (now : Instant) (word : ℕ) (ip : IpRepr) (s : Segment) (k : TcpSeqNumber) → IsReached v → IsNumbered s → TellsWindow v now s → IsThirdDuplicate v s k → (inside_of v now word ip s).view.timer ≡ timer.FastRetransmit
 unfolding acked_at
-third_duplicate_wakes v now word ip s k r numbered h d =
+third_is_fast v now word ip s k r numbered h d =
     let o : IsOrdered v = reached_ordered v r in
     let e : acked_of v s.control s.ack_number ≡ acked_of v s.control (Some k) = ap (acked_of v s.control) d.number in
     let nr = not_rst s.control (accepted_window v.rules v) s.seq_number (length s.payload) h.no_bit in
@@ -336,4 +345,7 @@ third_duplicate_wakes v now word ip s k r numbered h d =
     let of_y = ap (acked_of v s.control) same in
     let timer = heard_third now y (u v.rules v now word ip y) (a v.rules v now word ip y) k (same ∙ d.number) (ap (λ (x : Acked). x.all) of_y ∙ all) (ap (λ (x : Acked). x.len) of_y ∙ d.nothing.bytes) d.two_before d.duplicate (not_zero _ (some_window s.control (told_by v.rules v s) v.remote_win_scale h.window)) in
     let fast : Fast v.rules v now word ip y (inside_as v.rules v now word ip y v.state (c v.rules v now word ip y)) = rw (h.no_bit, ap (λ (x : Acked). x.fin) of_y ∙ d.nothing.fin) (row_fast v.rules v now word ip y v.state h.hears timer) in
-    rw (passed_as v.rules v now word ip s h.passes) (subst (λ (x : Outcome). Resends v.rules x.view.timer) (sym (in_window v.rules v now word ip y (has v.rules v now word ip y v.state h.hears) h.inside)) (fast_resends v.rules v now y (inside_as v.rules v now word ip y v.state (c v.rules v now word ip y)) fast))
+    fast
+
+pub third_duplicate_wakes : ThirdDuplicateWakes
+third_duplicate_wakes v now word ip s k r numbered h d = subst (λ (w : View). Resends v.rules w.timer) (sym (passes_inside v now word ip s h)) (fast_resends v.rules v now (windowed v.rules v s) (inside_of v now word ip s) (third_is_fast v now word ip s k r numbered h d))

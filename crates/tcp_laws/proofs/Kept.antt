@@ -24,6 +24,7 @@ use Rattle.sock_tcp.specs.Due.{is_due}
 use Rattle.sock_tcp.specs.Opening.{Listens, after_connect, connected, endpoints, is_listening, is_open, listened, renewed}
 use Rattle.sock_tcp.specs.PathMtu.{all_sent_again, shortened}
 use Rattle.sock_tcp.specs.Polls.{is_reached, timeout_poll}
+use Rattle.sock_tcp.specs.Rfc.UserTimeout.{timeout_of}
 use Rattle.sock_tcp.specs.Process.{processed_by}
 use Rattle.sock_tcp.specs.Queue.{queue_of}
 use Rattle.sock_tcp.specs.Queues.{ReadsWithIf, SendsWithIf, fitting, may_recv, may_send, queued, read_off, readable}
@@ -104,7 +105,7 @@ module _ (P : View → Type 0) (now : Instant) (k : KeptByBeginnings P now) wher
 
   pub timers_kept : (v : View) → P v → P (after_timers v now)
   unfolding after_timers
-  timers_kept v h = go (is_reached (timeout_poll v.timeout v.remote_last_ts) now)
+  timers_kept v h = go (is_reached (timeout_poll (timeout_of v) v.remote_last_ts) now)
     where
       probed : (t : Timer) → v.timer ≡ t → (b : Bool) → (may_probe_by v.rules (may_speak v) && is_retransmission_over t now) ≡ b → P (timers_by b v now)
       probed (timer.Retransmit at) e true i = k.probes_tail v at e h

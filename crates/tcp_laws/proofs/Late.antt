@@ -13,6 +13,7 @@ use Rattle.sock_tcp.specs.Begin.{Begun, after_timers, before_emit, before_emit_t
 use Rattle.sock_tcp.specs.Content.{carries_data}
 use Rattle.sock_tcp.specs.Due.{data_due, flight, is_due}
 use Rattle.sock_tcp.specs.Polls.{is_reached, timeout_poll}
+use Rattle.sock_tcp.specs.Rfc.UserTimeout.{timeout_of}
 use Rattle.sock_tcp.specs.Queue.{Queue}
 use Rattle.sock_tcp.specs.Rfc.Recovery.{again, again_by, before_of, begins, echo_known, gone_on, gone_on_from, has_timer, heard_for, is_called, is_later_partial, is_lost_again, is_news, is_undone, is_waited, kept_if, left_running, probe_from_last, probe_soonest, recovered, recovery_after, reordering_after, running, spared, tells_controller, tells_loss, waited_for, waits_late, waits_tail}
 use Rattle.sock_tcp.specs.Rfc.Reordering.{is_late, is_over, is_told, late_set, late_wait, may_resend}
@@ -193,7 +194,7 @@ no_loss_is_forgotten v w s now runs may over told =
 
 record StillOf (v x : View) : Type 0 where
   timer : x.timer ≡ v.timer
-  timeout : x.timeout ≡ v.timeout
+  timeout : timeout_of x ≡ timeout_of v
   state : x.state ≡ v.state
   tx : x.tx_buffer ≡ v.tx_buffer
   una : x.local_seq_no ≡ v.local_seq_no
@@ -246,7 +247,7 @@ module _ (v : View) (t : Tuple) (f : Facts) (h : IsLateOver v t f) where
   unfolding after_timers tail_probed
   begins_is = rw (alive, probes, is_so) refl
     where
-      alive : is_reached (timeout_poll x.timeout x.remote_last_ts) now ≡ false
+      alive : is_reached (timeout_poll (timeout_of x) x.remote_last_ts) now ≡ false
       alive = ap (λ d. is_reached (timeout_poll d x.remote_last_ts) now) still.timeout ∙ h.alive
 
   may : may_resend v ≡ true

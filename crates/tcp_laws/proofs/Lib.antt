@@ -46,3 +46,4 @@ pub mod Pointed
 pub mod OwnWindows
 pub mod OlderWindows
 pub mod Honored
+pub mod Holes

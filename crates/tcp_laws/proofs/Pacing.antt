@@ -191,7 +191,7 @@ module _ (v w : View) (h : IsPaced v) where
   setting_paced (SetHopLimit x e) = subst IsPaced (sym e) h
   setting_paced (PauseSynAck x e) = subst IsPaced (sym e) h
   setting_paced (SetTsvalGenerator x e) = subst IsPaced (sym e) h
-  setting_paced (SetRules x e) = subst IsPaced (sym e) h
+  setting_paced (SetRules x d e) = subst IsPaced (sym e) h
   setting_paced (SetMinRto x e) = subst IsPaced (sym e) (bounded_paced v.rtte x h)
 
 calls_paced : KeptByCalls IsPaced (λ d. Unit {0})

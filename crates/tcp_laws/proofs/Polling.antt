@@ -17,6 +17,7 @@ use Rattle.sock_tcp.specs.Opening.{renewed}
 use Rattle.sock_tcp.specs.Poll.{is_due_now, poll_moment_to, poll_moment}
 use Rattle.tcp_laws.specs.Polling.{PollHidesNothing}
 use Rattle.sock_tcp.specs.Polls.{is_reached, earlier, timer_poll, timeout_poll, IsLater}
+use Rattle.sock_tcp.specs.Rfc.UserTimeout.{timeout_of}
 use Rattle.sock_tcp.specs.Rfc.TailLoss.{is_retransmission_over, may_probe_by, may_speak, probes_tail}
 use Rattle.sock_tcp.specs.Timers.{is_over, is_keep_alive_over, is_probe_over}
 use Rattle.sock_tcp.specs.View.{View, moment_of}
@@ -99,11 +100,11 @@ same_readied v now known =
     ap (λ (w : View). told_ready w now) (same_last_ts_set v.remote_last_ts v now known)
     ∙ ap (λ (c : AnyController). record v { congestion_controller = c }) (same_pre_transmitted v.congestion_controller now)
 
-same_timers : (v : View) (now : Instant) → IsLater (timer_poll v.timer) now → IsLater (timeout_poll v.timeout v.remote_last_ts) now → after_timers v now ≡ v
+same_timers : (v : View) (now : Instant) → IsLater (timer_poll v.timer) now → IsLater (timeout_poll (timeout_of v) v.remote_last_ts) now → after_timers v now ≡ v
 unfolding after_timers
-same_timers v now m u = rw (not_reached (timeout_poll v.timeout v.remote_last_ts) now u) (rw (no_tail v now m) (no_effect v.timer v now m))
+same_timers v now m u = rw (not_reached (timeout_poll (timeout_of v) v.remote_last_ts) now u) (rw (no_tail v now m) (no_effect v.timer v now m))
 
-same_begun : (v : View) (now : Instant) → is_none v.remote_last_ts ≡ false → IsLater (timer_poll v.timer) now → IsLater (timeout_poll v.timeout v.remote_last_ts) now → after_timers (readied v now) now ≡ v
+same_begun : (v : View) (now : Instant) → is_none v.remote_last_ts ≡ false → IsLater (timer_poll v.timer) now → IsLater (timeout_poll (timeout_of v) v.remote_last_ts) now → after_timers (readied v now) now ≡ v
 same_begun v now known m u = ap (λ (w : View). after_timers w now) (same_readied v now known) ∙ same_timers v now m u
 
 -- ---- the whole
@@ -128,9 +129,9 @@ not_due v t f d a w c m = rw (d, not_reached (held_poll v) (moment_of f) a, w, c
 nothing : (o : Option Tuple) (v : View) (f : Facts) → v.tuple ≡ o → IsLater (poll_moment_to o v f) (moment_of f) → peer_of (before_emit_to (peer_of (begun_to o v f)) (begun_to o v f).view f) ≡ None
 nothing None v f p h = refl
 nothing (Some t) v f p h =
-    let g = past_guard (is_due_now v t f) (earlier (timer_poll v.timer) (earlier (timeout_poll v.timeout v.remote_last_ts) (held_poll v))) (moment_of f) h in
-    let e = both_later (timer_poll v.timer) (earlier (timeout_poll v.timeout v.remote_last_ts) (held_poll v)) (moment_of f) g.1 in
-    let l = both_later (timeout_poll v.timeout v.remote_last_ts) (held_poll v) (moment_of f) e.1 in
+    let g = past_guard (is_due_now v t f) (earlier (timer_poll v.timer) (earlier (timeout_poll (timeout_of v) v.remote_last_ts) (held_poll v))) (moment_of f) h in
+    let e = both_later (timer_poll v.timer) (earlier (timeout_poll (timeout_of v) v.remote_last_ts) (held_poll v)) (moment_of f) g.1 in
+    let l = both_later (timeout_poll (timeout_of v) v.remote_last_ts) (held_poll v) (moment_of f) e.1 in
     let a = or_parts (is_none v.remote_last_ts || is_closed v.state || data_due v t f) (window_doubled v) g.0 in
     let b = or_parts (is_none v.remote_last_ts || is_closed v.state) (data_due v t f) a.0 in
     let c = or_parts (is_none v.remote_last_ts) (is_closed v.state) b.0 in

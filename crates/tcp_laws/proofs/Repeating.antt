@@ -27,6 +27,7 @@ use Rattle.sock_tcp.specs.Rfc.OwnWindow.{may_grow, space_field}
 use Rattle.sock_tcp.specs.Rfc.SmallSegments.{held_by, small_poll}
 use Rattle.sock_tcp.specs.Poll.{is_due_now, poll_moment, poll_moment_to}
 use Rattle.sock_tcp.specs.Polls.{delay_poll, earlier, is_reached, timer_poll, timeout_poll}
+use Rattle.sock_tcp.specs.Rfc.UserTimeout.{timeout_of}
 use Rattle.sock_tcp.specs.Queue.{IsLent, Queue}
 use Rattle.sock_tcp.specs.Sent.{after_any, after_sending, emitted_as, left_by, resent_by, sending_timed, snd_nxt_moved}
 use Rattle.sock_tcp.specs.Timers.{after, idle_from, is_close_over, is_keep_alive_over, is_over, is_probe_over, keep_alive_renewed}
@@ -60,7 +61,7 @@ data Reason (w : View) (t : Tuple) (f : Facts) (now : Instant) : Type 0 where
   Data : data_due w t f ≡ true → Reason w t f now
   Doubled : window_doubled w ≡ true → Reason w t f now
   TimerOver : is_reached (timer_poll w.timer) now ≡ true → Reason w t f now
-  TimedOut : is_reached (timeout_poll w.timeout w.remote_last_ts) now ≡ true → Reason w t f now
+  TimedOut : is_reached (timeout_poll (timeout_of w) w.remote_last_ts) now ≡ true → Reason w t f now
   Owed : ack_due w ≡ true → Reason w t f now
   Small : (sendable w ≡ 0 → ⊥) → Reason w t f now
 
@@ -83,7 +84,7 @@ reason : (w : View) (t : Tuple) (f : Facts) (now : Instant) → is_reached (poll
 reason w t f now e = go (is_due_now w t f) refl e
   where
     late : PollAt
-    late = earlier (timer_poll w.timer) (earlier (timeout_poll w.timeout w.remote_last_ts) (held_poll w))
+    late = earlier (timer_poll w.timer) (earlier (timeout_poll (timeout_of w) w.remote_last_ts) (held_poll w))
 
     owed : (b : Bool) → ack_due w ≡ b → is_reached (if b then delay_poll w.ack_delay_timer else poll.Ingress) now ≡ true → Reason w t f now
     owed true i e = Owed i
@@ -103,13 +104,13 @@ reason w t f now e = go (is_due_now w t f) refl e
         by (inl e) = owed (ack_due w) refl e
         by (inr e) = Small (small (flight w == 0) (sendable w) w.idle_at e)
 
-    last : (is_reached (timeout_poll w.timeout w.remote_last_ts) now ≡ true) ⊎ (is_reached (held_poll w) now ≡ true) → Reason w t f now
+    last : (is_reached (timeout_poll (timeout_of w) w.remote_last_ts) now ≡ true) ⊎ (is_reached (held_poll w) now ≡ true) → Reason w t f now
     last (inl e) = TimedOut e
     last (inr e) = held w.rules e
 
-    waited : (is_reached (timer_poll w.timer) now ≡ true) ⊎ (is_reached (earlier (timeout_poll w.timeout w.remote_last_ts) (held_poll w)) now ≡ true) → Reason w t f now
+    waited : (is_reached (timer_poll w.timer) now ≡ true) ⊎ (is_reached (earlier (timeout_poll (timeout_of w) w.remote_last_ts) (held_poll w)) now ≡ true) → Reason w t f now
     waited (inl e) = TimerOver e
-    waited (inr e) = last (one_reached (timeout_poll w.timeout w.remote_last_ts) (held_poll w) now e)
+    waited (inr e) = last (one_reached (timeout_poll (timeout_of w) w.remote_last_ts) (held_poll w) now e)
 
     first : (is_none w.remote_last_ts ≡ true) ⊎ (is_closed w.state ≡ true) → Reason w t f now
     first (inl e) = Forgotten e
@@ -125,7 +126,7 @@ reason w t f now e = go (is_due_now w t f) refl e
 
     go : (b : Bool) → is_due_now w t f ≡ b → is_reached (if b then poll.Now else late) now ≡ true → Reason w t f now
     go true d e = third (or_true (is_none w.remote_last_ts || is_closed w.state || data_due w t f) (window_doubled w) d)
-    go false d e = waited (one_reached (timer_poll w.timer) (earlier (timeout_poll w.timeout w.remote_last_ts) (held_poll w)) now e)
+    go false d e = waited (one_reached (timer_poll w.timer) (earlier (timeout_poll (timeout_of w) w.remote_last_ts) (held_poll w)) now e)
 
 -- ---- the socket that is left
 
@@ -141,7 +142,7 @@ record LeftAs (u w : View) (now : Instant) : Type 0 where
   marked : w.pending_fast_retransmit ≡ (u.pending_fast_retransmit && not (carries_data u.state))
   timer : w.timer ≡ keep_alive_renewed u.timer now u.keep_alive
   keep_alive : w.keep_alive ≡ u.keep_alive
-  timeout : w.timeout ≡ u.timeout
+  timeout : timeout_of w ≡ timeout_of u
   last : w.remote_last_ts ≡ u.remote_last_ts
 
 module _ (u w : View) (now : Instant) (l : LeftAs u w now) where
@@ -326,12 +327,12 @@ module _ (u : View) (f : Facts) (o : IsOrdered u) (q : IsProbing u) (settled : S
   again w t k b a l ack window (Small e) = absurd (e (sendable_same u w (moment_of f) l ∙ a.quiet.sent))
   again w t k b a l ack window (TimerOver e) = by settled.alive
     where
-      by : (u.state ≡ state.Closed) ⊎ ((is_reached (timeout_poll u.timeout u.remote_last_ts) (moment_of f) ≡ false) × IsSet u.timer (moment_of f)) → WantsAnother w k (moment_of f)
+      by : (u.state ≡ state.Closed) ⊎ ((is_reached (timeout_poll (timeout_of u) u.remote_last_ts) (moment_of f) ≡ false) × IsSet u.timer (moment_of f)) → WantsAnother w k (moment_of f)
       by (inl c) = absurd (true≢false (sym (ap is_closed c) ∙ not_closed u.state a.sends))
       by (inr h) = over u w (moment_of f) l k u.timer refl o q a.sends h.1 (subst (λ t. is_reached (timer_poll t) (moment_of f) ≡ true) l.timer e)
   again w t k b a l ack window (TimedOut e) = by settled.alive
     where
-      by : (u.state ≡ state.Closed) ⊎ ((is_reached (timeout_poll u.timeout u.remote_last_ts) (moment_of f) ≡ false) × IsSet u.timer (moment_of f)) → WantsAnother w k (moment_of f)
+      by : (u.state ≡ state.Closed) ⊎ ((is_reached (timeout_poll (timeout_of u) u.remote_last_ts) (moment_of f) ≡ false) × IsSet u.timer (moment_of f)) → WantsAnother w k (moment_of f)
       by (inl c) = absurd (true≢false (sym (ap is_closed c) ∙ not_closed u.state a.sends))
       by (inr h) = absurd (true≢false (sym e ∙ (λ i. is_reached (timeout_poll (l.timeout i) (l.last i)) (moment_of f)) ∙ h.0))
 

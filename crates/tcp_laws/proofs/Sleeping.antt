@@ -17,6 +17,7 @@ use Rattle.sock_tcp.specs.Due.{congestion_left, is_counted, recovery_left, limit
 use Rattle.sock_tcp.specs.Rfc.Pipe.{pipe}
 use Rattle.sock_tcp.specs.Poll.{is_due_now, poll_moment, poll_moment_to}
 use Rattle.sock_tcp.specs.Polls.{delay_poll, earlier, timer_poll, timeout_poll}
+use Rattle.sock_tcp.specs.Rfc.UserTimeout.{idle_timeout, may_be_idle, owes_ack, timeout_by, timeout_of}
 use Rattle.sock_tcp.specs.Rfc.SmallSegments.{held_by, is_cut_by, is_cut_by_window, moment_at, sends_again, small_poll, waits_alone}
 use Rattle.sock_tcp.specs.View.{View}
 use Rattle.sock_tcp.specs.Work.{has_work, works_in}
@@ -79,7 +80,7 @@ ack_waits rules.Rfc p q e = (both_wait p q e).0
 -- one whose `poll_at` answers `Ingress`
 pub record Waits (v : View) (t : Tuple) (f : Facts) : Type 0 where
   pub quiet : Quiet v t f
-  pub timeout : v.timeout ≡ None
+  pub timeout : timeout_of v ≡ None
   pub no_ack : ack_due v ≡ false
   pub held : held_poll v ≡ poll.Ingress
 
@@ -87,7 +88,7 @@ pub waits : (v : View) (t : Tuple) (f : Facts) → poll_moment_to (Some t) v f �
 waits v t f e = go (is_due_now v t f) refl e
   where
     p : PollAt
-    p = earlier (timer_poll v.timer) (earlier (timeout_poll v.timeout v.remote_last_ts) (held_poll v))
+    p = earlier (timer_poll v.timer) (earlier (timeout_poll (timeout_of v) v.remote_last_ts) (held_poll v))
 
     go : (b : Bool) → is_due_now v t f ≡ b → (if b then poll.Now else p) ≡ poll.Ingress → Waits v t f
     go true d e = absurd cc
@@ -95,11 +96,11 @@ waits v t f e = go (is_due_now v t f) refl e
         let a = or_parts (is_none v.remote_last_ts || is_closed v.state || data_due v t f) (window_doubled v) d in
         let b = or_parts (is_none v.remote_last_ts || is_closed v.state) (data_due v t f) a.0 in
         let c = or_parts (is_none v.remote_last_ts) (is_closed v.state) b.0 in
-        let m = both_wait (timer_poll v.timer) (earlier (timeout_poll v.timeout v.remote_last_ts) (held_poll v)) e in
-        let n = both_wait (timeout_poll v.timeout v.remote_last_ts) (held_poll v) m.1 in
+        let m = both_wait (timer_poll v.timer) (earlier (timeout_poll (timeout_of v) v.remote_last_ts) (held_poll v)) e in
+        let n = both_wait (timeout_poll (timeout_of v) v.remote_last_ts) (held_poll v) m.1 in
         record {
           quiet = record { timer = idle_is v.timer m.0; no_data = b.1; not_closed = c.1 };
-          timeout = no_timeout v.timeout v.remote_last_ts c.0 n.0;
+          timeout = no_timeout (timeout_of v) v.remote_last_ts c.0 n.0;
           no_ack = not_owed (ack_due v) v.ack_delay_timer (ack_waits v.rules (ack_poll v) _ n.1);
           held = n.1;
         }
@@ -327,6 +328,9 @@ module _ (v : View) (t : Tuple) (f : Facts) (h : IsOrdered v) (w : Quiet v t f) 
   no_moment state.LastAck is p = (row state.LastAck is).0
   no_moment state.FinWait2 is p = (row state.FinWait2 is).0
 
+  not_time_wait : v.state ≡ state.TimeWait → ⊥
+  not_time_wait is = true≢false (sym (row state.TimeWait is).0)
+
   sleeps_in : (held : held_poll v ≡ poll.Ingress) (st : State) → v.state ≡ st → works_in st (is_some v.tuple) (n == 0) v.synack_paused ≡ true → SleepsIn st (flight v) v.remote_win_len
   sleeps_in held state.Closed is e = true≢false (sym (ap is_closed is) ∙ w.not_closed)
   sleeps_in held state.Listen is e = absurd cc
@@ -357,6 +361,26 @@ no_peer state.Closed peer empty paused nr e p = nr e
 no_peer state.Listen peer empty paused nr e p = absurd cc
 no_peer _ peer empty paused nr e p = absurd cc
 
+-- with work to do, the peer owes something
+owed : (st : State) (peer empty paused : Bool) → is_closed st ≡ false → (st ≡ state.TimeWait → ⊥) → works_in st peer empty paused ≡ true → owes_ack st empty ≡ true
+owed state.SynSent peer empty paused c t e = refl
+owed state.SynReceived peer empty paused c t e = refl
+owed state.Established peer empty paused c t e = e
+owed state.CloseWait peer empty paused c t e = e
+owed state.FinWait1 peer empty paused c t e = refl
+owed state.Closing peer empty paused c t e = refl
+owed state.LastAck peer empty paused c t e = refl
+owed state.TimeWait peer empty paused c t e = absurd (t refl)
+owed state.Closed peer empty paused c t e = absurd cc
+owed state.Listen peer empty paused c t e = absurd cc
+owed state.FinWait2 peer empty paused c t e = absurd cc
+
+-- so that the user timeout runs
+runs_by : (r : Rules) (st : State) (peer empty paused : Bool) (d keep : Option Duration) → is_closed st ≡ false → (st ≡ state.TimeWait → ⊥) → works_in st peer empty paused ≡ true → timeout_by r st empty d keep ≡ d
+unfolding timeout_by
+runs_by rules.Smoltcp st peer empty paused d keep c t e = refl
+runs_by rules.Rfc st peer empty paused d keep c t e = ap (λ b. if b then d else (if may_be_idle st then idle_timeout d keep else None)) (owed st peer empty paused c t e)
+
 pub sleeps_only_so : SleepsOnlySo
 unfolding has_work poll_moment
 sleeps_only_so v f r work e = go v.tuple refl
@@ -370,7 +394,7 @@ sleeps_only_so v f r work e = go v.tuple refl
         let w = waits v t f (subst (λ o. poll_moment_to o v f ≡ poll.Ingress) p e) in
         record {
           timer = w.quiet.timer;
-          timeout = w.timeout;
+          timeout = sym (runs_by v.rules v.state (is_some v.tuple) (length v.tx_buffer.bytes == 0) v.synack_paused v.timeout v.keep_alive w.quiet.not_closed (not_time_wait v t f h w.quiet) work) ∙ w.timeout;
           keep_alive = no_moment v t f h w.quiet v.state refl p;
           no_ack = w.no_ack;
           waits = sleeps_in v t f h w.quiet w.held v.state refl work;

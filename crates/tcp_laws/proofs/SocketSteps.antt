@@ -177,7 +177,7 @@ setting_leaves P v w c k o (SetKeepAlive x e) = subst P (sym e) (k x)
 setting_leaves P v w c k o (SetHopLimit x e) = subst P (sym e) (o v.timeout v.ack_delay v.nagle x v.synack_paused v.stamps v.rules v.rtte)
 setting_leaves P v w c k o (PauseSynAck x e) = subst P (sym e) (o v.timeout v.ack_delay v.nagle v.hop_limit x v.stamps v.rules v.rtte)
 setting_leaves P v w c k o (SetTsvalGenerator x e) = subst P (sym e) (o v.timeout v.ack_delay v.nagle v.hop_limit v.synack_paused x v.rules v.rtte)
-setting_leaves P v w c k o (SetRules x e) = subst P (sym e) (o v.timeout v.ack_delay v.nagle v.hop_limit v.synack_paused v.stamps x v.rtte)
+setting_leaves P v w c k o (SetRules x d e) = subst P (sym e) (o d v.ack_delay v.nagle v.hop_limit v.synack_paused v.stamps x v.rtte)
 setting_leaves P v w c k o (SetMinRto x e) = subst P (sym e) (o v.timeout v.ack_delay v.nagle v.hop_limit v.synack_paused v.stamps v.rules (bounded_below v.rtte x))
 
 -- ---- the path MTU

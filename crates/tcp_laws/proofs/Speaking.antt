@@ -12,6 +12,7 @@ use Rattle.sock_tcp.specs.Begin.{Begun, last_ts_set, last_ts_set_at, told_ready,
 use Rattle.sock_tcp.specs.Content.{Sending, asked, content, emission_kind, filled, of_kind, offset_of, plain_segment, sent_as}
 use Rattle.sock_tcp.specs.Due.{data_due, effective_mss, flight, is_closing, is_due, is_held_back, is_opening, may_wait, sendable}
 use Rattle.sock_tcp.specs.Polls.{is_reached, timeout_poll}
+use Rattle.sock_tcp.specs.Rfc.UserTimeout.{timeout_of}
 use Rattle.sock_tcp.specs.Queue.{IsLent, Queue}
 use Rattle.sock_tcp.specs.Rfc.Recovery.{timed_out_by}
 use Rattle.sock_tcp.specs.Rfc.SmallSegments.{waits_alone}
@@ -82,8 +83,8 @@ kind_len kind.Probe u b h = h
 kind_len kind.KeepAlive u b h = omega arith
 
 module _ (u : View) (f : Facts) (out : Sending) (stamp : Option ℕ) (p : Tuple) (bytes : List ℕ) (o : IsOrdered u) (q : IsProbing u) (lawful : IsLawful f) (lent : IsLent u.tx_buffer (offset_of u) (asked u p f) bytes) (alive : u.state ≡ state.Closed → ⊥) (due : data_due u p f ≡ true) where
-  long : (b : Segment) → filled u.state u p f bytes (plain_segment u p stamp) ≡ Some b → 0 < segment_len b
-  long b e = go (some_or_none (segment_len b))
+  pub due_is_long : (b : Segment) → filled u.state u p f bytes (plain_segment u p stamp) ≡ Some b → 0 < segment_len b
+  due_is_long b e = go (some_or_none (segment_len b))
     where
       none : RstOrAck u b → ⊥
       none (inl c) = alive c.0
@@ -95,7 +96,7 @@ module _ (u : View) (f : Facts) (out : Sending) (stamp : Option ℕ) (p : Tuple)
 
   by_filled : (b : Option Segment) → filled u.state u p f bytes (plain_segment u p stamp) ≡ b → option_map (λ s. sent_as u p (emission_kind u (moment_of f) s) s) b ≡ Some out → 0 < segment_len out.segment
   by_filled None e m = absurd (none-some out m)
-  by_filled (Some b) e m = subst (λ (x : Sending). 0 < segment_len x.segment) (same_Some (sent_as u p (emission_kind u (moment_of f) b) b) out m) (kind_len (emission_kind u (moment_of f) b) u b (long b e))
+  by_filled (Some b) e m = subst (λ (x : Sending). 0 < segment_len x.segment) (same_Some (sent_as u p (emission_kind u (moment_of f) b) b) out m) (kind_len (emission_kind u (moment_of f) b) u b (due_is_long b e))
 
   by_content : content u p f stamp bytes ≡ Some out → 0 < segment_len out.segment
   unfolding content
@@ -112,7 +113,7 @@ due_data_goes_out v u w f out r lawful h alive due =
 -- what the beginning of a dispatch leaves of v
 record StillOf (v x : View) : Type 0 where
   timer : x.timer ≡ v.timer
-  timeout : x.timeout ≡ v.timeout
+  timeout : timeout_of x ≡ timeout_of v
   state : x.state ≡ v.state
   tx : x.tx_buffer ≡ v.tx_buffer
   window : x.remote_win_len ≡ v.remote_win_len
@@ -151,7 +152,7 @@ module _ (v : View) (t : Tuple) (f : Facts) (r : IsReached v) (h : IsRetransmiss
   unfolding after_timers
   begins_is = rw (alive, quiet, timed, h.over) refl
     where
-      alive : is_reached (timeout_poll x.timeout x.remote_last_ts) now ≡ false
+      alive : is_reached (timeout_poll (timeout_of x) x.remote_last_ts) now ≡ false
       alive = ap (λ d. is_reached (timeout_poll d x.remote_last_ts) now) still.timeout ∙ h.alive
 
       quiet : probes_tail x now ≡ false

@@ -183,7 +183,7 @@ module _ (most : Duration) (minute : 60000000 ≤ most.micros) where
       setting_timed (SetHopLimit x e) m = subst Now (sym e) h
       setting_timed (PauseSynAck x e) m = subst Now (sym e) h
       setting_timed (SetTsvalGenerator x e) m = subst Now (sym e) h
-      setting_timed (SetRules x e) m = subst Now (sym e) h
+      setting_timed (SetRules x d e) m = subst Now (sym e) h
       setting_timed (SetMinRto x e) m = subst Now (sym e) (record { timer = h.timer; waits = h.waits; timeout = bounded_short v.rtte x h.timeout; keep_short = h.keep_short; delay_short = h.delay_short; idle = h.idle })
 
     calls_timed : KeptByCalls Now (λ d. IsAtMost d most)

@@ -15,6 +15,7 @@ use Rattle.sock_tcp.specs.Dispatch.{Dispatches, EmitTcp, EmitsTo}
 use Rattle.sock_tcp.specs.Due.{held_poll, data_due, is_closed, is_due, window_doubled}
 use Rattle.sock_tcp.specs.Opening.{renewed}
 use Rattle.sock_tcp.specs.Polls.{is_reached, timeout_poll}
+use Rattle.sock_tcp.specs.Rfc.UserTimeout.{timeout_of}
 use Rattle.sock_tcp.specs.Rfc.RoundTrips.{sending_measured}
 use Rattle.sock_tcp.specs.Sent.{goes_on, after_any, after_kind, after_probe, after_sending, emitted_as, left_by, sending_timed, snd_nxt_moved}
 use Rattle.sock_tcp.specs.Timers.{is_keep_alive_over, is_probe_over, retransmit_unless_set}
@@ -68,9 +69,9 @@ reached_knows (Some d) None v now e = absurd cc
 reached_knows None (Some t) v now e = absurd cc
 reached_knows (Some d) (Some t) v now e = refl
 
-timed_out : (v : View) (now : Instant) → is_reached (timeout_poll v.timeout v.remote_last_ts) now ≡ true → (after_timers (readied v now) now).state ≡ state.Closed
+timed_out : (v : View) (now : Instant) → is_reached (timeout_poll (timeout_of v) v.remote_last_ts) now ≡ true → (after_timers (readied v now) now).state ≡ state.Closed
 unfolding after_timers readied last_ts_set
-timed_out v now e = rw (reached_knows v.timeout v.remote_last_ts v now e, e) refl
+timed_out v now e = rw (reached_knows (timeout_of v) v.remote_last_ts v now e, e) refl
 
 closed_due : (u : View) (t : Tuple) (f : Facts) → u.state ≡ state.Closed → is_due u t f ≡ true
 unfolding is_due
@@ -94,7 +95,7 @@ renewed_closed : (v : View) → (renewed v).state ≡ state.Closed
 unfolding renewed fresh
 renewed_closed v = refl
 
-module _ (v : View) (f : Facts) (over : is_reached (timeout_poll v.timeout v.remote_last_ts) (moment_of f) ≡ true) where
+module _ (v : View) (f : Facts) (over : is_reached (timeout_poll (timeout_of v) v.remote_last_ts) (moment_of f) ≡ true) where
   abbrev u : View
   u = after_timers (readied v (moment_of f)) (moment_of f)
 

@@ -17,7 +17,7 @@ use Rattle.tcp_laws.specs.SocketRun.{Process, Dispatch, Set, SetRules}
 
 -- an open socket keeps its rules
 abbrev pub KeepsRules : {v w : View} → Sets v w → Type 0
-KeepsRules {v} (SetRules x view) = is_open v.state ≡ true → x ≡ v.rules
+KeepsRules {v} (SetRules x d view) = is_open v.state ≡ true → x ≡ v.rules
 KeepsRules _ = Unit {0}
 
 -- a segment is processed by the socket's own rules, and the facts that a dispatch is told are lawful, as those of every

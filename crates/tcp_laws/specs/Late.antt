@@ -7,6 +7,7 @@ use Rattle.sock_core.specs.Facts.{Facts}
 use Rattle.sock_tcp.specs.Begin.{before_emit, readied, peer_of}
 use Rattle.sock_tcp.specs.Due.{data_due}
 use Rattle.sock_tcp.specs.Polls.{is_reached, timeout_poll}
+use Rattle.sock_tcp.specs.Rfc.UserTimeout.{timeout_of}
 use Rattle.sock_tcp.specs.Rfc.Recovery.{before_of, begins, echo_known, is_undone, recovered, reordering_after}
 use Rattle.sock_tcp.specs.Rfc.Recovery.{tells_loss, waits_late}
 use Rattle.sock_tcp.specs.Rfc.Reordering.{is_late, is_over, may_resend}
@@ -51,7 +52,7 @@ NoLossIsForgotten =
 pub record IsLateOver (v : View) (t : Tuple) (f : Facts) : Type 0 where
   pub peer : v.tuple ≡ Some t
   pub address : f.has_address t.local.addr ≡ true
-  pub alive : is_reached (timeout_poll v.timeout (readied v (moment_of f)).remote_last_ts) (moment_of f) ≡ false
+  pub alive : is_reached (timeout_poll (timeout_of v) (readied v (moment_of f)).remote_last_ts) (moment_of f) ≡ false
   pub at : Instant
   pub timer : v.timer ≡ timer.Retransmit at
   pub over : is_past at (moment_of f) ≡ true

@@ -15,3 +15,4 @@ pub mod Telling
 pub mod Windows
 pub mod Honored
 pub mod Below
+pub mod Holes

@@ -16,6 +16,7 @@ use Rattle.sock_tcp.specs.Poll.{poll_moment}
 use Rattle.sock_tcp.specs.Polls.{IsLater}
 use Rattle.sock_tcp.specs.Queue.{IsLent}
 use Rattle.sock_tcp.specs.Queue.{queue_of}
+use Rattle.sock_tcp.specs.Rfc.UserTimeout.{timeout_of}
 use Rattle.sock_tcp.specs.Timers.{after}
 use Rattle.sock_tcp.specs.View.{View, fresh, moment_of}
 use Rattle.sock_tcp.specs.Work.{has_work}
@@ -113,11 +114,11 @@ abbrev pub WakesWithin : Option Instant → Duration → PollAt → Type 0
 WakesWithin None d p = p ≡ poll.Now
 WakesWithin (Some last) d p = ComesBy p (after last d)
 
--- any socket that has a peer and a user timeout
+-- any socket that has a peer, and a user timeout which runs
 abbrev pub TimeoutWakes : Type 0
 TimeoutWakes = (v : View) (t : Tuple) (d : Duration) (f : Facts)
     → v.tuple ≡ Some t
-    → v.timeout ≡ Some d
+    → timeout_of v ≡ Some d
     → WakesWithin v.remote_last_ts d (poll_moment v f)
 
 -- one that has a peer and a keep-alive interval

@@ -162,7 +162,7 @@ pub data Sets (v w : View) : Type 0 where
   SetHopLimit : (x : Option ℕ) → w ≡ record v { hop_limit = x } → Sets v w
   PauseSynAck : (x : Bool) → w ≡ record v { synack_paused = x } → Sets v w
   SetTsvalGenerator : (is_there : Bool) → w ≡ record v { stamps = is_there } → Sets v w
-  SetRules : (x : Rules) → w ≡ record v { rules = x } → Sets v w
+  SetRules : (x : Rules) (d : Option Duration) → w ≡ record v { rules = x; timeout = d } → Sets v w
   SetMinRto : (x : ℕ) → w ≡ record v { rtte = bounded_below v.rtte x } → Sets v w
 
 -- the socket v sends out, or nothing, and becomes w, whether the emit answers Ok or an error

@@ -7,6 +7,7 @@ use Rattle.sock_tcp.specs.Begin.{before_emit, readied, peer_of}
 use Rattle.sock_tcp.specs.Content.{Sending}
 use Rattle.sock_tcp.specs.Due.{data_due}
 use Rattle.sock_tcp.specs.Polls.{is_reached, timeout_poll}
+use Rattle.sock_tcp.specs.Rfc.UserTimeout.{timeout_of}
 use Rattle.sock_tcp.specs.Rfc.TailLoss.{probes_tail}
 use Rattle.sock_tcp.specs.Timers.{is_over}
 use Rattle.sock_tcp.specs.View.{View, moment_of}
@@ -32,7 +33,7 @@ DueDataGoesOut = (v u w : View) (f : Facts) (out : Sending)
 pub record IsRetransmissionOver (v : View) (t : Tuple) (f : Facts) : Type 0 where
   pub peer : v.tuple ≡ Some t
   pub address : f.has_address t.local.addr ≡ true
-  pub alive : is_reached (timeout_poll v.timeout (readied v (moment_of f)).remote_last_ts) (moment_of f) ≡ false
+  pub alive : is_reached (timeout_poll (timeout_of v) (readied v (moment_of f)).remote_last_ts) (moment_of f) ≡ false
   pub at : Instant
   pub timer : v.timer ≡ timer.Retransmit at
   pub over : is_over at (moment_of f) ≡ true

@@ -10,6 +10,7 @@ use Rattle.sock_tcp.specs.Acked.{acked_of}
 use Rattle.sock_tcp.specs.Advance.{counted_control}
 use Rattle.sock_tcp.specs.Due.{data_due, effective_mss, flight, is_closing}
 use Rattle.sock_tcp.specs.Polls.{is_reached, timeout_poll}
+use Rattle.sock_tcp.specs.Rfc.UserTimeout.{timeout_of}
 use Rattle.sock_tcp.specs.Process.{processed}
 use Rattle.sock_tcp.specs.Steps.{is_duplicate, is_window_changed}
 use Rattle.sock_tcp.specs.Rfc.Checks.{verdict_by}
@@ -33,7 +34,7 @@ use Rattle.tcp_laws.specs.SocketRun.{IsNumbered}
 -- there is a peer, and the user timeout after the moment of the last segment is over
 pub record IsTimedOut (v : View) (now : Instant) : Type 0 where
   pub peer : is_some v.tuple ≡ true
-  pub over : is_reached (timeout_poll v.timeout v.remote_last_ts) now ≡ true
+  pub over : is_reached (timeout_poll (timeout_of v) v.remote_last_ts) now ≡ true
 
 abbrev pub IsClosed : View → Type 0
 IsClosed v = v.state ≡ state.Closed

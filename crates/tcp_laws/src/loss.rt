@@ -1,6 +1,7 @@
 //! Laws on what a sender knows of a loss, and on what a receiver tells of it.
 ghost use Rattle.tcp_laws.specs.Below.{DuplicatesBelowChangeNoLoss};
 ghost use Rattle.tcp_laws.specs.Loss.{ScoreboardFollowsSegments, TellsOnlyWhatCame, TellsTheNewest};
+ghost use Rattle.tcp_laws.specs.Holes.{BlocksTellLoss, DueResendBegins, MarkedHoleGoesOut, ThirdDuplicateResends};
 ghost use Rattle.tcp_laws.specs.Late.{LateHoleGoesOut, NoLossIsForgotten, NothingSeenNothingIsLate};
 ghost use Rattle.tcp_laws.specs.Late.{NothingSeenNothingWaits, WaitsForARoundTripAtMost};
 ghost use Rattle.tcp_laws.specs.Telling.{AnswersTellWhatIsHeld, DispatchesTellNothing, DispatchesTellWhatIsHeld};
@@ -62,4 +63,16 @@ pub fn losses_are_waited_for()
     ensures unseen { NothingSeenNothingWaits }
     ensures unseen_then { NothingSeenNothingIsLate }
     ensures most { WaitsForARoundTripAtMost }
+{}
+
+/// By the RFCs' rules what tells of a loss lets the hole go out next. A third duplicate that tells something new, or of
+/// a peer without SACK, makes a fast retransmission due while no recovery goes on: at once, or after as many quarters
+/// of a round trip as reordering was seen (RFC 5681, section 3.2); and so do blocks of more than two segments behind a
+/// hole at SND.UNA (RFC 6675, section 4). The dispatch then comes to its emit with the hole marked and due, and what
+/// goes out has its number, or that of SND.UNA where none is told, and takes numbers.
+pub fn told_holes_go_out_next()
+    ensures duplicates { ThirdDuplicateResends }
+    ensures blocks { BlocksTellLoss }
+    ensures begins { DueResendBegins }
+    ensures out { MarkedHoleGoesOut }
 {}

@@ -209,7 +209,8 @@ pub fn settings_are_calls()
     ensures hop_limit { (v : View) (k : Counts) (x : Option ℕ) → Step v k (record v { hop_limit = x }) k }
     ensures pause { (v : View) (k : Counts) (x : Bool) → Step v k (record v { synack_paused = x }) k }
     ensures generator { (v : View) (k : Counts) (x : Bool) → Step v k (record v { stamps = x }) k }
-    ensures rules { (v : View) (k : Counts) (x : Rules) → Step v k (record v { rules = x }) k }
+    ensures rules { (v : View) (k : Counts) (x : Rules) (d : Option Duration)
+        → Step v k (record v { rules = x; timeout = d }) k }
     ensures min_rto { (v : View) (k : Counts) (x : ℕ) → Step v k (record v { rtte = bounded_below v.rtte x }) k }
     ensures path_mtu { (v : View) (k : Counts) (now : Instant) (mtu : ℕ) → Step v k (path_mtu_set v now mtu) k }
 {}

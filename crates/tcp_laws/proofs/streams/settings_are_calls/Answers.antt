@@ -27,7 +27,7 @@ pub returns-clause-generator : goal.returns-clause-generator
 returns-clause-generator c v k x = Set (SetTsvalGenerator x refl) refl
 
 pub returns-clause-rules : goal.returns-clause-rules
-returns-clause-rules c v k x = Set (SetRules x refl) refl
+returns-clause-rules c v k x d = Set (SetRules x d refl) refl
 
 pub returns-clause-min_rto : goal.returns-clause-min_rto
 returns-clause-min_rto c v k x = Set (SetMinRto x refl) refl

@@ -1,0 +1,134 @@
+//! The user timeout (RFC 9293, sections 3.8.3 and 3.9.1.1; RFC 5482).
+ghost use Rattle.std.specs.Prelude.{◌≡◌};
+ghost use Rattle.sock_tcp.specs.Polls.{timeout_poll};
+ghost use Rattle.sock_tcp.specs.Rfc.UserTimeout.{begins_waiting, idle_timeout, may_be_idle, owes_ack};
+ghost use Rattle.sock_tcp.specs.Rfc.UserTimeout.{timeout_by, timeout_chosen, timeout_of};
+ghost use Rattle.sock_tcp.specs.View.{IsShort};
+ghost use Rattle.sock_tcp.specs.declared.rules.Rules.TheVariants.{Rfc};
+
+use crate::control_block::ControlBlock;
+use crate::rules::Rules;
+use crate::state::State;
+use crate::timer::after;
+use net_base::time::Duration;
+use sock_core::PollAt;
+
+// The global default of RFC 9293, section 3.9.1.1.
+const USUAL_TIMEOUT: Duration = Duration {
+    micros: 300_000_000,
+};
+
+// The longest time, 2^61 microseconds.
+const LONGEST: u64 = 2_305_843_009_213_693_952;
+
+// The user timeout once these rules are chosen.
+pub(crate) fn timeout_chosen(rules: Rules, timeout: Option<Duration>) -> Option<Duration>
+    requires { IsShort timeout }
+    ensures value { result ≡ timeout_chosen rules timeout }
+    ensures short { IsShort result }
+{
+    match (rules, timeout) {
+        (Rules::Rfc, None) => Some(USUAL_TIMEOUT),
+        _ => timeout,
+    }
+}
+
+// How long a peer that owes nothing may be silent: an interval of keep-alives more, and for ever where there are none.
+fn idle_timeout(timeout: Option<Duration>, interval: Option<Duration>) -> Option<Duration>
+    requires timeout { IsShort timeout }
+    requires interval { IsShort interval }
+    ensures value { result ≡ idle_timeout timeout interval }
+    ensures short { IsShort result }
+{
+    match (timeout, interval) {
+        (Some(timeout), Some(interval)) => Some(Duration {
+            micros: (interval.micros + timeout.micros).min(LONGEST),
+        }),
+        _ => None,
+    }
+}
+
+impl State {
+    // Whether something is not acknowledged: a SYN, bytes of the transmit queue, or a FIN.
+    fn owes_ack(self, empty: bool) -> bool
+        ensures { result ≡ owes_ack self empty }
+    {
+        match self {
+            State::SynSent | State::SynReceived => true,
+            State::Established | State::CloseWait => !empty,
+            State::FinWait1 | State::Closing | State::LastAck => true,
+            _ => false,
+        }
+    }
+
+    // Whether keep-alives go out while nothing is owed.
+    fn may_be_idle(self) -> bool
+        ensures { result ≡ may_be_idle self }
+    {
+        matches!(
+            self,
+            State::Established | State::CloseWait | State::FinWait2
+        )
+    }
+}
+
+impl<'a> ControlBlock<'a> {
+    // When the user timeout is over.
+    #[inline(always)]
+    #[tactic(auto, using(crate::proofs::UserTimeout::nothing_runs))]
+    pub(crate) fn timeout_poll(&self) -> PollAt
+        ensures { result ≡ timeout_poll (timeout_of self.now) self.now.remote_last_ts }
+    {
+        if self.has_timeout {
+            self.timeout_poll_in_full()
+        } else {
+            PollAt::Ingress
+        }
+    }
+
+    fn timeout_poll_in_full(&self) -> PollAt
+        ensures { result ≡ timeout_poll (timeout_of self.now) self.now.remote_last_ts }
+    {
+        match (self.silence(), self.remote_last_ts()) {
+            (Some(timeout), Some(last)) => PollAt::Time(after(last, timeout)),
+            _ => PollAt::Ingress,
+        }
+    }
+
+    // How long the peer may be silent: by the RFCs' rules the user timeout runs while something is owed.
+    #[tactic(auto, unfolding(crate::specs::Rfc::UserTimeout::timeout_by))]
+    pub(crate) fn silence(&self) -> Option<Duration>
+        ensures value { result ≡ timeout_of self.now }
+        ensures short { IsShort result }
+    {
+        match self.rules {
+            Rules::Smoltcp => self.timeout(),
+            Rules::Rfc => self.silence_by_rfc(),
+        }
+    }
+
+    #[tactic(auto, unfolding(crate::specs::Rfc::UserTimeout::timeout_by))]
+    fn silence_by_rfc(&self) -> Option<Duration>
+        requires { self.now.rules ≡ Rfc }
+        ensures value { result ≡ timeout_of self.now }
+        ensures short { IsShort result }
+    {
+        if self.state.owes_ack(self.tx_buffer.is_empty()) {
+            self.timeout()
+        } else if self.state.may_be_idle() {
+            idle_timeout(self.timeout(), self.keep_alive())
+        } else {
+            None
+        }
+    }
+
+    // A close with an empty queue: whether the acknowledgement of the FIN is waited for from now on.
+    pub(crate) fn begins_waiting(&self, empty: bool) -> bool
+        ensures { result ≡ begins_waiting self.now.rules self.now.state empty }
+    {
+        match (self.rules, self.state) {
+            (Rules::Rfc, State::Established | State::CloseWait) => empty,
+            _ => false,
+        }
+    }
+}
