@@ -53,11 +53,15 @@ ready_is v now = told_is (last_ts_set v now) now ∙ last_is v.remote_last_ts v 
 abbrev after : Begun → Facts → Begun
 after b f = before_emit_to (peer_of b) b.view f
 
+with_reset : (x k p : Bool) → (x || true || k || p) ≡ true
+with_reset true k p = refl
+with_reset false k p = refl
+
 module _ (v : View) (f : Facts) (t : Tuple) (e : v.tuple ≡ Some t) where
-  now : Instant
+  abbrev now : Instant
   now = moment_of f
 
-  u : View
+  abbrev u : View
   u = known v (moment_of f)
 
   -- by what is due, in the order of `is_due`: a fast retransmission, data, a SYN, a FIN, what has waited, a window, the
@@ -86,13 +90,13 @@ module _ (v : View) (f : Facts) (t : Tuple) (e : v.tuple ≡ Some t) where
   due_is true = refl
   due_is false = refl
 
-  mss : ℕ
+  abbrev mss : ℕ
   mss = effective_mss v t f
 
-  poll : PollAt
+  abbrev poll : PollAt
   poll = poll_moment v f
 
-  on : Begun
+  abbrev on : Begun
   on = record { view = u; goes_on = true }
 
   goes : is_probe_over v.timer now ≡ false → Follows v f u (due_reason v mss now poll) on (by_due (is_due u t f) u f)
@@ -124,9 +128,12 @@ module _ (v : View) (f : Facts) (t : Tuple) (e : v.tuple ≡ Some t) where
   timed (timer.Idle at) k = rest (rw k refl)
   timed (timer.Close at) k = rest (rw k refl)
 
-  closed_due : is_due (record u { state = state.Closed }) t f ≡ true
+  abbrev closed : View
+  closed = record u { state = state.Closed }
+
+  closed_due : is_due closed t f ≡ true
   unfolding is_due
-  closed_due = grind (common_steps)
+  closed_due = with_reset (data_due closed t f || is_reached (held_poll closed) now || window_doubled closed) (is_keep_alive_over v.timer now) (is_probe_over v.timer now)
 
   said : Follows v f u (reason_by v mss now poll) (unless_paused (after_timers u now)) (after (unless_paused (after_timers u now)) f)
   unfolding after_timers may_speak
@@ -135,9 +142,6 @@ module _ (v : View) (f : Facts) (t : Tuple) (e : v.tuple ≡ Some t) where
       late : (b : Bool) → Follows v f u (if b then reason.TailLossProbe else timer_reason v.timer v mss now poll) (unless_paused (timers_by b u now)) (after (unless_paused (timers_by b u now)) f)
       late true = refl
       late false = timed v.timer refl
-
-      closed : View
-      closed = record u { state = state.Closed }
 
       by : (b : Bool) → Follows v f u (if b then reason.UserTimeout else (if probes_tail v now then reason.TailLossProbe else timer_reason v.timer v mss now poll)) (unless_paused (if b then closed else timers_by (probes_tail u now) u now)) (after (unless_paused (if b then closed else timers_by (probes_tail u now) u now)) f)
       by true = subst (λ (o : Option Tuple). before_emit_to o closed f ≡ going_on closed) (sym e) (ap (λ (b : Bool). by_due b closed f) closed_due)

@@ -1,5 +1,6 @@
 //! What `dispatch` does next, and why, asked for beforehand (RFC 9293, section 3.8).
 ghost use Rattle.std.specs.Prelude.{◌≡◌, Some, length};
+ghost use Rattle.sock_core.specs.Bounds.{IsMoment};
 ghost use Rattle.sock_tcp.specs.Next.{due_reason, has_fin, is_timed_out, last_or, reason_by, reason_of, reason_text};
 ghost use Rattle.sock_tcp.specs.Next.{timed_reason, timer_reason, unpaused_reason, waiting_reason};
 ghost use Rattle.sock_tcp.specs.Rfc.TailLoss.{probes_tail};
@@ -173,6 +174,7 @@ impl<'a> ControlBlock<'a> {
     }
 
     fn is_timed_out(&self, now: Instant) -> bool
+        requires { IsMoment now.micros }
         ensures { result ≡ is_timed_out self.now now }
     {
         let last = match self.remote_last_ts() {
@@ -196,6 +198,7 @@ impl<'a> ControlBlock<'a> {
     }
 
     fn reason(&self, mss: usize, now: Instant, poll: PollAt) -> Reason
+        requires { IsMoment now.micros }
         ensures { result ≡ reason_by self.now mss now poll }
     {
         if self.is_timed_out(now) {
