@@ -11,6 +11,7 @@ use Rattle.control_wire.specs.declared.seq_number.TcpSeqNumber.{TcpSeqNumber}
 use Rattle.control_wire.specs.declared.tcp.TcpControl.TheVariants as control
 use Rattle.sock_core.specs.Facts.{Facts}
 use Rattle.sock_core.specs.Received.{Received}
+use Rattle.sock_tcp.proofs.UserTimeout.{none_runs}
 use Rattle.sock_tcp.proofs.Lending.{lent_at_most}
 use Rattle.sock_tcp.specs.Begin.{is_paused}
 use Rattle.sock_tcp.specs.Closing.{closed}
@@ -96,7 +97,7 @@ module _ (d : Option Duration) (t : Tuple) (c : View) (f : Facts) (now : Instant
   start = begins t f c now s.reached s.no_timeout s.smoltcp s.rests (no_probe_left c s.rests none_left) over
 
   on : GoesOn c t fa
-  on = record { peer = s.peer; address = here; alive = rw s.no_timeout refl; no_end = start.no_end }
+  on = record { peer = s.peer; address = here; alive = rw (none_runs c s.no_timeout) refl; no_end = start.no_end }
 
   abbrev u : View
   u = start.view

@@ -9,6 +9,7 @@ use Rattle.control_wire.specs.Seq.{seq_add}
 use Rattle.control_wire.specs.declared.tcp.TcpControl.TheVariants as control
 use Rattle.sock_core.specs.Bounds.{IsMtu}
 use Rattle.sock_core.specs.Facts.{Facts}
+use Rattle.sock_tcp.proofs.UserTimeout.{none_runs}
 use Rattle.sock_tcp.proofs.Lending.{lent_beginning}
 use Rattle.sock_tcp.specs.Begin.{is_paused}
 use Rattle.sock_tcp.specs.Content.{Sending, asked, carries_data, data_control, emission_kind, offset_of, plain_segment, sent_as, window_left}
@@ -71,7 +72,7 @@ module _ (d : Option Duration) (t : Tuple) (v : View) (f : Facts) (now : Instant
   start = begins t f v now s.reached s.no_timeout s.smoltcp s.rests other over
 
   on : GoesOn v t fa
-  on = record { peer = s.peer; address = here; alive = rw s.no_timeout refl; no_end = start.no_end }
+  on = record { peer = s.peer; address = here; alive = rw (none_runs v s.no_timeout) refl; no_end = start.no_end }
 
   abbrev u : View
   u = start.view

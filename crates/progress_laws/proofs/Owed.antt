@@ -14,6 +14,7 @@ use Rattle.sock_core.specs.Facts.{Facts}
 use Rattle.sock_core.specs.Received.{Received}
 use Rattle.sock_core.specs.Seq.{is_before, later_of}
 use Rattle.sock_core.specs.declared.context.PollAt.TheVariants as poll
+use Rattle.sock_tcp.proofs.UserTimeout.{none_runs}
 use Rattle.sock_tcp.proofs.Lending.{lent_at_most}
 use Rattle.sock_tcp.specs.Begin.{after_timer, is_paused, readied}
 use Rattle.sock_tcp.specs.Content.{Sending, asked, carries_data, content, emission_kind, is_probing, offset_of, plain_segment, sent_as}
@@ -65,7 +66,7 @@ module _ (s : Tuple) (w : View) (room n : ℕ) (y : View) (f : Facts) (now : Ins
   fa = told f now
 
   on : GoesOn y s fa
-  on = record { peer = o.peer; address = address; alive = rw o.no_timeout refl; no_end = rw o.timer refl }
+  on = record { peer = o.peer; address = address; alive = rw (none_runs y o.no_timeout) refl; no_end = rw o.timer refl }
 
   carries : is_paused y.state y.synack_paused ≡ false
   carries = takes_runs y.state y.synack_paused o.state

@@ -7,6 +7,7 @@ use Rattle.control_wire.specs.Segment.{Segment}
 use Rattle.control_wire.specs.Seq.{seq_add, seq_sub}
 use Rattle.sock_core.specs.Bounds.{IsMtu}
 use Rattle.sock_core.specs.Facts.{Facts}
+use Rattle.sock_tcp.proofs.UserTimeout.{none_runs}
 use Rattle.sock_tcp.proofs.Lending.{lent_beginning}
 use Rattle.sock_tcp.specs.Begin.{after_timer, is_paused, readied}
 use Rattle.sock_tcp.specs.Content.{asked, carries_data, emission_kind, is_probing, offset_of, sent_as, window_left}
@@ -38,7 +39,7 @@ module _ (d : Option Duration) (t : Tuple) (v : View) (f : Facts) (now at : Inst
   no_window = subst (λ tm. ProbesIn tm v.remote_win_len) probes (reached_probing v s.reached).window
 
   probe_on : GoesOn v t (told f now)
-  probe_on = record { peer = s.peer; address = address; alive = rw s.no_timeout refl; no_end = rw probes refl }
+  probe_on = record { peer = s.peer; address = address; alive = rw (none_runs v s.no_timeout) refl; no_end = rw probes refl }
 
   probe_carries : is_paused v.state v.synack_paused ≡ false
   probe_carries = carries_runs v.state v.synack_paused (sends_data v.state s.state)

@@ -9,6 +9,7 @@ use Rattle.control_wire.specs.declared.seq_number.TcpSeqNumber.{TcpSeqNumber}
 use Rattle.control_wire.specs.declared.tcp.TcpControl.TheVariants as control
 use Rattle.sock_core.specs.Facts.{Facts}
 use Rattle.sock_core.specs.Seq.{later_of}
+use Rattle.sock_tcp.proofs.UserTimeout.{none_runs}
 use Rattle.sock_tcp.specs.Begin.{after_timer, is_paused, readied, retransmission_begun}
 use Rattle.sock_tcp.specs.Content.{Sending, carries_data, content, emission_kind, filled, plain_segment, sent_as, syn, syn_ack}
 use Rattle.sock_tcp.specs.Due.{data_due, effective_mss, flight, is_closed, is_closing, is_due, is_held_back, is_opening, sendable}
@@ -114,7 +115,7 @@ module _ (st : State) (t : Tuple) (f : Facts) (x : View) (c : SendsSyn st t f x)
   fa = told f now
 
   pub on : GoesOn v t fa
-  on = record { peer = r.same.peer ∙ c.peer; address = c.address; alive = rw (r.same.timeout ∙ c.no_timeout) refl; no_end = by r.waits }
+  on = record { peer = r.same.peer ∙ c.peer; address = c.address; alive = rw (none_runs v (r.same.timeout ∙ c.no_timeout)) refl; no_end = by r.waits }
     where
       by : SynWaits v → is_close_over v.timer now ≡ false
       by (NotSent o idle nxt) = rw idle refl

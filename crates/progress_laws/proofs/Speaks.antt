@@ -429,7 +429,7 @@ module _ (d : Option Duration) (t : Tuple) (v : View) (f : Facts) (now : Instant
   carries_so = carries_runs v.state v.synack_paused (sends_data v.state s.state)
 
   goes_on : is_close_over v.timer now ≡ false → GoesOn v t (told f now)
-  goes_on e = record { peer = s.peer; address = address; alive = rw s.no_timeout refl; no_end = e }
+  goes_on e = record { peer = s.peer; address = address; alive = rw (none_runs v s.no_timeout) refl; no_end = e }
 
   pub says_bytes : (r : Rests v) → IsNoProbe r → is_over (wakes r) now ≡ true → 0 < v.remote_win_len → 0 < length v.tx_buffer.bytes → SpeaksBytes (told f now) v
   says_bytes r other over win queue = let b = begins t f v now s.reached s.no_timeout s.smoltcp r other over in speaks_bytes d t v f now mtu s (goes_on b.no_end) carries_so b.view b.front (b.is (goes_on b.no_end) carries_so) win queue

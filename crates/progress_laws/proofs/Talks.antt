@@ -9,6 +9,7 @@ use Rattle.control_wire.specs.Seq.{seq_add, seq_minus, seq_sub}
 use Rattle.sock_core.specs.Bounds.{IsMtu}
 use Rattle.sock_core.specs.Facts.{Facts}
 use Rattle.sock_core.specs.Seq.{later_of}
+use Rattle.sock_tcp.proofs.UserTimeout.{none_runs}
 use Rattle.sock_tcp.proofs.Lending.{lent_at_most}
 use Rattle.sock_tcp.specs.Begin.{after_timer, fast_retransmission_marked, is_paused, readied, retransmission_begun}
 use Rattle.sock_tcp.specs.Content.{Sending, asked, carries_data, emission_kind, is_probing, offset_of, plain_segment, resent_size, sent_as, size_of, window_left}
@@ -372,7 +373,7 @@ module _ (d : Duration) (t : Tuple) (f : Facts) (v : View) (now : Instant) (mtu 
   q = begins d t f v now s over s.waits
 
   pub goes_on : GoesOn v t (told f now)
-  goes_on = record { peer = s.peer; address = here; alive = rw s.no_timeout refl; no_end = q.no_end }
+  goes_on = record { peer = s.peer; address = here; alive = rw (none_runs v s.no_timeout) refl; no_end = q.no_end }
 
   pub calls : HasToSend v → Call (told f now) v now
   calls work = called d t v f now mtu s work goes_on runs q.view q.started (q.is goes_on runs) (subst IsOrdered (timers_are v t (told f now) goes_on runs ∙ q.is goes_on runs) (timers_ordered (readied v now) now (readied_ordered v now (reached_ordered v s.reached))))

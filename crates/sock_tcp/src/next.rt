@@ -4,13 +4,16 @@ ghost use Rattle.sock_core.specs.Bounds.{IsMoment};
 ghost use Rattle.sock_tcp.specs.Next.{due_reason, has_fin, is_timed_out, last_or, reason_by, reason_of, reason_text};
 ghost use Rattle.sock_tcp.specs.Next.{timed_reason, timer_reason, unpaused_reason, waiting_reason};
 ghost use Rattle.sock_tcp.specs.Rfc.TailLoss.{probes_tail};
+ghost use Rattle.sock_tcp.specs.Rfc.UserTimeout.{timeout_of};
+ghost use Rattle.sock_tcp.specs.View.{IsShort};
 
 use crate::begin::has_local_address;
 use crate::control_block::ControlBlock;
 use crate::poll::is_reached;
+use crate::rules::Rules;
 use crate::socket::Socket;
 use crate::timer::{Timer, after, is_over};
-use net_base::time::Instant;
+use net_base::time::{Duration, Instant};
 use sock_core::{Context, PollAt};
 use std::fmt;
 
@@ -173,6 +176,18 @@ impl<'a> ControlBlock<'a> {
         }
     }
 
+    // How long the peer may be silent.
+    #[tactic(auto, unfolding(crate::specs::Rfc::UserTimeout::timeout_by))]
+    fn running_timeout(&self) -> Option<Duration>
+        ensures value { result ≡ timeout_of self.now }
+        ensures short { IsShort result }
+    {
+        match self.rules {
+            Rules::Smoltcp => self.timeout(),
+            Rules::Rfc => self.silence(),
+        }
+    }
+
     fn is_timed_out(&self, now: Instant) -> bool
         requires { IsMoment now.micros }
         ensures { result ≡ is_timed_out self.now now }
@@ -181,7 +196,7 @@ impl<'a> ControlBlock<'a> {
             None => now,
             Some(last) => last,
         };
-        match self.silence() {
+        match self.running_timeout() {
             None => false,
             Some(timeout) => is_over(after(last, timeout), now),
         }

@@ -4,7 +4,7 @@ ghost use Rattle.sock_tcp.specs.Polls.{timeout_poll};
 ghost use Rattle.sock_tcp.specs.Rfc.UserTimeout.{begins_waiting, idle_timeout, may_be_idle, owes_ack};
 ghost use Rattle.sock_tcp.specs.Rfc.UserTimeout.{timeout_by, timeout_chosen, timeout_of};
 ghost use Rattle.sock_tcp.specs.View.{IsShort};
-ghost use Rattle.sock_tcp.specs.declared.rules.Rules.TheVariants.{Rfc};
+ghost use Rattle.sock_tcp.specs.declared.rules.Rules.TheVariants.{Rfc, Smoltcp};
 
 use crate::control_block::ControlBlock;
 use crate::rules::Rules;
@@ -73,20 +73,36 @@ impl State {
 }
 
 impl<'a> ControlBlock<'a> {
-    // When the user timeout is over.
+    // When the user timeout is over. By smoltcp's rules it stands in line, as each dispatch asks.
     #[inline(always)]
     #[tactic(auto, using(crate::proofs::UserTimeout::nothing_runs))]
     pub(crate) fn timeout_poll(&self) -> PollAt
         ensures { result ≡ timeout_poll (timeout_of self.now) self.now.remote_last_ts }
     {
-        if self.has_timeout {
-            self.timeout_poll_in_full()
+        if !self.has_timeout {
+            return PollAt::Ingress;
+        }
+        match self.rules {
+            Rules::Smoltcp => self.timeout_poll_by_smoltcp(),
+            Rules::Rfc => self.timeout_poll_by_rfc(),
+        }
+    }
+
+    #[inline(always)]
+    #[tactic(auto, unfolding(crate::specs::Rfc::UserTimeout::timeout_by))]
+    fn timeout_poll_by_smoltcp(&self) -> PollAt
+        requires { self.now.rules ≡ Smoltcp }
+        ensures { result ≡ timeout_poll (timeout_of self.now) self.now.remote_last_ts }
+    {
+        if self.has_timeout && self.has_remote_last_ts {
+            PollAt::Time(after(self.remote_last_ts, self.timeout))
         } else {
             PollAt::Ingress
         }
     }
 
-    fn timeout_poll_in_full(&self) -> PollAt
+    fn timeout_poll_by_rfc(&self) -> PollAt
+        requires { self.now.rules ≡ Rfc }
         ensures { result ≡ timeout_poll (timeout_of self.now) self.now.remote_last_ts }
     {
         match (self.silence(), self.remote_last_ts()) {
@@ -95,20 +111,9 @@ impl<'a> ControlBlock<'a> {
         }
     }
 
-    // How long the peer may be silent: by the RFCs' rules the user timeout runs while something is owed.
+    // How long the peer may be silent: the user timeout runs while something is owed.
     #[tactic(auto, unfolding(crate::specs::Rfc::UserTimeout::timeout_by))]
     pub(crate) fn silence(&self) -> Option<Duration>
-        ensures value { result ≡ timeout_of self.now }
-        ensures short { IsShort result }
-    {
-        match self.rules {
-            Rules::Smoltcp => self.timeout(),
-            Rules::Rfc => self.silence_by_rfc(),
-        }
-    }
-
-    #[tactic(auto, unfolding(crate::specs::Rfc::UserTimeout::timeout_by))]
-    fn silence_by_rfc(&self) -> Option<Duration>
         requires { self.now.rules ≡ Rfc }
         ensures value { result ≡ timeout_of self.now }
         ensures short { IsShort result }

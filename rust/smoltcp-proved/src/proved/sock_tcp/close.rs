@@ -21,6 +21,9 @@ impl<'a> ControlBlock<'a> {
 
     // By the RFCs' rules a close in SYN-RECEIVED waits.
     pub(crate) fn close(&mut self) {
+        if self.begins_waiting(self.tx_buffer.is_empty()) {
+            self.has_remote_last_ts = false;
+        }
         match (self.state, crate::kit::in_force(self.rules)) {
             (State::SynReceived, Rules::Rfc) => self.close_waits = true,
             _ => {

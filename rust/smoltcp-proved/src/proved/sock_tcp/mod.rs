@@ -59,6 +59,7 @@ mod tail;
 pub mod timer;
 pub mod tuple;
 pub mod undo;
+mod user_timeout;
 pub mod verdict;
 mod waiting;
 pub mod window;

@@ -6,7 +6,7 @@ use crate::proved::sock_core::{Context, PollAt};
 use crate::proved::sock_tcp::control_block::ControlBlock;
 use crate::proved::sock_tcp::socket::Socket;
 use crate::proved::sock_tcp::state::State;
-use crate::proved::sock_tcp::timer::{Timer, after, is_over};
+use crate::proved::sock_tcp::timer::{Timer, is_over};
 
 // Whether the poll moment is now or was before.
 pub(crate) fn is_reached(poll: PollAt, now: Instant) -> bool {
@@ -31,16 +31,6 @@ pub(crate) fn earlier(poll: PollAt, other: PollAt) -> PollAt {
 }
 
 impl<'a> ControlBlock<'a> {
-    // When the user timeout is over.
-    #[inline(always)]
-    pub(crate) fn timeout_poll(&self) -> PollAt {
-        if self.has_timeout && self.has_remote_last_ts {
-            PollAt::Time(after(self.remote_last_ts, self.timeout))
-        } else {
-            PollAt::Ingress
-        }
-    }
-
     fn has_work(&self) -> bool {
         self.state.works(self.tuple.is_some(), self.tx_buffer.is_empty(), self.synack_paused)
     }

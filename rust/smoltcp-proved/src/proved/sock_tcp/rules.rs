@@ -1,7 +1,9 @@
 // Made from crates/sock_tcp/src/rules.rt by rust/translate: change it there.
 //! Which rules a socket follows, where smoltcp's differ from the RFCs'.
 
+use crate::proved::sock_tcp::control_block::ControlBlock;
 use crate::proved::sock_tcp::socket::Socket;
+use crate::proved::sock_tcp::user_timeout::timeout_chosen;
 use core::fmt;
 
 /// The rules of a TCP socket.
@@ -36,6 +38,10 @@ pub enum Rules {
     /// with three seconds (RFC 6298, rules 5.1 and 5.7). Where it is over while the peer has no window, the window is
     /// probed for with the byte at SND.UNA, and no window is probed with nothing to send (RFC 9293, section 3.8.6.1).
     ///
+    /// Bytes, a SYN or a FIN that are not acknowledged go out again until the user timeout is over, which is five
+    /// minutes where none was set (RFC 9293, sections 3.8.3 and 3.9.1.1), and runs while something is not acknowledged,
+    /// or a keep-alive is not answered (RFC 5482). No lower layer is told before (R1).
+    ///
     /// The congestion window begins with ten segments (RFC 6928), grows by what is acknowledged (RFC 3465, RFC 9406),
     /// where at least half of it was queued (RFC 7661, section 4.2), and is at most ten segments again after a
     /// retransmission timeout without sending (RFC 5681, section 4.1).
@@ -66,13 +72,21 @@ impl fmt::Display for RulesError {
     }
 }
 
+impl<'a> ControlBlock<'a> {
+    fn choose(&mut self, rules: Rules) {
+        self.rules = rules;
+        self.keep_timeout(timeout_chosen(rules, self.timeout()));
+    }
+}
+
 impl<'a, G> Socket<'a, G> {
     /// The socket's rules.
     pub fn rules(&self) -> Rules {
         self.control_block.rules
     }
 
-    /// Chooses the rules of a socket that is not open, for all its connections from now on.
+    /// Chooses the rules of a socket that is not open, for all its connections from now on. With `Rules::Rfc` a socket
+    /// without a user timeout gets one of five minutes (RFC 9293, section 3.9.1.1).
     ///
     /// # Errors
     /// An open one answers `RulesError::InvalidState`, and nothing changes.
@@ -80,7 +94,7 @@ impl<'a, G> Socket<'a, G> {
         if self.control_block.is_open() {
             return Err(RulesError::InvalidState);
         }
-        self.control_block.rules = rules;
+        self.control_block.choose(rules);
         Ok(())
     }
 }

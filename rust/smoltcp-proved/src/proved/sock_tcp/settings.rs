@@ -68,13 +68,16 @@ impl<'a, G> Socket<'a, G> {
         self.control_block.congestion_controller = congestion_control.controller();
     }
 
-    /// How long the peer may be silent while it owes something before the connection is aborted; for ever where there
-    /// is none, as in a new socket (RFC 9293, section 3.9.1).
+    /// How long the peer may be silent before the connection is aborted; for ever where there is none, as in a new
+    /// socket; five minutes once `Rules::Rfc` is chosen (RFC 9293, section 3.9.1.1).
     pub fn timeout(&self) -> Option<Duration> {
         self.control_block.timeout()
     }
 
-    /// Sets the user timeout, of at most 2^61 microseconds.
+    /// Sets the user timeout, of at most 2^61 microseconds, or none. It counts from the last segment that was heard, or
+    /// from the first dispatch since bytes joined an empty queue. By `Rules::Rfc` it runs while a SYN, bytes or a FIN
+    /// are not acknowledged (RFC 5482), and on an idle connection with keep-alives an interval longer, so that it ends
+    /// one whose peer does not answer them; by smoltcp's rules it always runs.
     pub fn set_timeout(&mut self, duration: Option<Duration>) {
         self.control_block.keep_timeout(duration);
     }

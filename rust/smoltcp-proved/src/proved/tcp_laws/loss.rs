@@ -36,3 +36,10 @@ pub fn duplicates_below_change_no_loss() {}
 /// at most four (RFC 8985, section 6.2). A dispatch then comes to its emit with a fast recovery from SND.UNA on, of
 /// which something is due. Where no reordering was seen nothing is waited for.
 pub fn losses_are_waited_for() {}
+
+/// By the RFCs' rules what tells of a loss lets the hole go out next. A third duplicate that tells something new, or of
+/// a peer without SACK, makes a fast retransmission due while no recovery goes on: at once, or after as many quarters
+/// of a round trip as reordering was seen (RFC 5681, section 3.2); and so do blocks of more than two segments behind a
+/// hole at SND.UNA (RFC 6675, section 4). The dispatch then comes to its emit with the hole marked and due, and what
+/// goes out has its number, or that of SND.UNA where none is told, and takes numbers.
+pub fn told_holes_go_out_next() {}
