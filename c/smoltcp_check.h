@@ -90,6 +90,8 @@ static inline const struct smoltcp_tcp *smoltcp_checked_const_tcp(const struct s
     (smoltcp_tcp_set_nagle_enabled)(smoltcp_checked_tcp((s), 0, "smoltcp_tcp_set_nagle_enabled"), __VA_ARGS__)
 #define smoltcp_tcp_set_hop_limit(s, ...) \
     (smoltcp_tcp_set_hop_limit)(smoltcp_checked_tcp((s), 0, "smoltcp_tcp_set_hop_limit"), __VA_ARGS__)
+#define smoltcp_tcp_set_path_mtu(s, ...) \
+    (smoltcp_tcp_set_path_mtu)(smoltcp_checked_tcp((s), 0, "smoltcp_tcp_set_path_mtu"), __VA_ARGS__)
 #define smoltcp_tcp_pause_synack(s, ...) \
     (smoltcp_tcp_pause_synack)(smoltcp_checked_tcp((s), 0, "smoltcp_tcp_pause_synack"), __VA_ARGS__)
 #define smoltcp_tcp_set_congestion_control(s, ...) \

@@ -213,6 +213,12 @@ SMOLTCP_INLINE int64_t smoltcp_tcp_set_nagle_enabled(struct smoltcp_tcp *s, uint
     return smoltcp_tcp_set_nagle_enabled_nonnull(&h, enabled);
 }
 
+SMOLTCP_INLINE int64_t smoltcp_tcp_set_path_mtu(struct smoltcp_tcp *s, const struct smoltcp_context *cx, uint32_t mtu) {
+    struct smoltcp_tcp_handle h = {SMOLTCP_AT(s)};
+    if (!s || !cx) return SMOLTCP_ERROR_NULL;
+    return smoltcp_tcp_set_path_mtu_nonnull(&h, cx, mtu);
+}
+
 SMOLTCP_INLINE int64_t smoltcp_tcp_set_rules(struct smoltcp_tcp *s, uint32_t rules) {
     struct smoltcp_tcp_handle h = {SMOLTCP_AT(s)};
     if (!s) return SMOLTCP_ERROR_NULL;

@@ -85,6 +85,7 @@ int64_t smoltcp_tcp_set_hop_limit_nonnull(struct smoltcp_tcp_handle *h, uint8_t 
 int64_t smoltcp_tcp_set_keep_alive_nonnull(struct smoltcp_tcp_handle *h, int64_t micros);
 int64_t smoltcp_tcp_set_min_rto_nonnull(struct smoltcp_tcp_handle *h, int64_t micros);
 int64_t smoltcp_tcp_set_nagle_enabled_nonnull(struct smoltcp_tcp_handle *h, uint8_t enabled);
+int64_t smoltcp_tcp_set_path_mtu_nonnull(struct smoltcp_tcp_handle *h, const struct smoltcp_context *cx, uint32_t mtu);
 int64_t smoltcp_tcp_set_rules_nonnull(struct smoltcp_tcp_handle *h, uint32_t rules);
 int64_t smoltcp_tcp_set_timeout_nonnull(struct smoltcp_tcp_handle *h, int64_t micros);
 int64_t smoltcp_tcp_set_timestamps_nonnull(struct smoltcp_tcp_handle *h, uint8_t enabled);

@@ -234,6 +234,14 @@ int64_t smoltcp_tcp_set_nagle_enabled(struct smoltcp_tcp *s, uint8_t enabled);
  * Errors: SMOLTCP_ERROR_NULL. */
 int64_t smoltcp_tcp_set_hop_limit(struct smoltcp_tcp *s, uint8_t hop_limit);
 
+/* Tells the path MTU, as an ICMP error does (RFC 1191, RFC 8201): the length in bytes, IP header and all, of the longest
+ * packet that reaches the peer. Less than 576 counts as 576 over IPv4, less than 1280 as 1280 over IPv6. Segments only
+ * get shorter by it, until the connection ends; bytes in flight go out again at once then. A host hears such errors
+ * itself.
+ *
+ * Errors: SMOLTCP_ERROR_CONTEXT, SMOLTCP_ERROR_NULL. */
+int64_t smoltcp_tcp_set_path_mtu(struct smoltcp_tcp *s, const struct smoltcp_context *cx, uint32_t mtu);
+
 /* Lets a SYN|ACK wait, or go out.
  *
  * Errors: SMOLTCP_ERROR_NULL. */

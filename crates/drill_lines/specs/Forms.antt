@@ -50,6 +50,7 @@ most_of counts.Dispatch = 1000000000
 most_of counts.Fail = 1000000000
 most_of counts.Gone = 1000000000
 most_of counts.Poll = 1000000000
+most_of counts.PathMtu = 65535
 
 abbrev pub not_zero : Option ℕ → Option ℕ
 not_zero None = None

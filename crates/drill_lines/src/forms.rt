@@ -36,6 +36,9 @@ pub const MILLIS: u32 = 1_000_000_000;
 // The largest number of bytes that a line names.
 const SIZE: u32 = 1_048_576;
 
+// The longest packet, in bytes.
+const MTU: u32 = 65_535;
+
 /// What a line asks for, or its fault.
 pub fn request_of<'t>(names: &Names<'t>, line: &Line<'t>) -> Result<Request<'t>, ScriptError>
     ensures { ReadsLine (line_means (words_in names.now.names.items) line.now.number (form_of line.now.name.now)
@@ -299,6 +302,7 @@ fn most(which: Counted) -> u32
         Counted::Connect => u32::MAX,
         Counted::Fill | Counted::Recv | Counted::Peek => SIZE,
         Counted::Dispatch | Counted::Fail | Counted::Gone | Counted::Poll => MILLIS,
+        Counted::PathMtu => MTU,
     }
 }
 

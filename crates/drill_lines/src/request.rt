@@ -36,6 +36,7 @@ pub enum Counted {
     Fail,
     Gone,
     Poll,
+    PathMtu,
 }
 
 /// Lines with a number, or `-` for none.

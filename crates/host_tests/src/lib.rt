@@ -20,6 +20,8 @@ mod lost;
 #[cfg(test)]
 mod offers;
 #[cfg(test)]
+mod paths;
+#[cfg(test)]
 mod sizes;
 #[cfg(test)]
 mod sources;

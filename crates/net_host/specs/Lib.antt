@@ -25,6 +25,7 @@ pub mod Messages
 pub mod Moments
 pub mod Openings
 pub mod Passing
+pub mod PathMtu
 pub mod Polling
 pub mod Ports
 pub mod RawCopies

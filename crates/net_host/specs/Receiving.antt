@@ -11,6 +11,7 @@ use Rattle.host_groups.specs.Joining.{has_group}
 use Rattle.segment_wire.specs.Packet.{Carried, carried}
 use Rattle.segment_wire.specs.Tcp.{tcp_parsed}
 use Rattle.sock_core.specs.Facts.{Facts}
+use Rattle.sock_tcp.specs.View.{moment_of}
 use Rattle.segment_wire.specs.Udp.{Datagram, udp_parsed}
 use Rattle.net_host.specs.Arrivals.{kind_of, refusal}
 use Rattle.net_host.specs.Cookies.{AnswersSegment, IsAgain, class_if, course_among, noted_on}
@@ -20,6 +21,7 @@ use Rattle.net_host.specs.Datagrams.{HeardBy, TakesDatagram}
 use Rattle.net_host.specs.Facts.{facts_by}
 use Rattle.net_host.specs.Messages.{AnyMail, Copies, answer_len, echoed, if_short, mail_in, with_answer}
 use Rattle.net_host.specs.Passing.{passed}
+use Rattle.net_host.specs.PathMtu.{HearsSaid, too_big_in}
 use Rattle.net_host.specs.RawCopies.{CopiesPacket}
 use Rattle.net_host.specs.Segments.{IsTaker}
 use Rattle.net_host.specs.Unreachable.{TellsOf}
@@ -166,15 +168,21 @@ module _ {W G : Type 0} (is : IpAddress → IpAddress → Bool) (word_at : W →
         (if_short (min i.inner.environment.mtu (length out)) (echoed m)) out
     pub interface : j ≡ i
 
-  abbrev pub ByMail : Option AnyMail → Interface W → List (Slot G) → List ℕ → ℕ → Interface W → List (Slot G) → List ℕ
-      → Type 0
-  ByMail None i ss out n j ts out' = Drops reason.Message i ss out n j ts out'
-  ByMail (Some m) i ss out n j ts out' = TakesMail m i ss out n j ts out'
+  -- what a connection heard is not counted, though no socket takes a copy
+  abbrev pub ByMail : (heard : Bool) → Option AnyMail → Interface W → List (Slot G) → List ℕ → ℕ → Interface W
+      → List (Slot G) → List ℕ → Type 0
+  ByMail false None i ss out n j ts out' = Drops reason.Message i ss out n j ts out'
+  ByMail true None i ss out n j ts out' = (n ≡ 0) × (j ≡ i) × (ts ≡ ss) × (out' ≡ out)
+  ByMail heard (Some m) i ss out n j ts out' = TakesMail m i ss out n j ts out'
 
-  -- what stands behind the header, as an ICMP message
-  abbrev pub TakesIcmp : IpRepr → List ℕ → Interface W → List (Slot G) → List ℕ → ℕ → Interface W → List (Slot G)
-      → List ℕ → Type 0
-  TakesIcmp ip octets i = ByMail (mail_in i.inner.environment.checksums ip octets) i
+  -- what stands behind the header, as an ICMP message: first a connection hears that a packet of its own was too long
+  pub record TakesIcmp (ip : IpRepr) (octets : List ℕ) (i : Interface W) (ss : List (Slot G)) (out : List ℕ) (n : ℕ)
+      (j : Interface W) (ts : List (Slot G)) (out' : List ℕ) : Type 0 where
+    pub heard : Bool
+    pub seen : List (Slot G)
+    pub hears : HearsSaid (moment_of (facts_of i.inner)) (too_big_in i.inner.environment.checksums ip octets) ss heard
+        seen
+    pub taken : ByMail heard (mail_in i.inner.environment.checksums ip octets) i seen out n j ts out'
 
   -- by what it is looked at as
   abbrev pub ByKind : Kind → IpRepr → List ℕ → Interface W → List (Slot G) → List ℕ → ℕ → Interface W

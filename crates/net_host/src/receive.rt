@@ -8,9 +8,9 @@ ghost use Rattle.host_groups.specs.Joining.{has_group};
 ghost use Rattle.net_host.specs.Passing.{passed};
 ghost use Rattle.net_host.specs.Receiving.{ByAddresses, ByKind, ByPassed, IfShort, TakesDatagramOf, TakesOther};
 ghost use Rattle.net_host.specs.Receiving.{TakesPacket, TellsIf};
-ghost use Rattle.net_host.specs.Receiving.{TakesCarried, TakesIcmp, TakesMail, TakesSegment, TakesTcp, TakesUdp};
+ghost use Rattle.net_host.specs.Receiving.{ByMail, TakesCarried, TakesMail, TakesSegment, TakesTcp, TakesUdp};
 ghost use Rattle.net_host.specs.Receiving.{counted_again, counted_for, counted_if, counted_on, datagram_in};
-ghost use Rattle.net_host.specs.Messages.{mail_of};
+ghost use Rattle.net_host.specs.Messages.{mail_in, mail_of};
 ghost use Rattle.net_host.specs.Arrivals.{refusal};
 ghost use Rattle.net_host.specs.Facts.{facts_by};
 ghost use Rattle.net_host.specs.Touching.{Touches};
@@ -285,25 +285,27 @@ impl<W: Words> Interface<W> {
         }
     }
 
-    // Not inlined, as `take_other`.
-    #[inline(never)]
+    // What a connection heard of it is not counted.
     #[tactic(auto, using(crate::proofs::Touching::touches_none))]
-    fn take_icmp<G: TsvalSource>(
+    pub(crate) fn take_message<G: TsvalSource>(
         &mut self,
         sockets: &mut SocketSet<'_, G>,
+        heard: bool,
         ip: &IpRepr,
         bytes: &[u8],
         out: &mut [u8],
     ) -> usize
         ensures within { result ≤ length out.old }
-        ensures table { TakesIcmp ⟦<IpAddress as PartialEq>⟧.eq W.word_at G.tells ip.now bytes.now self.old
-            sockets.old.slots.items out.old result self.new sockets.new.slots.items out.new }
+        ensures table { ByMail ⟦<IpAddress as PartialEq>⟧.eq W.word_at G.tells heard
+            (mail_in self.old.inner.environment.checksums ip.now bytes.now) self.old sockets.old.slots.items out.old
+            result self.new sockets.new.slots.items out.new }
         ensures touched { Touches sockets.old.bounds sockets.old.slots.items sockets.new.bounds
             sockets.new.slots.items }
         ensures ended { sockets.new.ended ≡ sockets.old.ended }
     {
         let caps = self.inner.checksum_caps();
         match mail_in(&caps, ip, bytes) {
+            None if heard => 0,
             None => self.drop_packet(Reason::Message),
             Some(mail) => self.take_mail(sockets, &mail, out),
         }

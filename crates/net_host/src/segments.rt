@@ -120,7 +120,7 @@ impl<'a, G: TsvalSource> Slot<'a, G> {
 
 // The first socket that takes the segment, of those that listen or of the others.
 #[inline(always)]
-fn first_taker<C: Context, G: TsvalSource>(
+pub(crate) fn first_taker<C: Context, G: TsvalSource>(
     sockets: &SocketSet<'_, G>,
     cx: &C,
     listening: bool,

@@ -4,11 +4,13 @@ ghost use Rattle.std.specs.Option.{IfSome};
 ghost use Rattle.net_base.specs.declared.time.Duration.{Duration};
 ghost use Rattle.sock_tcp.specs.Closing.{keep_alive_set};
 ghost use Rattle.sock_core.specs.Estimator.{bounded_below};
+ghost use Rattle.sock_tcp.specs.PathMtu.{path_mtu_set};
 ghost use Rattle.sock_tcp.specs.Settings.{least_timeout_of, of_kind};
 ghost use Rattle.sock_tcp.specs.View.{IsShort};
 ghost use Rattle.sock_tcp.specs.declared.rules.Rules.{Rules};
 ghost use Rattle.sock_tcp.specs.declared.settings.CongestionControl.{CongestionControl};
-ghost use Rattle.smoltcp_c.specs.Answers.{error_range};
+ghost use Rattle.smoltcp_c.specs.Answers.{error_context, error_range};
+ghost use Rattle.smoltcp_c.specs.Context.{is_context};
 ghost use Rattle.smoltcp_c.specs.Numbers.{byte_or_none, control_by, flag_in, is_short, lasting, micros_in};
 ghost use Rattle.smoltcp_c.specs.Numbers.{rules_by};
 ghost use Rattle.smoltcp_c.specs.Tcp.{Refuses, Sets, byte_told, clock, clock_set, kind_told, micros_told, view};
@@ -16,8 +18,9 @@ ghost use Rattle.smoltcp_c.specs.Tcp.{IsBoth, SetsRules, rules_told};
 
 use crate::answers::{ERROR_RANGE, ERROR_STATE, OK};
 use crate::clock::Clock;
+use crate::context::{Cx, in_context};
 use crate::handles::TcpHandle;
-use net_base::time::Duration;
+use net_base::time::{Duration, Instant};
 use sock_tcp::{CongestionControl, Rules};
 
 // Any number but 0 is true.
@@ -186,6 +189,23 @@ pub extern "C" fn smoltcp_tcp_set_hop_limit_nonnull(h: &mut TcpHandle, hop_limit
     ensures set { Sets h.old (record (view h.old) { hop_limit = byte_or_none hop_limit }) result h.new }
 {
     h.socket().set_hop_limit(byte_or_none(hop_limit));
+    OK
+}
+
+/// Tells the path MTU: the length in bytes of the longest packet that reaches the peer, of which less than 576 counts as
+/// 576 over IPv4, and less than 1280 as 1280 over IPv6 (RFC 1191, RFC 8201). Where segments get shorter and bytes are in
+/// flight, these go out again at once. 0, or `ERROR_CONTEXT` out of the context's ranges, where nothing changes.
+#[unsafe(no_mangle)]
+pub extern "C" fn smoltcp_tcp_set_path_mtu_nonnull(h: &mut TcpHandle, cx: &Cx, mtu: u32) -> i64
+    ensures context { is_context cx.entry.now ≡ false → Refuses error_context h.old result h.new }
+    ensures set { is_context cx.entry.now ≡ true
+        → Sets h.old (path_mtu_set (view h.old) (record { micros = cx.entry.now.now }) mtu) result h.new }
+{
+    let moment = in_context!(cx);
+    let now = Instant {
+        micros: moment.cx.now,
+    };
+    h.socket().set_path_mtu(now, mtu as usize);
     OK
 }
 

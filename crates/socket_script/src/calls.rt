@@ -1,4 +1,5 @@
 //! The calls of a socket, and what is written of their answers.
+ghost use Rattle.sock_core.specs.Bounds.{IsMoment};
 ghost use Rattle.sock_tcp.specs.View.{IsShort};
 
 use crate::clock::Clock;
@@ -11,7 +12,7 @@ use crate::takes::take;
 use drill_lines::places::bytes_of_hex;
 use drill_lines::request::{Bytes, Call, Counted, Optional, Place, Plain, Switch};
 use ip_wire::{IpEndpoint, IpListenEndpoint};
-use smoltcp_socket::time::Duration;
+use smoltcp_socket::time::{Duration, Instant};
 use smoltcp_socket::udp::UdpMetadata;
 use smoltcp_socket::{Socket, icmp, raw, tcp, udp};
 use std::alloc::Global;
@@ -248,6 +249,7 @@ fn perform_counted(
         Counted::Recv => read(seat, alloc, count as usize, true, line),
         Counted::Peek => read(seat, alloc, count as usize, false, line),
         Counted::Poll => tell_poll(seat, alloc, now, line),
+        Counted::PathMtu => set_path_mtu(seat, now, count as usize, line),
         Counted::Dispatch | Counted::Fail | Counted::Gone => {
             let mut host = host_for(seat, alloc, now, which);
             seat.dispatch(&mut host, line)
@@ -259,6 +261,25 @@ fn fill(seat: &mut Seat<'_>, alloc: Global, count: usize, line: &mut Line) {
     match vec![in alloc; b'x'; count] {
         Ok(bytes) => send(seat, bytes.as_slice(), line),
         Err(_) => line.cut(),
+    }
+}
+
+fn instant(millis: u32) -> Instant
+    ensures { IsMoment result.micros }
+{
+    Instant {
+        micros: millis as i64 * 1000,
+    }
+}
+
+// At the clock's moment.
+fn set_path_mtu(seat: &mut Seat<'_>, now: Now, mtu: usize, line: &mut Line) {
+    match &mut seat.socket {
+        Socket::Tcp(socket) => {
+            socket.set_path_mtu(instant(now.millis), mtu);
+            line.say("done")
+        }
+        _ => line.say(NO_SUCH_CALL),
     }
 }
 

@@ -22,6 +22,9 @@ pub const MILLIS: u32 = 1_000_000_000;
 // The largest number of bytes that a line names.
 const SIZE: u32 = 1_048_576;
 
+// The longest packet, in bytes.
+const MTU: u32 = 65_535;
+
 /// What a line asks for, or its fault.
 pub fn request_of<'t>(names: &Names<'t>, line: &Line<'t>) -> Result<Request<'t>, ScriptError> {
     match Form::of_word(line.name) {
@@ -228,6 +231,7 @@ fn most(which: Counted) -> u32 {
         Counted::Connect => u32::MAX,
         Counted::Fill | Counted::Recv | Counted::Peek => SIZE,
         Counted::Dispatch | Counted::Fail | Counted::Gone | Counted::Poll => MILLIS,
+        Counted::PathMtu => MTU,
     }
 }
 

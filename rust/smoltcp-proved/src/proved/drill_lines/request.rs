@@ -37,6 +37,7 @@ pub enum Counted {
     Fail,
     Gone,
     Poll,
+    PathMtu,
 }
 
 /// Lines with a number, or `-` for none.

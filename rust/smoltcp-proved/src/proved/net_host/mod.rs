@@ -33,6 +33,7 @@ pub mod messages;
 pub mod offers;
 pub mod opening;
 pub mod passing;
+pub mod path_mtu;
 pub mod poll;
 pub mod polling;
 pub mod ports;

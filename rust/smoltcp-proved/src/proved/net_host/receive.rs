@@ -167,17 +167,18 @@ impl<W: Words> Interface<W> {
         }
     }
 
-    // Not inlined, as `take_other`.
-    #[inline(never)]
-    fn take_icmp<G: TsvalSource>(
+    // What a connection heard of it is not counted.
+    pub(crate) fn take_message<G: TsvalSource>(
         &mut self,
         sockets: &mut SocketSet<'_, G>,
+        heard: bool,
         ip: &IpRepr,
         bytes: &[u8],
         out: &mut [u8],
     ) -> usize {
         let caps = self.inner.checksum_caps();
         match mail_in(&caps, ip, bytes) {
+            None if heard => 0,
             None => self.drop_packet(Reason::Message),
             Some(mail) => self.take_mail(sockets, &mail, out),
         }

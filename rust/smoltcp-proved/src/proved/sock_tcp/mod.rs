@@ -36,6 +36,7 @@ pub mod negotiated;
 mod numbers;
 mod open;
 mod own_window;
+mod path_mtu;
 mod peer_window;
 mod pipe;
 pub mod poll;

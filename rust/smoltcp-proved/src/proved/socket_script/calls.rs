@@ -6,7 +6,7 @@ use crate::kit::{String, vec};
 use crate::proved::drill_lines::places::bytes_of_hex;
 use crate::proved::drill_lines::request::{Bytes, Call, Counted, Optional, Place, Plain, Switch};
 use crate::proved::ip_wire::{IpEndpoint, IpListenEndpoint};
-use crate::proved::smoltcp_socket::time::Duration;
+use crate::proved::smoltcp_socket::time::{Duration, Instant};
 use crate::proved::smoltcp_socket::udp::UdpMetadata;
 use crate::proved::smoltcp_socket::{Socket, icmp, raw, tcp, udp};
 use crate::proved::socket_script::clock::Clock;
@@ -242,6 +242,7 @@ fn perform_counted(
         Counted::Recv => read(seat, alloc, count as usize, true, line),
         Counted::Peek => read(seat, alloc, count as usize, false, line),
         Counted::Poll => tell_poll(seat, alloc, now, line),
+        Counted::PathMtu => set_path_mtu(seat, now, count as usize, line),
         Counted::Dispatch | Counted::Fail | Counted::Gone => {
             let mut host = host_for(seat, alloc, now, which);
             seat.dispatch(&mut host, line)
@@ -253,6 +254,21 @@ fn fill(seat: &mut Seat<'_>, alloc: Global, count: usize, line: &mut Line) {
     match vec![in alloc; b'x'; count] {
         Ok(bytes) => send(seat, bytes.as_slice(), line),
         Err(_) => line.cut(),
+    }
+}
+
+fn instant(millis: u32) -> Instant {
+    Instant { micros: millis as i64 * 1000 }
+}
+
+// At the clock's moment.
+fn set_path_mtu(seat: &mut Seat<'_>, now: Now, mtu: usize, line: &mut Line) {
+    match &mut seat.socket {
+        Socket::Tcp(socket) => {
+            socket.set_path_mtu(instant(now.millis), mtu);
+            line.say("done")
+        }
+        _ => line.say(NO_SUCH_CALL),
     }
 }
 
