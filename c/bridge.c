@@ -30,6 +30,7 @@ struct bytes { size_t len; uint8_t at[ROOM]; };
 static struct bytes to_host, from_host;
 static size_t skipped; /* of the header of what the host writes */
 static volatile sig_atomic_t over;
+static int64_t since; /* when the monotonic clock began, by the date: no stamp goes back where that is set */
 
 static void end(int number) {
     (void)number;
@@ -44,7 +45,7 @@ static int64_t micros(clockid_t clock) {
 
 /* Writes the head of a record of the present moment; one of no bytes tells the time alone. */
 static void put_head(uint8_t *at, uint32_t len) {
-    int64_t now = micros(CLOCK_REALTIME);
+    int64_t now = since + micros(CLOCK_MONOTONIC);
     uint32_t head[4] = {(uint32_t)(now / 1000000), (uint32_t)(now % 1000000), len, len};
     memcpy(at, head, sizeof head);
 }
@@ -131,6 +132,7 @@ int main(int count, char **words) {
     int tun, input, output;
     int64_t begun = micros(CLOCK_MONOTONIC), now = begun, last = 0, told = 0, seconds;
     if (count != 5) return 2;
+    since = micros(CLOCK_REALTIME) - begun;
     tun = atoi(words[1]), input = atoi(words[2]), output = atoi(words[3]), seconds = (int64_t)atof(words[4]);
     action.sa_handler = end;
     sigaction(SIGINT, &action, NULL);

@@ -407,17 +407,6 @@ impl Index {
             && !is_less(entry, self.get(place))
     }
 
-    /// Removes an entry, where it is there.
-    pub fn remove(&mut self, entry: Entry)
-        ensures kept { KeepsBut entry self.old.entries self.new.entries }
-        ensures memory { SameMemory self.old self.new }
-    {
-        let place = lower(&self.columns, &self.order, entry);
-        if place < self.order.len() && is_entry(self.get(place), entry) {
-            self.take_out(place);
-        }
-    }
-
     fn take_out(&mut self, place: usize)
         requires { place < length self.old.entries }
         ensures kept { KeepsBut (get_or self.old.entries place nothing) self.old.entries self.new.entries }

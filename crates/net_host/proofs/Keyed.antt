@@ -25,7 +25,7 @@ use Rattle.net_host.specs.Entries.{FindsListed}
 use Rattle.net_host.specs.Filing.{connection_by, connection_key, first_by, listener_by, keys_in, keys_of, listener_key, number_of, udp_key}
 use Rattle.net_host.specs.Indexing.{AreFiledBefore, are_filed, is_filed, is_under}
 use Rattle.net_host.specs.Finding.{key_of_segment}
-use Rattle.net_host.specs.Segments.{TakesIn, TakesSegment}
+use Rattle.net_host.specs.Segments.{TakesIn, TakesSegment, has_peer_if}
 use Rattle.net_host.specs.Walks.{Finds, IsAt, IsFirst}
 
 no_truth : false ≡ true → ⊥
@@ -40,35 +40,35 @@ module _ (es : List Entry) (k : ℕ) (ip : IpRepr) (s : Segment) where
       (subst (λ p. has es (record { major = number_of t.remote.addr; minor = p * 65536 + s.src_port; place = k }) ≡ true) (sym h.local_port)
       (subst (λ q. has es (record { major = number_of t.remote.addr; minor = t.local.port * 65536 + q; place = k }) ≡ true) (sym h.remote_port) f))
 
-  addressed : (t : Option Tuple) (e : IpListenEndpoint) → IsAddressed t e ip s → is_under es k (connection_by t) ≡ true → has es (entry_at (key_of_segment ip s) k) ≡ true
-  addressed None e h f = absurd (no_truth f)
-  addressed (Some t) e h f = between t h f
+  addressed : (t : Option Tuple) (e : IpListenEndpoint) → has_peer_if false t ≡ true → IsAddressed t e ip s → is_under es k (connection_by t) ≡ true → has es (entry_at (key_of_segment ip s) k) ≡ true
+  addressed None e p h f = absurd (no_truth p)
+  addressed (Some t) e p h f = between t h f
 
-  accepted : (st : State) (v : View) → is_listening st ≡ false → AcceptsIn st v ip s → is_under es k (first_by st v.tuple v.listen_endpoint.port) ≡ true → has es (entry_at (key_of_segment ip s) k) ≡ true
-  accepted state.Closed v l h f = absurd h
-  accepted state.Listen v l h f = absurd (no_truth (sym l))
-  accepted state.SynSent v l h f = addressed v.tuple v.listen_endpoint h f
-  accepted state.SynReceived v l h f = addressed v.tuple v.listen_endpoint h f
-  accepted state.Established v l h f = addressed v.tuple v.listen_endpoint h f
-  accepted state.FinWait1 v l h f = addressed v.tuple v.listen_endpoint h f
-  accepted state.FinWait2 v l h f = addressed v.tuple v.listen_endpoint h f
-  accepted state.CloseWait v l h f = addressed v.tuple v.listen_endpoint h f
-  accepted state.Closing v l h f = addressed v.tuple v.listen_endpoint h f
-  accepted state.LastAck v l h f = addressed v.tuple v.listen_endpoint h f
-  accepted state.TimeWait v l h f = addressed v.tuple v.listen_endpoint h f
+  accepted : (st : State) (v : View) → is_listening st ≡ false → AcceptsIn st v ip s → has_peer_if false v.tuple ≡ true → is_under es k (first_by st v.tuple v.listen_endpoint.port) ≡ true → has es (entry_at (key_of_segment ip s) k) ≡ true
+  accepted state.Closed v l h p f = absurd h
+  accepted state.Listen v l h p f = absurd (no_truth (sym l))
+  accepted state.SynSent v l h p f = addressed v.tuple v.listen_endpoint p h f
+  accepted state.SynReceived v l h p f = addressed v.tuple v.listen_endpoint p h f
+  accepted state.Established v l h p f = addressed v.tuple v.listen_endpoint p h f
+  accepted state.FinWait1 v l h p f = addressed v.tuple v.listen_endpoint p h f
+  accepted state.FinWait2 v l h p f = addressed v.tuple v.listen_endpoint p h f
+  accepted state.CloseWait v l h p f = addressed v.tuple v.listen_endpoint p h f
+  accepted state.Closing v l h p f = addressed v.tuple v.listen_endpoint p h f
+  accepted state.LastAck v l h p f = addressed v.tuple v.listen_endpoint p h f
+  accepted state.TimeWait v l h p f = addressed v.tuple v.listen_endpoint p h f
 
   pub connection_in : {G : Type 0} (x : Option (Socket G)) → are_filed es k (keys_in x) ≡ true → TakesIn x false ip s → has es (entry_at (key_of_segment ip s) k) ≡ true
   connection_in None f h = absurd h
   connection_in (Some (socket.Raw x)) f h = absurd h
   connection_in (Some (socket.Icmp x)) f h = absurd h
   connection_in (Some (socket.Udp x)) f h = absurd h
-  connection_in (Some (socket.Tcp x)) f h = accepted x.control_block.state x.control_block h.0 h.1 (and_parts _ _ f).0
+  connection_in (Some (socket.Tcp x)) f h = accepted x.control_block.state x.control_block h.0 h.1 h.2 (and_parts _ _ f).0
 
   -- ---- a listener
 
   listening : (t : Option Tuple) (e : IpListenEndpoint) → IsAddressed t e ip s → is_under es k (listener_by t e.port) ≡ true → has es (entry_at (listener_key s.dst_port) k) ≡ true
   listening None e h f = subst (λ p. has es (record { major = 0; minor = p; place = k }) ≡ true) (sym h.port) f
-  listening (Some t) e h f = absurd (no_truth f)
+  listening (Some t) e h f = subst (λ p. has es (record { major = 0; minor = p; place = k }) ≡ true) (sym h.local_port) f
 
   listens : (st : State) (v : View) → is_listening st ≡ true → AcceptsIn st v ip s → is_under es k (first_by st v.tuple v.listen_endpoint.port) ≡ true → has es (entry_at (listener_key s.dst_port) k) ≡ true
   listens state.Listen v l h f = listening v.tuple v.listen_endpoint h.1 f

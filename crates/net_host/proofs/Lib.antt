@@ -44,3 +44,5 @@ pub mod KnownAnswers
 pub mod Opens
 pub mod Unmarked
 pub mod Wholes
+pub mod Fileable
+pub mod Asking

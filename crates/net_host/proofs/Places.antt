@@ -26,7 +26,6 @@ both false b h k = h
 
 pub under_kept : (place : ℕ) (es fs : List Entry) (k : ℕ) → KeepsElsewhere place es fs → nat_eq k place ≡ false → (q : Key) → is_under es k q ≡ true → is_under fs k q ≡ true
 under_kept place es fs k keep other key.Nothing h = refl
-under_kept place es fs k keep other key.Unknown h = h
 under_kept place es fs k keep other (key.Under e) h = keep (entry_at e k) other h
 
 keys_kept : (place : ℕ) (es fs : List Entry) (k : ℕ) → KeepsElsewhere place es fs → nat_eq k place ≡ false → (q : Keys) → are_filed es k q ≡ true → are_filed fs k q ≡ true

@@ -25,9 +25,9 @@ no_truth : false ≡ true → ⊥
 no_truth e = cc
 
 module _ (es : List Entry) (k : ℕ) (ip : IpRepr) (s : Segment) where
-  listed_if : (b : Bool) (port : ℕ) (t : Instant) → is_ordered t ≡ b → is_under es k (rest_by (if b then Some (order_of t) else None) port) ≡ true → IsListedOf es (rest_major port) t k
-  listed_if true port t e f = (e, f)
-  listed_if false port t e f = absurd (no_truth f)
+  listed_if : (b : Bool) (port : ℕ) (t : Instant) → is_ordered t ≡ b → is_ordered t ≡ true → is_under es k (rest_by (if b then Some (order_of t) else None) port) ≡ true → IsListedOf es (rest_major port) t k
+  listed_if true port t e o f = (e, f)
+  listed_if false port t e o f = absurd (no_truth (sym e ∙ o))
 
   -- the port of a listener is not 0
   opened : (st : State) (end : Option Instant) (port : ℕ) → 0 < port → is_under es k (second_by st end port) ≡ true → is_under es k (opened_by st end port) ≡ true
@@ -37,25 +37,25 @@ module _ (es : List Entry) (k : ℕ) (ip : IpRepr) (s : Segment) where
       go true e h = absurd (grind (arith, e, more))
       go false e h = h
 
-  ending : (st : State) (end : Option Instant) (port : ℕ) (t : Instant) → is_resting st ≡ true → end ≡ Some t → is_under es k (opened_by st end port) ≡ true → IsListedOf es (rest_major port) t k
-  ending state.TimeWait end port t r is f = listed_if (is_ordered t) port t refl (subst (λ e. is_under es k (opened_by state.TimeWait e port) ≡ true) is f)
-  ending state.Closed end port t r is f = absurd (no_truth r)
-  ending state.Listen end port t r is f = absurd (no_truth r)
-  ending state.SynSent end port t r is f = absurd (no_truth r)
-  ending state.SynReceived end port t r is f = absurd (no_truth r)
-  ending state.Established end port t r is f = absurd (no_truth r)
-  ending state.FinWait1 end port t r is f = absurd (no_truth r)
-  ending state.FinWait2 end port t r is f = absurd (no_truth r)
-  ending state.CloseWait end port t r is f = absurd (no_truth r)
-  ending state.Closing end port t r is f = absurd (no_truth r)
-  ending state.LastAck end port t r is f = absurd (no_truth r)
+  ending : (st : State) (end : Option Instant) (port : ℕ) (t : Instant) → is_resting st ≡ true → end ≡ Some t → is_ordered t ≡ true → is_under es k (opened_by st end port) ≡ true → IsListedOf es (rest_major port) t k
+  ending state.TimeWait end port t r is o f = listed_if (is_ordered t) port t refl o (subst (λ e. is_under es k (opened_by state.TimeWait e port) ≡ true) is f)
+  ending state.Closed end port t r is o f = absurd (no_truth r)
+  ending state.Listen end port t r is o f = absurd (no_truth r)
+  ending state.SynSent end port t r is o f = absurd (no_truth r)
+  ending state.SynReceived end port t r is o f = absurd (no_truth r)
+  ending state.Established end port t r is o f = absurd (no_truth r)
+  ending state.FinWait1 end port t r is o f = absurd (no_truth r)
+  ending state.FinWait2 end port t r is o f = absurd (no_truth r)
+  ending state.CloseWait end port t r is o f = absurd (no_truth r)
+  ending state.Closing end port t r is o f = absurd (no_truth r)
+  ending state.LastAck end port t r is o f = absurd (no_truth r)
 
-  pub rest_in : {G : Type 0} (x : Option (Socket G)) (t : Instant) → are_filed es k (keys_in x) ≡ true → RestsIn x ip s → EndsIn x t → IsListedOf es (rest_major s.dst_port) t k
-  rest_in None t f h e = absurd h
-  rest_in (Some (socket.Raw x)) t f h e = absurd h
-  rest_in (Some (socket.Icmp x)) t f h e = absurd h
-  rest_in (Some (socket.Udp x)) t f h e = absurd h
-  rest_in (Some (socket.Tcp x)) t f h e = subst (λ p. IsListedOf es (rest_major p) t k) (sym h.served.port) (ending x.control_block.state (close_end x.control_block.timer) x.control_block.listen_endpoint.port t h.state e (opened x.control_block.state (close_end x.control_block.timer) x.control_block.listen_endpoint.port (subst (λ p. 0 < p) h.served.port h.served.not_zero) (and_parts _ _ f).1))
+  pub rest_in : {G : Type 0} (x : Option (Socket G)) (t : Instant) → are_filed es k (keys_in x) ≡ true → RestsIn x ip s → EndsIn x t → is_ordered t ≡ true → IsListedOf es (rest_major s.dst_port) t k
+  rest_in None t f h e o = absurd h
+  rest_in (Some (socket.Raw x)) t f h e o = absurd h
+  rest_in (Some (socket.Icmp x)) t f h e o = absurd h
+  rest_in (Some (socket.Udp x)) t f h e o = absurd h
+  rest_in (Some (socket.Tcp x)) t f h e o = subst (λ p. IsListedOf es (rest_major p) t k) (sym h.served.port) (ending x.control_block.state (close_end x.control_block.timer) x.control_block.listen_endpoint.port t h.state e o (opened x.control_block.state (close_end x.control_block.timer) x.control_block.listen_endpoint.port (subst (λ p. 0 < p) h.served.port h.served.not_zero) (and_parts _ _ f).1))
 
   serving : (st : State) (end : Option Instant) (port : ℕ) → is_serving st ≡ true → is_under es k (opened_by st end port) ≡ true → has es (entry_at (server_key port) k) ≡ true
   serving state.Closed end port r f = absurd (no_truth r)
@@ -82,7 +82,7 @@ module _ (es : List Entry) (k : ℕ) (ip : IpRepr) (s : Segment) where
 module _ {G : Type 0} (ss : List (Slot G)) (es : List Entry) (ip : IpRepr) (s : Segment) (filed : (k : ℕ) → is_filed (λ s. keys_of s) es k (slice_get ss k) ≡ true) where
   listed : (Q : Instant → Slot G → Type 0) (k : ℕ) (u : Instant) (o : Option (Slot G)) → is_filed (λ s. keys_of s) es k o ≡ true → (IsListedOf es (rest_major s.dst_port) u k → IfSome o (λ x. RestsUntil ip s u x → Q u x)) → IfSome o (λ x. RestsUntil ip s u x → Q u x)
   listed Q k u None f h = tt
-  listed Q k u (Some x) f h = λ r. h (rest_in es k ip s x.socket u f r.rests r.ends) r
+  listed Q k u (Some x) f h = λ r. h (rest_in es k ip s x.socket u f r.rests r.ends r.ordered) r
 
   pub found_earliest : (r : Option (ℕ × Instant)) → FindsEarliestListed (λ t x. RestsUntil ip s t x) ss es (rest_major s.dst_port) r → FindsEarliest (λ t x. RestsUntil ip s t x) ss r
   found_earliest None h = λ k u. listed (λ u x. ⊥) k u (slice_get ss k) (filed k) (h k u)

@@ -34,9 +34,9 @@ FindsUnder es key start end (Some i) = IsNextUnder es key start end i
 
 -- ---- a walk through the entries of one major, by moments
 
--- moments within 2^61 microseconds of zero, in their order
+-- moments within 2^61 microseconds of zero, in their order, from 2^32 on
 abbrev pub order_of : Instant → ℕ
-order_of t = unsigned_abs (t.micros +ℤ pos 2305843009213693952)
+order_of t = unsigned_abs (t.micros +ℤ pos 2305843013508661248)
 
 abbrev pub is_ordered : Instant → Bool
 is_ordered t = int_le (negsuc 2305843009213693951) t.micros && int_le t.micros (pos 2305843009213693952)

@@ -1,5 +1,5 @@
 -- Under which keys the socket of a place is filed.
-use Rattle.std.specs.Prelude.{ℕ, ◌+◌, ◌*◌, nat_eq, false, Option, Some, None, if◌then◌else◌}
+use Rattle.std.specs.Prelude.{ℕ, ◌+◌, ◌*◌, nat_eq, min, false, Option, Some, None, if◌then◌else◌}
 use Rattle.std.specs.Int.{from_be_bytes, w32, w128}
 use Rattle.ip_wire.specs.declared.address.IpAddress.{IpAddress}
 use Rattle.ip_wire.specs.declared.address.IpAddress.TheVariants as address
@@ -21,10 +21,11 @@ use Rattle.net_host.specs.declared.slot.Slot.{Slot}
 
 -- ---- keys
 
--- an address as a number; one of IPv4 as if it were mapped (RFC 4291, section 2.5.5.2)
+-- An address as a number; one of IPv4 as if it were mapped (RFC 4291, section 2.5.5.2). The last one of IPv6, a
+-- multicast address, has the number of the one before it.
 unfoldable pub number_of : IpAddress → ℕ
 number_of (address.Ipv4 a) = from_be_bytes w32 a.0 + 281470681743360
-number_of (address.Ipv6 a) = from_be_bytes w128 a.0
+number_of (address.Ipv6 a) = min (from_be_bytes w128 a.0) 340282366920938463463374607431768211454
 
 abbrev pub connection_key : Tuple → Entry
 connection_key t = record {
@@ -33,12 +34,13 @@ connection_key t = record {
   place = 0;
 }
 
--- of a socket that listens on a port, of one that did, and of one in TIME-WAIT that did
+-- Of a socket that listens on a port, of one that did, and of one in TIME-WAIT that did. The second parts of the last
+-- two are from 2^32 on, and those of all other keys below.
 abbrev pub listener_key : ℕ → Entry
 listener_key port = record { major = 0; minor = port; place = 0 }
 
 abbrev pub server_key : ℕ → Entry
-server_key port = record { major = 65536; minor = port; place = 0 }
+server_key port = record { major = 65536; minor = port + 4294967296; place = 0 }
 
 -- of raw sockets, which is the least, and of ICMP sockets
 abbrev pub raw_key : Entry
@@ -54,18 +56,19 @@ udp_key port = record { major = 3; minor = port; place = 0 }
 abbrev pub rest_major : ℕ → ℕ
 rest_major port = port + 65536
 
+-- one whose TIME-WAIT ends at no moment that has a number never gives way
 abbrev pub rest_by : Option ℕ → ℕ → Key
 rest_by (Some n) port = key.Under (record { major = rest_major port; minor = n; place = 0 })
-rest_by None port = key.Unknown
+rest_by None port = key.Nothing
 
 -- ---- the keys of a TCP socket
 
 abbrev pub listener_by : Option Tuple → ℕ → Key
 listener_by None port = key.Under (listener_key port)
-listener_by (Some t) port = key.Unknown
+listener_by (Some t) port = key.Under (listener_key t.local.port)
 
 abbrev pub connection_by : Option Tuple → Key
-connection_by None = key.Unknown
+connection_by None = key.Nothing
 connection_by (Some t) = key.Under (connection_key t)
 
 abbrev pub first_by : State → Option Tuple → ℕ → Key

@@ -17,7 +17,6 @@ no_keys = record { first = key.Nothing; second = key.Nothing; free = true }
 
 abbrev pub is_under : List Entry → ℕ → Key → Bool
 is_under es k key.Nothing = true
-is_under es k key.Unknown = false
 is_under es k (key.Under e) = has es (entry_at e k)
 
 abbrev pub are_filed : List Entry → ℕ → Keys → Bool

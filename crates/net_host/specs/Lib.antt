@@ -1,6 +1,7 @@
 pub mod Aim
 pub mod Addresses
 pub mod Arrivals
+pub mod Asking
 pub mod Bindings
 pub mod Cookies
 pub mod Counts

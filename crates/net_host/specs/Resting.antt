@@ -18,6 +18,7 @@ use Rattle.sock_tcp.specs.declared.state.State.{State}
 use Rattle.sock_tcp.specs.declared.state.State.TheVariants as state
 use Rattle.smoltcp_socket.specs.declared.socket.Socket.{Socket}
 use Rattle.smoltcp_socket.specs.declared.socket.Socket.TheVariants as socket
+use Rattle.net_host.specs.Entries.{is_ordered}
 use Rattle.net_host.specs.declared.slot.Slot.{Slot}
 
 -- a SYN without an ACK
@@ -70,10 +71,11 @@ abbrev pub EndsIn : {G : Type 0} → Option (Socket G) → Instant → Type 0
 EndsIn (Some (socket.Tcp x)) t = close_end x.control_block.timer ≡ Some t
 EndsIn _ t = ⊥
 
--- its TIME-WAIT ends at t
+-- its TIME-WAIT ends at t, which is within 2^61 microseconds of zero
 pub record RestsUntil {G : Type 0} (ip : IpRepr) (s : Segment) (t : Instant) (slot : Slot G) : Type 0 where
   pub rests : Rests ip s slot
   pub ends : EndsIn slot.socket t
+  pub ordered : is_ordered t ≡ true
 
 -- P of this moment alone, or of none
 abbrev pub OnlyOf : (Instant → Type 0) → Option Instant → Type 0

@@ -13,6 +13,7 @@ use Rattle.sock_tcp.specs.Opening.{is_listening}
 use Rattle.sock_tcp.specs.Process.{Accepts, Processes, reply_of, source_kept}
 use Rattle.sock_tcp.specs.Replies.{IsReplyStamp, echoed, rst_segment, with_header}
 use Rattle.sock_tcp.specs.View.{View}
+use Rattle.sock_tcp.specs.declared.tuple.Tuple.{Tuple}
 use Rattle.smoltcp_socket.specs.declared.socket.Socket.{Socket}
 use Rattle.smoltcp_socket.specs.declared.socket.Socket.TheVariants as socket
 use Rattle.net_host.specs.Counts.{next}
@@ -27,7 +28,13 @@ use Rattle.net_host.specs.declared.slot.Slot.{Slot}
 
 -- ---- which socket
 
--- a TCP socket that listens, or not, and accepts the segment
+-- a connection has a peer
+abbrev pub has_peer_if : (listening : Bool) → Option Tuple → Bool
+has_peer_if true t = true
+has_peer_if false None = false
+has_peer_if false (Some t) = true
+
+-- a TCP socket that listens, or is a connection, and accepts the segment
 abbrev pub TakesIn : {G : Type 0} → Option (Socket G) → Bool → IpRepr → Segment → Type 0
 TakesIn None listening ip s = ⊥
 TakesIn (Some (socket.Raw x)) listening ip s = ⊥
@@ -35,6 +42,7 @@ TakesIn (Some (socket.Icmp x)) listening ip s = ⊥
 TakesIn (Some (socket.Udp x)) listening ip s = ⊥
 TakesIn (Some (socket.Tcp x)) listening ip s =
     (is_listening x.control_block.state ≡ listening) × Accepts x.control_block ip s
+    × (has_peer_if listening x.control_block.tuple ≡ true)
 
 abbrev pub TakesSegment : {G : Type 0} → Bool → IpRepr → Segment → Slot G → Type 0
 TakesSegment listening ip s slot = TakesIn slot.socket listening ip s

@@ -1,13 +1,13 @@
 //! Places that are filed in an index under their keys.
 ghost use Rattle.std.specs.Prelude.{ℕ, ℤ, Bool, ◌≡◌, ◌&&◌, ◌<◌, ◌≤◌, ◌/◌, IfSome, IsSome, length, get_or};
-ghost use Rattle.std.specs.Prelude.{slice_get, true};
+ghost use Rattle.std.specs.Prelude.{min, slice_get, true};
 ghost use Rattle.std.specs.Prelude.{None, false, slice_set};
 ghost use Rattle.std.specs.List.{All};
 ghost use Rattle.net_host.specs.Indexing.{AreFiledBefore, IsIndexed, IsLentAt, IsSettled, KeepsMarks, are_filed};
 ghost use Rattle.net_host.specs.Indexing.{is_filed, is_noted, is_noted_of, lent_of, no_keys};
 ghost use Rattle.host_index.specs.Entries.{IsFirst, KeepsElsewhere};
 ghost use Rattle.host_index.specs.Filing.{SameMemory, places_of};
-ghost use Rattle.net_host.specs.Refiling.{StaysWhole, can_file_at};
+ghost use Rattle.net_host.specs.Refiling.{IsWhole, StaysWhole, can_file};
 ghost use Rattle.host_bounds.specs.Bounding.{at_once, bound_at};
 ghost use Rattle.host_bounds.specs.Marking.{Clears, Sets};
 ghost use Rattle.net_host.specs.Sleeping.{AreAsleep};
@@ -31,7 +31,8 @@ pub trait Keyed {
 
     /// Under which keys it is filed.
     fn keys(&self) -> Keys
-        ensures { result ≡ keys_of self.now };
+        ensures keys { result ≡ keys_of self.now }
+        ensures can { can_file result ≡ true };
 
     // Whether something is there, which is filed at this place under its keys and no others. Where the answer is no, it
     // says nothing.
@@ -63,6 +64,8 @@ pub struct Filed<T: Keyed> {
     pub(crate) ended: Marks,
     pub ghost kept: { settled ≡ true → IsSettled T.keys_of complete slots.items index.entries free },
     pub ghost as_marked: { length ended ≡ length free },
+    // each of at most 2^30 places is found by its keys
+    pub ghost whole: { IsWhole complete (places_of index) (length slots.items) },
 }
 
 impl<T: Keyed> Filed<T> {
@@ -82,6 +85,7 @@ impl<T: Keyed> Filed<T> {
         requires as_many { length bounds ≡ length slots.items }
         requires marked { All (λ b. b ≡ at_once) bounds }
         requires as_marked { length ended ≡ length free }
+        requires places { places_of index ≡ min (length slots.items) 1073741824 }
         ensures slots { result.slots ≡ slots }
         ensures ended { result.ended ≡ ended }
         ensures index { result.index ≡ index }
@@ -107,7 +111,7 @@ impl<T: Keyed> Filed<T> {
     #[inline(always)]
     pub(crate) fn settle(&mut self)
         ensures slots { self.new.slots ≡ self.old.slots }
-        ensures whole { StaysWhole T.keys_of self.old.slots.items self.old.complete self.old.index self.new.complete
+        ensures whole { StaysWhole self.old.slots.items self.old.complete self.old.index self.new.complete
             self.new.index }
         ensures settled { IsSettled T.keys_of self.new.complete self.new.slots.items self.new.index.entries
             self.new.free }
@@ -123,7 +127,7 @@ impl<T: Keyed> Filed<T> {
     #[inline(never)]
     fn settle_lent(&mut self)
         ensures slots { self.new.slots ≡ self.old.slots }
-        ensures whole { StaysWhole T.keys_of self.old.slots.items self.old.complete self.old.index self.new.complete
+        ensures whole { StaysWhole self.old.slots.items self.old.complete self.old.index self.new.complete
             self.new.index }
         ensures settled { IsSettled T.keys_of self.new.complete self.new.slots.items self.new.index.entries
             self.new.free }
@@ -141,7 +145,7 @@ impl<T: Keyed> Filed<T> {
     /// Files the borrowed slot before slots under a key are looked for.
     pub(crate) fn settle_for(&mut self, key: Entry)
         ensures slots { self.new.slots ≡ self.old.slots }
-        ensures whole { StaysWhole T.keys_of self.old.slots.items self.old.complete self.old.index self.new.complete
+        ensures whole { StaysWhole self.old.slots.items self.old.complete self.old.index self.new.complete
             self.new.index }
         ensures settled { IsSettled T.keys_of self.new.complete self.new.slots.items self.new.index.entries
             self.new.free }
@@ -158,7 +162,7 @@ impl<T: Keyed> Filed<T> {
     #[tactic(auto, using(crate::proofs::Places::settled_before))]
     pub(crate) fn known_place(&mut self, key: Entry) -> Option<usize>
         ensures slots { self.new.slots ≡ self.old.slots }
-        ensures whole { StaysWhole T.keys_of self.old.slots.items self.old.complete self.old.index self.new.complete
+        ensures whole { StaysWhole self.old.slots.items self.old.complete self.old.index self.new.complete
             self.new.index }
         ensures terms { self.new.terms ≡ self.old.terms }
         ensures bounds { self.new.bounds ≡ self.old.bounds }
@@ -185,7 +189,7 @@ impl<T: Keyed> Filed<T> {
     #[inline(never)]
     fn file_anew(&mut self)
         ensures slots { self.new.slots ≡ self.old.slots }
-        ensures whole { StaysWhole T.keys_of self.old.slots.items self.old.complete self.old.index self.new.complete
+        ensures whole { StaysWhole self.old.slots.items self.old.complete self.old.index self.new.complete
             self.new.index }
         ensures settled { IsSettled T.keys_of self.new.complete self.new.slots.items self.new.index.entries
             self.new.free }
@@ -205,7 +209,7 @@ impl<T: Keyed> Filed<T> {
     #[inline(always)]
     pub fn lend(&mut self, place: usize)
         ensures slots { self.new.slots ≡ self.old.slots }
-        ensures whole { StaysWhole T.keys_of self.old.slots.items self.old.complete self.old.index self.new.complete
+        ensures whole { StaysWhole self.old.slots.items self.old.complete self.old.index self.new.complete
             self.new.index }
         ensures lent { IsLentAt place (slice_get self.new.slots.items place) self.new.lent }
         ensures marked { bound_at self.new.bounds place ≡ at_once }
@@ -233,7 +237,7 @@ impl<T: Keyed> Filed<T> {
 
     fn lend_anew(&mut self, place: usize)
         ensures slots { self.new.slots ≡ self.old.slots }
-        ensures whole { StaysWhole T.keys_of self.old.slots.items self.old.complete self.old.index self.new.complete
+        ensures whole { StaysWhole self.old.slots.items self.old.complete self.old.index self.new.complete
             self.new.index }
         ensures lent { IsLentAt place (slice_get self.new.slots.items place) self.new.lent }
         ensures terms { self.new.terms ≡ self.old.terms }
@@ -369,8 +373,7 @@ fn note(free: &mut Marks, place: usize, is: bool)
 fn refile_at<T: Keyed>(slots: &[T], index: &mut Index, free: &mut Marks, place: usize) -> bool
     requires { place / 64 < length free.old }
     ensures filed { result ≡ true → is_filed T.keys_of index.new.entries place (slice_get slots.now place) ≡ true }
-    ensures whole { length slots.now ≤ places_of index.old
-        → can_file_at T.keys_of (slice_get slots.now place) ≡ true → result ≡ true }
+    ensures whole { length slots.now ≤ places_of index.old → result ≡ true }
     ensures memory { SameMemory index.old index.new }
     ensures others { KeepsElsewhere place index.old.entries index.new.entries }
     ensures noted { is_noted_of T.keys_of free.new place (slice_get slots.now place) ≡ true }

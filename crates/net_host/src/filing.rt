@@ -1,12 +1,14 @@
 //! Under which keys the socket of a place is filed.
-ghost use Rattle.std.specs.Prelude.{◌≡◌, ◌+◌, ◌*◌, false, true};
-ghost use Rattle.net_host.specs.declared.key.Key.TheVariants.{Nothing};
-ghost use Rattle.net_host.specs.Entries.{ordered};
+ghost use Rattle.std.specs.Prelude.{◌≡◌, ◌≤◌, ◌+◌, ◌*◌, IfSome, true};
+ghost use Rattle.host_index.specs.Columns.{fits};
+ghost use Rattle.host_index.specs.declared.entry.Which.TheVariants.{First, Second};
+ghost use Rattle.net_host.specs.Entries.{is_ordered, ordered};
 ghost use Rattle.net_host.specs.Filing.{connection_by, first_by, icmp_key, keys_by, keys_of, listener_by, listener_key};
-ghost use Rattle.net_host.specs.Filing.{number_of, opened_by, raw_key, rest_by, rest_major, second_by, server_by};
+ghost use Rattle.net_host.specs.Filing.{number_of, one_key, opened_by, raw_key, rest_by, rest_major, second_by, server_by};
 ghost use Rattle.net_host.specs.Filing.{server_key, udp_key};
 ghost use Rattle.net_host.specs.Indexing.{are_filed, is_under, no_keys};
 ghost use Rattle.net_host.specs.Looking.{sleeps};
+ghost use Rattle.net_host.specs.Refiling.{IsHigh, can_file, fits_key};
 ghost use Rattle.sock_tcp.specs.Ends.{close_end};
 ghost use Rattle.sock_tcp.specs.declared.state.State.TheVariants.{TimeWait};
 
@@ -20,20 +22,29 @@ use smoltcp_socket::wire::IpAddress;
 use smoltcp_socket::{Socket, tcp};
 use sock_tcp::tuple::Tuple;
 
+// No address has a greater number.
+const LAST: u128 = u128::MAX - 1;
+
 // An address as a number.
 #[tactic(auto, unfolding(crate::specs::Filing::number_of))]
 pub(crate) fn number_of(addr: &IpAddress) -> u128
-    ensures { result ≡ number_of addr.now }
+    ensures value { result ≡ number_of addr.now }
+    ensures within { result ≤ 340282366920938463463374607431768211454 }
 {
     match addr {
         IpAddress::Ipv4(addr) => u128::from(u32::from_be_bytes(addr.0)) + 0xffff_0000_0000,
-        IpAddress::Ipv6(addr) => u128::from_be_bytes(addr.0),
+        IpAddress::Ipv6(addr) => u128::from_be_bytes(addr.0).min(LAST),
     }
 }
 
 /// The key of a connection.
 pub(crate) fn connection_key(remote: &IpAddress, local_port: u16, remote_port: u16) -> Entry
-    ensures { result ≡ record { major = number_of remote.now; minor = local_port * 65536 + remote_port; place = 0 } }
+    ensures value { result ≡ record {
+      major = number_of remote.now;
+      minor = local_port * 65536 + remote_port;
+      place = 0;
+    } }
+    ensures fits { fits First result ≡ true }
 {
     Entry {
         major: number_of(remote),
@@ -44,7 +55,8 @@ pub(crate) fn connection_key(remote: &IpAddress, local_port: u16, remote_port: u
 
 /// The key of the sockets that listen on a port.
 pub(crate) fn listener_key(port: u16) -> Entry
-    ensures { result ≡ listener_key port }
+    ensures value { result ≡ listener_key port }
+    ensures fits { fits First result ≡ true }
 {
     Entry {
         major: 0,
@@ -53,21 +65,27 @@ pub(crate) fn listener_key(port: u16) -> Entry
     }
 }
 
+// The second parts of second keys are from here on, and those of first keys below.
+const HIGH: u64 = 1 << 32;
+
 /// The key of the sockets that were opened on a port: its first part is that of those in TIME-WAIT on port 0, which
 /// there are none of.
 pub(crate) fn server_key(port: u16) -> Entry
-    ensures { result ≡ server_key port }
+    ensures value { result ≡ server_key port }
+    ensures fits { fits Second result ≡ true }
+    ensures high { 4294967296 ≤ result.minor }
 {
     Entry {
         major: 65536,
-        minor: u64::from(port),
+        minor: u64::from(port) + HIGH,
         place: 0,
     }
 }
 
 /// The key of the raw sockets: the least, so that whether there is one is seen at once.
 pub(crate) fn raw_key() -> Entry
-    ensures { result ≡ raw_key }
+    ensures value { result ≡ raw_key }
+    ensures fits { fits First result ≡ true }
 {
     Entry {
         major: 0,
@@ -78,7 +96,8 @@ pub(crate) fn raw_key() -> Entry
 
 /// The key of the ICMP sockets.
 pub(crate) fn icmp_key() -> Entry
-    ensures { result ≡ icmp_key }
+    ensures value { result ≡ icmp_key }
+    ensures fits { fits First result ≡ true }
 {
     Entry {
         major: 2,
@@ -89,7 +108,8 @@ pub(crate) fn icmp_key() -> Entry
 
 /// The key of the UDP sockets that are bound to a port.
 pub(crate) fn udp_key(port: u16) -> Entry
-    ensures { result ≡ udp_key port }
+    ensures value { result ≡ udp_key port }
+    ensures fits { fits First result ≡ true }
 {
     Entry {
         major: 3,
@@ -108,26 +128,51 @@ pub(crate) fn rest_major(port: u16) -> u128
 // No moment of a timer is further from zero, in microseconds.
 const FARTHEST: i64 = 1 << 61;
 
-/// The moment as a number of the same order, where it is within 2^61 microseconds of zero.
+// The number of moment 0: that of the first one is 2^32.
+const ZERO: i64 = (1 << 61) + (1 << 32);
+
+/// Whether a moment is within 2^61 microseconds of zero.
+pub(crate) fn is_ordered(moment: Instant) -> bool
+    ensures { result ≡ is_ordered moment }
+{
+    -FARTHEST <= moment.micros && moment.micros <= FARTHEST
+}
+
+/// The moment as a number of the same order, from 2^32 on, where it is within 2^61 microseconds of zero.
 pub(crate) fn order(moment: Instant) -> Option<u64>
-    ensures { result ≡ ordered moment }
+    ensures value { result ≡ ordered moment }
+    ensures within { IfSome result (λ n. n ≤ 4611686022722355200) }
+    ensures high { IfSome result (λ n. 4294967296 ≤ n) }
 {
     if moment.micros < -FARTHEST || FARTHEST < moment.micros {
         return None;
     }
-    Some((moment.micros + FARTHEST).unsigned_abs())
+    Some((moment.micros + ZERO).unsigned_abs())
+}
+
+// The key of one in TIME-WAIT.
+fn rest_key(minor: u64, port: u16) -> Entry
+    requires within { minor ≤ 4611686022722355200 }
+    ensures value { result ≡ record { major = rest_major port; minor = minor; place = 0 } }
+    ensures fits { fits Second result ≡ true }
+{
+    Entry {
+        major: rest_major(port),
+        minor,
+        place: 0,
+    }
 }
 
 fn rest_by(minor: Option<u64>, port: u16) -> Key
-    ensures { result ≡ rest_by minor port }
+    requires within { IfSome minor (λ n. n ≤ 4611686022722355200) }
+    requires high { IfSome minor (λ n. 4294967296 ≤ n) }
+    ensures value { result ≡ rest_by minor port }
+    ensures fits { fits_key Second result ≡ true }
+    ensures high { IsHigh result }
 {
     match minor {
-        Some(minor) => Key::Under(Entry {
-            major: rest_major(port),
-            minor,
-            place: 0,
-        }),
-        None => Key::Unknown,
+        Some(minor) => Key::Under(rest_key(minor, port)),
+        None => Key::Nothing,
     }
 }
 
@@ -141,19 +186,21 @@ fn tuple_of<G>(tcp: &tcp::Socket<'_, G>) -> Option<Tuple>
 }
 
 fn listener_by(tuple: &Option<Tuple>, port: u16) -> Key
-    ensures { result ≡ listener_by tuple.now port }
+    ensures value { result ≡ listener_by tuple.now port }
+    ensures fits { fits_key First result ≡ true }
 {
     match tuple {
         None => Key::Under(listener_key(port)),
-        Some(_) => Key::Unknown,
+        Some(tuple) => Key::Under(listener_key(tuple.local.port)),
     }
 }
 
 fn connection_by(tuple: &Option<Tuple>) -> Key
-    ensures { result ≡ connection_by tuple.now }
+    ensures value { result ≡ connection_by tuple.now }
+    ensures fits { fits_key First result ≡ true }
 {
     match tuple {
-        None => Key::Unknown,
+        None => Key::Nothing,
         Some(tuple) => Key::Under(connection_key(
             &tuple.remote.addr,
             tuple.local.port,
@@ -163,7 +210,8 @@ fn connection_by(tuple: &Option<Tuple>) -> Key
 }
 
 fn first_by(state: State, tuple: &Option<Tuple>, port: u16) -> Key
-    ensures { result ≡ first_by state tuple.now port }
+    ensures value { result ≡ first_by state tuple.now port }
+    ensures fits { fits_key First result ≡ true }
 {
     match state {
         State::Closed => Key::Nothing,
@@ -174,7 +222,9 @@ fn first_by(state: State, tuple: &Option<Tuple>, port: u16) -> Key
 
 // The second key of a socket that was opened on a port.
 fn opened_by(state: State, end: Option<Instant>, port: u16) -> Key
-    ensures { result ≡ opened_by state end port }
+    ensures value { result ≡ opened_by state end port }
+    ensures fits { fits_key Second result ≡ true }
+    ensures high { IsHigh result }
 {
     match (state, end) {
         (State::Closed | State::Listen, _) => Key::Nothing,
@@ -185,7 +235,9 @@ fn opened_by(state: State, end: Option<Instant>, port: u16) -> Key
 
 // No segment is for a listener on port 0, which is that of those that connected.
 fn second_by(state: State, end: Option<Instant>, port: u16) -> Key
-    ensures { result ≡ second_by state end port }
+    ensures value { result ≡ second_by state end port }
+    ensures fits { fits_key Second result ≡ true }
+    ensures high { IsHigh result }
 {
     if port == 0 {
         return Key::Nothing;
@@ -193,8 +245,10 @@ fn second_by(state: State, end: Option<Instant>, port: u16) -> Key
     opened_by(state, end, port)
 }
 
+#[tactic(auto, using(crate::proofs::Fileable::two_keys))]
 fn keys_by<G>(tcp: &tcp::Socket<'_, G>) -> Keys
-    ensures { result ≡ keys_by tcp.now.control_block }
+    ensures value { result ≡ keys_by tcp.now.control_block }
+    ensures can { can_file result ≡ true }
 {
     let state = tcp.state();
     let port = tcp.listen_endpoint().port;
@@ -205,18 +259,21 @@ fn keys_by<G>(tcp: &tcp::Socket<'_, G>) -> Keys
     }
 }
 
-fn one_key(first: Key) -> Keys
-    ensures { result ≡ record { first = first; second = Nothing; free = false } }
+fn one_key(first: Entry) -> Keys
+    requires { fits First first ≡ true }
+    ensures value { result ≡ one_key first }
+    ensures can { can_file result ≡ true }
 {
     Keys {
-        first,
+        first: Key::Under(first),
         second: Key::Nothing,
         free: false,
     }
 }
 
 fn no_keys() -> Keys
-    ensures { result ≡ no_keys }
+    ensures value { result ≡ no_keys }
+    ensures can { can_file result ≡ true }
 {
     Keys {
         first: Key::Nothing,
@@ -277,7 +334,6 @@ fn is_rest_filed<G>(tcp: &tcp::Socket<'_, G>, index: &Index, place: usize) -> bo
         tcp.listen_endpoint().port,
     ) {
         Key::Nothing => index.is_filed(Which::Second, place, None),
-        Key::Unknown => false,
         Key::Under(key) => index.is_filed(Which::Second, place, Some(&key)),
     }
 }
@@ -290,9 +346,9 @@ impl<'a, G> Keyed for Slot<'a, G> {
     fn keys(&self) -> Keys {
         match &self.socket {
             Some(Socket::Tcp(tcp)) => keys_by(tcp),
-            Some(Socket::Raw(_)) => one_key(Key::Under(raw_key())),
-            Some(Socket::Icmp(_)) => one_key(Key::Under(icmp_key())),
-            Some(Socket::Udp(udp)) => one_key(Key::Under(udp_key(udp.endpoint().port))),
+            Some(Socket::Raw(_)) => one_key(raw_key()),
+            Some(Socket::Icmp(_)) => one_key(icmp_key()),
+            Some(Socket::Udp(udp)) => one_key(udp_key(udp.endpoint().port)),
             None => no_keys(),
         }
     }

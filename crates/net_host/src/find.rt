@@ -1,14 +1,15 @@
 //! Walks through the places under a key.
-ghost use Rattle.std.specs.Prelude.{◌≡◌, ◌↔◌, IfSome, IsTrue, nat_lt, if◌then◌else◌, Some, None, true};
+ghost use Rattle.std.specs.Prelude.{◌≡◌, ◌↔◌, ◌≤◌, ◌+◌, IfSome, IsTrue, nat_lt, if◌then◌else◌, Some, None, true};
 ghost use Rattle.control_wire.specs.Segment.{segment_of};
 ghost use Rattle.host_index.specs.Entries.{IsSortedByRank, Splits, rank};
+ghost use Rattle.net_host.specs.Asking.{resting, under};
 ghost use Rattle.net_host.specs.Entries.{FindsEarliestListed, FindsListed, FindsUnder, IsFirstListed};
 ghost use Rattle.net_host.specs.Filing.{rest_major};
 ghost use Rattle.net_host.specs.Finding.{Fits, RestsAt, with_minor};
 ghost use Rattle.net_host.specs.Resting.{RestsUntil};
 ghost use Rattle.net_host.specs.Sides.{IsSide, IsSideOf};
-ghost use Rattle.net_host.specs.Walks.{IsAt};
 
+use crate::asked::Asked;
 use crate::filing::{order, rest_major};
 use crate::slot::Slot;
 use host_index::{Entry, Index};
@@ -79,23 +80,6 @@ impl<'a, G: TsvalSource> Slot<'a, G> {
     }
 }
 
-#[inline(always)]
-fn fits_at<C: Context, G: TsvalSource>(
-    slots: &[Slot<'_, G>],
-    place: usize,
-    cx: &C,
-    sought: Sought,
-    ip: &IpRepr,
-    repr: &TcpRepr<'_>,
-) -> bool
-    ensures { IsTrue result ↔ IsAt (Fits sought ip.now (segment_of repr.now)) slots.now place }
-{
-    match slots.get(place) {
-        Some(slot) => slot.fits(cx, sought, ip, repr),
-        None => false,
-    }
-}
-
 /// The first place under the key, where that is known and its socket fits.
 #[inline(always)]
 #[tactic(auto, using(crate::proofs::Runs::known_fits))]
@@ -107,14 +91,16 @@ pub(crate) fn known_in<C: Context, G: TsvalSource>(
     sought: Sought,
     ip: &IpRepr,
     repr: &TcpRepr<'_>,
+    asked: &mut Asked,
 ) -> Option<usize>
     requires { key.place ≡ 0 }
-    ensures { IfSome result
+    ensures first { IfSome result
         (λ i. IsFirstListed (Fits sought ip.now (segment_of repr.now)) slots.now index.now.entries key i) }
+    ensures asked { asked.new.count ≤ asked.old.count + 1 }
 {
     match index.known(key) {
         Some(place) => {
-            if fits_at(slots, place, cx, sought, ip, repr) {
+            if asked.fits_at(slots, place, cx, sought, ip, repr) {
                 Some(place)
             } else {
                 None
@@ -134,13 +120,25 @@ pub(crate) fn first_in<C: Context, G: TsvalSource>(
     sought: Sought,
     ip: &IpRepr,
     repr: &TcpRepr<'_>,
+    asked: &mut Asked,
 ) -> Option<usize>
     requires { key.place ≡ 0 }
-    ensures { FindsListed (Fits sought ip.now (segment_of repr.now)) slots.now index.now.entries key result }
+    ensures found { FindsListed (Fits sought ip.now (segment_of repr.now)) slots.now index.now.entries key result }
+    ensures asked { asked.new.count ≤ asked.old.count + (under index.now.entries key + 1) }
 {
-    match known_in(slots, index, key, cx, sought, ip, repr) {
+    match known_in(slots, index, key, cx, sought, ip, repr, asked) {
         Some(place) => Some(place),
-        None => first_from(slots, index, index.lower(key), key, cx, sought, ip, repr),
+        None => first_from(
+            slots,
+            index,
+            index.lower(key),
+            key,
+            cx,
+            sought,
+            ip,
+            repr,
+            asked,
+        ),
     }
 }
 
@@ -156,15 +154,17 @@ pub(crate) fn first_if_any<C: Context, G: TsvalSource>(
     sought: Sought,
     ip: &IpRepr,
     repr: &TcpRepr<'_>,
+    asked: &mut Asked,
 ) -> Option<usize>
     requires { key.place ≡ 0 }
-    ensures { FindsListed (Fits sought ip.now (segment_of repr.now)) slots.now index.now.entries key result }
+    ensures found { FindsListed (Fits sought ip.now (segment_of repr.now)) slots.now index.now.entries key result }
+    ensures asked { asked.new.count ≤ asked.old.count + (under index.now.entries key + 1) }
 {
     let _count = slots.len(); // for its bound
     if index.is_behind(key) {
         return None;
     }
-    first_in(slots, index, key, cx, sought, ip, repr)
+    first_in(slots, index, key, cx, sought, ip, repr, asked)
 }
 
 /// The first slot under a key that takes the segment, where the key was sought, and the first slot under it is not
@@ -178,11 +178,14 @@ pub(crate) fn first_sought<C: Context, G: TsvalSource>(
     sought: Sought,
     ip: &IpRepr,
     repr: &TcpRepr<'_>,
+    asked: &mut Asked,
 ) -> Option<usize>
     requires { key.place ≡ 0 }
-    ensures { FindsListed (Fits sought ip.now (segment_of repr.now)) slots.now index.now.entries key result }
+    ensures found { FindsListed (Fits sought ip.now (segment_of repr.now)) slots.now index.now.entries key result }
+    ensures asked { asked.new.count ≤ asked.old.count + under index.now.entries key }
 {
-    first_from(slots, index, index.lower(key), key, cx, sought, ip, repr)
+    let from = index.lower(key);
+    first_from(slots, index, from, key, cx, sought, ip, repr, asked)
 }
 
 // The first slot under the key that takes the segment, from where the entries under it begin.
@@ -196,11 +199,13 @@ fn first_from<C: Context, G: TsvalSource>(
     sought: Sought,
     ip: &IpRepr,
     repr: &TcpRepr<'_>,
+    asked: &mut Asked,
 ) -> Option<usize>
     requires key { key.place ≡ 0 }
     requires splits { Splits index.now.entries (rank key) from }
     requires sorted { IsSortedByRank index.now.entries }
-    ensures { FindsListed (Fits sought ip.now (segment_of repr.now)) slots.now index.now.entries key result }
+    ensures found { FindsListed (Fits sought ip.now (segment_of repr.now)) slots.now index.now.entries key result }
+    ensures asked { asked.new.count ≤ asked.old.count + under index.now.entries key }
 {
     let _count = slots.len(); // for its bound
     for p in from..index.len() {
@@ -208,7 +213,7 @@ fn first_from<C: Context, G: TsvalSource>(
         match stands(entry, key) {
             Side::Before => {}
             Side::Under => {
-                if fits_at(slots, entry.place, cx, sought, ip, repr) {
+                if asked.fits_at(slots, entry.place, cx, sought, ip, repr) {
                     return Some(entry.place);
                 }
             }
@@ -224,9 +229,11 @@ pub(crate) fn earliest_in<G: TsvalSource>(
     index: &Index,
     ip: &IpRepr,
     repr: &TcpRepr<'_>,
+    asked: &mut Asked,
 ) -> Option<(usize, Instant)>
-    ensures { FindsEarliestListed (λ t x. RestsUntil ip.now (segment_of repr.now) t x) slots.now
+    ensures found { FindsEarliestListed (λ t x. RestsUntil ip.now (segment_of repr.now) t x) slots.now
         index.now.entries (rest_major repr.now.dst_port) result }
+    ensures asked { asked.new.count ≤ asked.old.count + resting index.now.entries repr.now.dst_port }
 {
     let _count = slots.len(); // for its bound
     let major = rest_major(repr.dst_port);
@@ -235,12 +242,13 @@ pub(crate) fn earliest_in<G: TsvalSource>(
         minor: 0,
         place: 0,
     };
-    for p in index.lower(key)..index.len() {
+    let start = index.lower(key);
+    for p in start..index.len() {
         let entry = index.get(p);
         match stands_of(entry, major) {
             Side::Before => {}
             Side::Under => {
-                if let Some(until) = rests_at(slots, entry, ip, repr) {
+                if let Some(until) = rests_at(slots, entry, ip, repr, asked) {
                     return Some((entry.place, until));
                 }
             }
@@ -256,12 +264,14 @@ fn rests_at<G: TsvalSource>(
     entry: Entry,
     ip: &IpRepr,
     repr: &TcpRepr<'_>,
+    asked: &mut Asked,
 ) -> Option<Instant>
-    ensures { RestsAt ip.now (segment_of repr.now) slots.now entry result }
+    ensures rests { RestsAt ip.now (segment_of repr.now) slots.now entry result }
+    ensures asked { asked.new.count ≤ asked.old.count + 1 }
 {
     match slots.get(entry.place) {
         None => None,
-        Some(slot) => match slot.rests_until(ip, repr) {
+        Some(slot) => match asked.rests_until(slot, ip, repr) {
             None => None,
             Some(until) => has_minor(order(until), entry.minor, until),
         },

@@ -1,9 +1,10 @@
 //! A segment arrives at a set of sockets.
-ghost use Rattle.std.specs.Prelude.{◌≡◌, ◌<◌, ◌≤◌, IfSome, length, [], option_map, slice_get, true, false};
+ghost use Rattle.std.specs.Prelude.{◌≡◌, ◌<◌, ◌≤◌, ◌+◌, ◌*◌, IfSome, length, [], option_map, slice_get, true, false};
 ghost use Rattle.std.specs.Option.{ForSome};
 ghost use Rattle.control_wire.specs.Fits.{FitsPacket};
 ghost use Rattle.control_wire.specs.Segment.{segment_of};
 ghost use Rattle.sock_tcp.specs.Process.{reply_of};
+ghost use Rattle.net_host.specs.Asking.{can_take};
 ghost use Rattle.net_host.specs.Cookies.{AnswersSegment, BelievedBy, HearsBoth, HearsIf, HearsSyn, IsAgain, OpensOn};
 ghost use Rattle.net_host.specs.Cookies.{TakenOn, class_if, course_among, syn_before};
 ghost use Rattle.net_host.specs.Crowding.{IsLimited, dropped_if};
@@ -14,6 +15,7 @@ ghost use Rattle.net_host.specs.Segments.{IsTaker, TakesSegment, as_is};
 ghost use Rattle.net_host.specs.Touching.{Touches};
 
 use crate::answered::hear_out_there;
+use crate::asked::Asked;
 use crate::cookies::{Course, Told, answer_at, class_if, course_of, opening_of, syn_before};
 use crate::crowding::{dropped_if, is_limited};
 use crate::filing::connection_key;
@@ -46,13 +48,16 @@ fn who_again<C: Context, G: TsvalSource>(
     class: Option<u8>,
     ip: &IpRepr,
     repr: &TcpRepr<'_>,
+    asked: &mut Asked,
 ) -> Taker
     requires { IsSettled (λ s. keys_of s) sockets.now.complete sockets.now.slots.items sockets.now.index.entries
         sockets.now.free }
-    ensures { IsAgain class sockets.now.slots.items ip.now (segment_of repr.now) result }
+    ensures again { IsAgain class sockets.now.slots.items ip.now (segment_of repr.now) result }
+    ensures asked { sockets.now.complete ≡ true → asked.new.count
+        ≤ asked.old.count + (can_take sockets.now.index.entries ip.now (segment_of repr.now) + 3) }
 {
     match class {
-        Some(class) => who_opens(sockets, cx, class, ip, repr),
+        Some(class) => who_opens(sockets, cx, class, ip, repr, asked),
         None => Taker::Nobody,
     }
 }
@@ -66,13 +71,16 @@ fn who_opens<C: Context, G: TsvalSource>(
     class: u8,
     ip: &IpRepr,
     repr: &TcpRepr<'_>,
+    asked: &mut Asked,
 ) -> Taker
     requires { IsSettled (λ s. keys_of s) sockets.now.complete sockets.now.slots.items sockets.now.index.entries
         sockets.now.free }
-    ensures { IsTaker sockets.now.slots.items ip.now (syn_before (segment_of repr.now) class) result }
+    ensures taker { IsTaker sockets.now.slots.items ip.now (syn_before (segment_of repr.now) class) result }
+    ensures asked { sockets.now.complete ≡ true → asked.new.count
+        ≤ asked.old.count + (can_take sockets.now.index.entries ip.now (segment_of repr.now) + 3) }
 {
     let syn = syn_before(repr, class);
-    who_takes(sockets, cx, ip, &syn)
+    who_takes(sockets, cx, ip, &syn, asked)
 }
 
 // The socket at this place hears the SYN, and draws this number. Its SYN|ACK has gone out: that it has told its window,
@@ -293,7 +301,8 @@ fn take_heard<C: Context, G: TsvalSource>(
     }
 }
 
-// Who takes the segment, and what becomes of it.
+// Who takes the segment, and what becomes of it. Asked are at most the sockets that can take it or the SYN before it,
+// and six.
 fn heard_by<C: Context, G: TsvalSource>(
     sockets: &SocketSet<'_, G>,
     cx: &C,
@@ -301,6 +310,7 @@ fn heard_by<C: Context, G: TsvalSource>(
     most: usize,
     ip: &IpRepr,
     repr: &TcpRepr<'_>,
+    asked: &mut Asked,
 ) -> Heard
     requires { IsSettled (λ s. keys_of s) sockets.now.complete sockets.now.slots.items sockets.now.index.entries
         sockets.now.free }
@@ -312,10 +322,12 @@ fn heard_by<C: Context, G: TsvalSource>(
     ensures taker { IsTaker sockets.now.slots.items ip.now (segment_of repr.now) result.taker }
     ensures again { IsAgain (class_if cookies.now result.taker (C.facts cx.now).now (segment_of repr.now))
         sockets.now.slots.items ip.now (segment_of repr.now) result.again }
+    ensures asked { length sockets.now.slots.items ≤ 1073741824 → asked.new.count
+        ≤ asked.old.count + 2 * (can_take sockets.now.index.entries ip.now (segment_of repr.now) + 3) }
 {
-    let taker = who_takes(sockets, cx, ip, repr);
+    let taker = who_takes(sockets, cx, ip, repr, asked);
     let class = class_if(cookies, taker, cx, repr);
-    let again = who_again(sockets, cx, class, ip, repr);
+    let again = who_again(sockets, cx, class, ip, repr, asked);
     let own = own_of(&sockets.slots, taker);
     let course = course_of(cookies, own, taker, again, cx, ip, repr);
     let dropped = is_limited(sockets, most, taker, course, ip, repr);
@@ -388,7 +400,8 @@ pub(crate) fn hear_sought<C: Context, G: TsvalSource>(
     let caps = cx.checksum_caps();
     let now = cx.now();
     sockets.settle_for(connection_key(&ip.src_addr(), repr.dst_port, repr.src_port));
-    let heard = heard_by(sockets, cx, cookies, most, ip, repr);
+    let mut asked = Asked::none();
+    let heard = heard_by(sockets, cx, cookies, most, ip, repr, &mut asked);
     let mut reply = None;
     take_heard(sockets, cx, &heard, ip, repr, &mut reply);
     keep_within(limit, now, ip, &mut reply);

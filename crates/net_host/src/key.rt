@@ -6,8 +6,6 @@ use host_index::Entry;
 pub enum Key {
     /// It takes no segment.
     Nothing,
-    /// Its state is none that a TCP socket comes into: it may take any.
-    Unknown,
     /// This key, whose place is 0.
     Under(Entry),
 }

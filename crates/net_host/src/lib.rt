@@ -5,6 +5,7 @@ pub mod addresses;
 pub mod aims;
 pub mod answered;
 pub mod arrival;
+pub mod asked;
 pub mod binding;
 pub mod cidr;
 pub mod cookies;

@@ -29,7 +29,6 @@ fn has_key(index: &Index, which: Which, place: usize, key: &Key) -> bool
 {
     match key {
         Key::Nothing => index.is_filed(which, place, None),
-        Key::Unknown => false,
         Key::Under(key) => index.is_filed(which, place, Some(key)),
     }
 }
@@ -62,7 +61,7 @@ fn file(index: &mut Index, which: Which, place: usize, key: &Key) -> bool
         return true;
     }
     match key {
-        Key::Nothing | Key::Unknown => false,
+        Key::Nothing => false,
         Key::Under(key) => index.add(which, entry_at(key, place)),
     }
 }

@@ -1,15 +1,18 @@
 //! Connections in TIME-WAIT that give way to a SYN, and sockets that serve a port.
-ghost use Rattle.std.specs.Prelude.{◌≡◌, ◌↔◌, IsTrue};
+ghost use Rattle.std.specs.Prelude.{◌≡◌, ◌↔◌, ◌≤◌, ◌+◌, IsTrue, Some, true};
+ghost use Rattle.net_host.specs.Asking.{resting, under};
+ghost use Rattle.net_host.specs.Entries.{is_ordered};
 ghost use Rattle.control_wire.specs.Segment.{segment_of};
 ghost use Rattle.sock_tcp.specs.Process.{IsToListener};
-ghost use Rattle.net_host.specs.Filing.{keys_of};
+ghost use Rattle.net_host.specs.Filing.{keys_of, server_key};
 ghost use Rattle.net_host.specs.Indexing.{IsSettled};
 ghost use Rattle.net_host.specs.Resting.{FindsOldest, OnlyOf, Reopens, RestsFor, RestsUntil, Serves, earlier_of};
 ghost use Rattle.net_host.specs.Resting.{is_above, is_opening};
 ghost use Rattle.net_host.specs.Resting.{is_serving};
 ghost use Rattle.net_host.specs.Walks.{Finds};
 
-use crate::filing::server_key;
+use crate::asked::Asked;
+use crate::filing::{is_ordered, server_key};
 use crate::find::{Sought, earliest_in, first_in};
 use crate::set::SocketSet;
 use crate::slot::Slot;
@@ -56,6 +59,16 @@ fn rests_for<G>(tcp: &tcp::Socket<'_, G>, ip: &IpRepr, repr: &TcpRepr<'_>) -> bo
         && is_to_listener(&tcp.listen_endpoint(), ip, repr)
 }
 
+// The moment, where it is within 2^61 microseconds of zero.
+fn if_ordered(end: Option<Instant>) -> Option<Instant>
+    ensures { OnlyOf (λ t. (end ≡ Some t) × (is_ordered t ≡ true)) result }
+{
+    match end {
+        Some(end) if is_ordered(end) => Some(end),
+        _ => None,
+    }
+}
+
 fn is_serving(state: State) -> bool
     ensures { result ≡ is_serving state }
 {
@@ -84,7 +97,7 @@ impl<'a, G: TsvalSource> Slot<'a, G> {
         match &self.socket {
             Some(Socket::Tcp(tcp)) => {
                 if rests_for(tcp, ip, repr) {
-                    tcp.time_wait_end()
+                    if_ordered(tcp.time_wait_end())
                 } else {
                     None
                 }
@@ -110,13 +123,16 @@ pub(crate) fn oldest<G: TsvalSource>(
     sockets: &SocketSet<'_, G>,
     ip: &IpRepr,
     repr: &TcpRepr<'_>,
+    asked: &mut Asked,
 ) -> Option<(usize, Instant)>
     requires { IsSettled (λ s. keys_of s) sockets.now.complete sockets.now.slots.items sockets.now.index.entries
         sockets.now.free }
-    ensures { FindsOldest ip.now (segment_of repr.now) sockets.now.slots.items result }
+    ensures oldest { FindsOldest ip.now (segment_of repr.now) sockets.now.slots.items result }
+    ensures asked { sockets.now.complete ≡ true
+        → asked.new.count ≤ asked.old.count + resting sockets.now.index.entries repr.now.dst_port }
 {
     if sockets.complete {
-        earliest_in(&sockets.slots, &sockets.index, ip, repr)
+        earliest_in(&sockets.slots, &sockets.index, ip, repr, asked)
     } else {
         walk_for_oldest(&sockets.slots, ip, repr)
     }
@@ -156,10 +172,13 @@ pub(crate) fn any_server<C: Context, G: TsvalSource>(
     cx: &C,
     ip: &IpRepr,
     repr: &TcpRepr<'_>,
+    asked: &mut Asked,
 ) -> Option<usize>
     requires { IsSettled (λ s. keys_of s) sockets.now.complete sockets.now.slots.items sockets.now.index.entries
         sockets.now.free }
-    ensures { Finds (Serves ip.now (segment_of repr.now)) sockets.now.slots.items result }
+    ensures first { Finds (Serves ip.now (segment_of repr.now)) sockets.now.slots.items result }
+    ensures asked { sockets.now.complete ≡ true → asked.new.count
+        ≤ asked.old.count + (under sockets.now.index.entries (server_key repr.now.dst_port) + 1) }
 {
     if sockets.complete {
         let key = server_key(repr.dst_port);
@@ -171,6 +190,7 @@ pub(crate) fn any_server<C: Context, G: TsvalSource>(
             Sought::Server,
             ip,
             repr,
+            asked,
         )
     } else {
         walk_for_server(&sockets.slots, ip, repr)

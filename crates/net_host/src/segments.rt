@@ -1,10 +1,11 @@
 //! Which socket takes a TCP segment, and what becomes of it.
-ghost use Rattle.std.specs.Prelude.{◌≡◌, ◌↔◌, ◌<◌, ◌≤◌, IsTrue, IfSome, length, [], option_map, slice_get, true, false};
+ghost use Rattle.std.specs.Prelude.{◌≡◌, ◌↔◌, ◌<◌, ◌≤◌, ◌+◌, IsTrue, IfSome, length, [], option_map, slice_get, true, false};
 ghost use Rattle.std.specs.Option.{ForSome};
 ghost use Rattle.control_wire.specs.Fits.{FitsPacket};
 ghost use Rattle.control_wire.specs.Segment.{segment_of};
 ghost use Rattle.sock_core.specs.Bounds.{IsMoment};
 ghost use Rattle.sock_tcp.specs.Process.{Opens, reply_of};
+ghost use Rattle.net_host.specs.Asking.{can_open, can_renew, can_take, taker_key, under};
 ghost use Rattle.net_host.specs.Filing.{keys_of};
 ghost use Rattle.net_host.specs.Indexing.{IsSettled};
 ghost use Rattle.net_host.specs.Resting.{Reopens, Rests, anew, is_opening};
@@ -13,6 +14,7 @@ ghost use Rattle.net_host.specs.Segments.{TakesSegment, as_is, is_rst, opened_by
 ghost use Rattle.net_host.specs.Touching.{Touches};
 ghost use Rattle.net_host.specs.Walks.{Finds, IsAt, Nowhere};
 
+use crate::asked::Asked;
 use crate::filing::{connection_key, listener_key, number_of};
 use crate::find::{Sought, first_if_any, first_sought};
 use crate::limit::Limit;
@@ -53,7 +55,9 @@ impl<'a, G: TsvalSource> Slot<'a, G> {
     {
         match &self.socket {
             Some(Socket::Tcp(tcp)) => {
-                tcp.is_listening() == listening && tcp.accepts(cx, ip, repr)
+                tcp.is_listening() == listening
+                    && tcp.accepts(cx, ip, repr)
+                    && (listening || tcp.remote_endpoint().is_some())
             }
             _ => false,
         }
@@ -126,13 +130,16 @@ pub(crate) fn first_taker<C: Context, G: TsvalSource>(
     listening: bool,
     ip: &IpRepr,
     repr: &TcpRepr<'_>,
+    asked: &mut Asked,
 ) -> Option<usize>
     requires { IsSettled (λ s. keys_of s) sockets.now.complete sockets.now.slots.items sockets.now.index.entries
         sockets.now.free }
-    ensures { Finds (TakesSegment listening ip.now (segment_of repr.now)) sockets.now.slots.items result }
+    ensures first { Finds (TakesSegment listening ip.now (segment_of repr.now)) sockets.now.slots.items result }
+    ensures asked { sockets.now.complete ≡ true → asked.new.count
+        ≤ asked.old.count + (under sockets.now.index.entries (taker_key listening ip.now (segment_of repr.now)) + 1) }
 {
     if sockets.complete {
-        found_taker(sockets, cx, listening, ip, repr)
+        found_taker(sockets, cx, listening, ip, repr, asked)
     } else {
         walk_for_taker(&sockets.slots, cx, listening, ip, repr)
     }
@@ -146,11 +153,14 @@ fn found_taker<C: Context, G: TsvalSource>(
     listening: bool,
     ip: &IpRepr,
     repr: &TcpRepr<'_>,
+    asked: &mut Asked,
 ) -> Option<usize>
     requires settled { IsSettled (λ s. keys_of s) sockets.now.complete sockets.now.slots.items sockets.now.index.entries
         sockets.now.free }
     requires complete { sockets.now.complete ≡ true }
-    ensures { Finds (TakesSegment listening ip.now (segment_of repr.now)) sockets.now.slots.items result }
+    ensures first { Finds (TakesSegment listening ip.now (segment_of repr.now)) sockets.now.slots.items result }
+    ensures asked { asked.new.count
+        ≤ asked.old.count + (under sockets.now.index.entries (taker_key listening ip.now (segment_of repr.now)) + 1) }
 {
     if listening {
         let key = listener_key(repr.dst_port);
@@ -162,6 +172,7 @@ fn found_taker<C: Context, G: TsvalSource>(
             Sought::Listener,
             ip,
             repr,
+            asked,
         )
     } else {
         let key = connection_key(&ip.src_addr(), repr.dst_port, repr.src_port);
@@ -173,6 +184,7 @@ fn found_taker<C: Context, G: TsvalSource>(
             Sought::Connection,
             ip,
             repr,
+            asked,
         )
     }
 }
@@ -200,12 +212,15 @@ pub(crate) fn who_takes<C: Context, G: TsvalSource>(
     cx: &C,
     ip: &IpRepr,
     repr: &TcpRepr<'_>,
+    asked: &mut Asked,
 ) -> Taker
     requires { IsSettled (λ s. keys_of s) sockets.now.complete sockets.now.slots.items sockets.now.index.entries
         sockets.now.free }
-    ensures { IsTaker sockets.now.slots.items ip.now (segment_of repr.now) result }
+    ensures taker { IsTaker sockets.now.slots.items ip.now (segment_of repr.now) result }
+    ensures asked { sockets.now.complete ≡ true → asked.new.count
+        ≤ asked.old.count + (can_take sockets.now.index.entries ip.now (segment_of repr.now) + 3) }
 {
-    match first_taker(sockets, cx, false, ip, repr) {
+    match first_taker(sockets, cx, false, ip, repr, asked) {
         Some(i) => {
             if sockets.slots[i].reopens(ip, repr) {
                 Taker::Reopened(i)
@@ -213,7 +228,7 @@ pub(crate) fn who_takes<C: Context, G: TsvalSource>(
                 Taker::Connection(i)
             }
         }
-        None => listener(sockets, cx, ip, repr),
+        None => listener(sockets, cx, ip, repr, asked),
     }
 }
 
@@ -271,20 +286,23 @@ fn listener<C: Context, G: TsvalSource>(
     cx: &C,
     ip: &IpRepr,
     repr: &TcpRepr<'_>,
+    asked: &mut Asked,
 ) -> Taker
     requires settled { IsSettled (λ s. keys_of s) sockets.now.complete sockets.now.slots.items sockets.now.index.entries
         sockets.now.free }
     requires none { Nowhere (TakesSegment false ip.now (segment_of repr.now)) sockets.now.slots.items }
-    ensures { IsTaker sockets.now.slots.items ip.now (segment_of repr.now) result }
+    ensures taker { IsTaker sockets.now.slots.items ip.now (segment_of repr.now) result }
+    ensures asked { sockets.now.complete ≡ true → asked.new.count
+        ≤ asked.old.count + (can_open sockets.now.index.entries repr.now.dst_port + 2) }
 {
     if !may_open(repr) {
         return Taker::Nobody;
     }
-    match first_taker(sockets, cx, true, ip, repr) {
+    match first_taker(sockets, cx, true, ip, repr, asked) {
         Some(i) => Taker::Listener(i),
         None => {
             if opens(repr) {
-                rested(sockets, cx, ip, repr)
+                rested(sockets, cx, ip, repr, asked)
             } else {
                 Taker::Nobody
             }
@@ -298,16 +316,19 @@ fn rested<C: Context, G: TsvalSource>(
     cx: &C,
     ip: &IpRepr,
     repr: &TcpRepr<'_>,
+    asked: &mut Asked,
 ) -> Taker
     requires settled { IsSettled (λ s. keys_of s) sockets.now.complete sockets.now.slots.items sockets.now.index.entries
         sockets.now.free }
     requires none { NoneTakes sockets.now.slots.items ip.now (segment_of repr.now) }
     requires opening { is_opening (segment_of repr.now) ≡ true }
-    ensures { IsTaker sockets.now.slots.items ip.now (segment_of repr.now) result }
+    ensures taker { IsTaker sockets.now.slots.items ip.now (segment_of repr.now) result }
+    ensures asked { sockets.now.complete ≡ true → asked.new.count
+        ≤ asked.old.count + (can_renew sockets.now.index.entries repr.now.dst_port + 1) }
 {
-    match oldest(sockets, ip, repr) {
+    match oldest(sockets, ip, repr, asked) {
         Some((i, _)) => Taker::Reused(i),
-        None => match any_server(sockets, cx, ip, repr) {
+        None => match any_server(sockets, cx, ip, repr, asked) {
             Some(_) => Taker::Busy,
             None => Taker::Nobody,
         },

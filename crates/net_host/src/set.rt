@@ -1,5 +1,5 @@
 //! A set of sockets of all kinds.
-ghost use Rattle.std.specs.Prelude.{◌≡◌, ◌<◌, ◌↔◌, IfOk, IfErr, OnErr, IfSome, IfNone, IsTrue, length, nat_eq, false};
+ghost use Rattle.std.specs.Prelude.{◌≡◌, ◌<◌, ◌≤◌, ◌↔◌, IfOk, IfErr, OnErr, IfSome, IfNone, IsTrue, length, nat_eq, false};
 ghost use Rattle.std.specs.Prelude.{min, option_map, slice_set, Some, None, true};
 ghost use Rattle.host_index.specs.Filing.{places_of};
 ghost use Rattle.std.specs.Fn.{FnOnceReturnsAtMut};
@@ -46,6 +46,15 @@ impl<'a, G: TsvalSource> Filed<Slot<'a, G>> {
         ended.clear();
         let bounds = Bounds::new(alloc, capacity)?;
         Ok(Filed::of_free(slots, index, free, ended, bounds))
+    }
+
+    /// Whether the socket of a segment is found by an index of addresses and ports, so that no packet costs a walk
+    /// through the set: always in a set of at most 2^30 sockets.
+    pub fn is_indexed(&self) -> bool
+        ensures value { result ≡ self.now.complete }
+        ensures always { length self.now.slots.items ≤ 1073741824 → result ≡ true }
+    {
+        self.complete
     }
 
     /// How many sockets it has room for.

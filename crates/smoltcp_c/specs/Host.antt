@@ -10,7 +10,9 @@ use Rattle.host_groups.specs.Joining.{no_groups}
 use Rattle.host_groups.specs.declared.joining.MulticastError.{MulticastError}
 use Rattle.host_groups.specs.declared.joining.MulticastError.TheVariants as group
 use Rattle.net_host.specs.Addresses.{source_of}
+use Rattle.net_host.specs.Counts.{no_counts}
 use Rattle.net_host.specs.Guards.{usual}
+use Rattle.net_host.specs.Limits.{full_limit}
 use Rattle.net_host.specs.Slots.{IsFree}
 use Rattle.net_host.specs.declared.cidr.IpCidr.{IpCidr}
 use Rattle.net_host.specs.declared.counters.Counters as counted
@@ -115,6 +117,12 @@ pub record IsMade (n : ℕ) (cs : List Cidr) (key : Key) (w : Host) : Type 0 whe
   pub guards : w.interface.guards ≡ usual
   pub cookies : w.interface.cookies ≡ None
   pub groups : w.interface.groups ≡ no_groups
+  pub turn : w.interface.turn ≡ 0
+  pub resets : w.interface.resets ≡ full_limit
+  pub errors : w.interface.errors ≡ full_limit
+  pub counters : w.interface.counters ≡ no_counts
+  pub most : w.interface.most_of_source ≡ 0
+  pub complete : w.sockets.complete ≡ true
 
 -- it has no socket
 abbrev pub HasNone : Host → Type 0

@@ -1,7 +1,9 @@
-use Rattle.std.proofs.Common.{◌∙◌, sym, refl}
+use Rattle.std.proofs.Common.{◌∙◌, sym, refl, subst}
 use Rattle.net_host.specs.Filing.{keys_of}
 use Rattle.net_host.specs.Looking.{sleeps}
 use Rattle.net_host.specs.Messages.{mail_of}
+use Rattle.host_index.specs.Filing.{places_of}
+use Rattle.net_host.specs.Refiling.{IsWhole}
 use Rattle.net_host.proofs.Sleepers.{each_len}
 use Rattle.net_host.proofs.KeptKeys.{mails_keep}
 use Rattle.net_host.proofs.Places.{all_filed, unsettled}
@@ -18,4 +20,5 @@ invariant_of-sockets g c = record {
   as_many = c.copy_to.ensures.len ∙ c.settle.new.self.as_many ∙ sym (each_len _ c.settle.new.self.slots.items c.copy_to.new.slots.items c.copy_to.ensures.copied);
   kept = unsettled refl;
   as_marked = c.settle.new.self.as_marked;
+  whole = subst (λ n. IsWhole c.settle.new.self.complete (places_of c.settle.new.self.index) n) (sym (each_len _ c.settle.new.self.slots.items c.copy_to.new.slots.items c.copy_to.ensures.copied)) c.settle.new.self.whole;
 }

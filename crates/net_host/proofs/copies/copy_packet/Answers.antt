@@ -3,6 +3,8 @@ use Rattle.net_host.specs.Looking.{sleeps}
 use Rattle.net_host.specs.RawCopies.{CopiesPacket}
 use Rattle.net_host.specs.Walks.{ChangesEach}
 use Rattle.net_host.specs.Filing.{keys_of}
+use Rattle.host_index.specs.Filing.{places_of}
+use Rattle.net_host.specs.Refiling.{IsWhole}
 use Rattle.net_host.proofs.Sleepers.{each_len}
 use Rattle.net_host.proofs.KeptKeys.{copies_keep, none_copied}
 use Rattle.net_host.proofs.Places.{all_filed, unsettled}
@@ -22,4 +24,5 @@ invariant_of-sockets g c = record {
   as_many = c.copy_packet_to.ensures.len ∙ c.settle.new.self.as_many ∙ sym (each_len _ c.settle.new.self.slots.items c.copy_packet_to.new.slots.items c.copy_packet_to.ensures.copied);
   kept = unsettled refl;
   as_marked = c.settle.new.self.as_marked;
+  whole = subst (λ n. IsWhole c.settle.new.self.complete (places_of c.settle.new.self.index) n) (sym (each_len _ c.settle.new.self.slots.items c.copy_packet_to.new.slots.items c.copy_packet_to.ensures.copied)) c.settle.new.self.whole;
 }

@@ -1,6 +1,8 @@
 use Rattle.std.proofs.Common.{◌∙◌, sym, refl, subst, ap}
 use Rattle.net_host.specs.Looking.{sleeps}
 use Rattle.net_host.specs.Touching.{Touches}
+use Rattle.host_index.specs.Filing.{places_of}
+use Rattle.net_host.specs.Refiling.{IsWhole}
 use Rattle.net_host.proofs.KeptKeys.{heard_keeps}
 use Rattle.net_host.proofs.Heard.{heard_len, heard_touches}
 use Rattle.net_host.proofs.Places.{unsettled}
@@ -14,6 +16,7 @@ invariant_of-sockets g c = record {
   as_many = c.touch_found.ensures.len ∙ c.settle.new.self.as_many ∙ sym (heard_len c.datagram_taker-found.result c.args.ip.now c.args.repr.now c.args.payload.now c.hear_found-room.result c.settle.new.self.slots.items c.hear_found-room.new.slots.items c.hear_found-room.ensures);
   kept = unsettled refl;
   as_marked = c.settle.new.self.as_marked;
+  whole = subst (λ n. IsWhole c.settle.new.self.complete (places_of c.settle.new.self.index) n) (sym (heard_len c.datagram_taker-found.result c.args.ip.now c.args.repr.now c.args.payload.now c.hear_found-room.result c.settle.new.self.slots.items c.hear_found-room.new.slots.items c.hear_found-room.ensures)) c.settle.new.self.whole;
 }
 
 pub returns-clause-touched : goal.returns-clause-touched

@@ -4,6 +4,8 @@ use Rattle.std.specs.Prelude.{slice_get}
 use Rattle.host_bounds.specs.Bounding.{at_once, bound_at}
 use Rattle.net_host.specs.Looking.{sleeps}
 use Rattle.net_host.specs.Sleeping.{AreAsleep}
+use Rattle.host_index.specs.Filing.{places_of}
+use Rattle.net_host.specs.Refiling.{IsWhole}
 use Rattle.net_host.proofs.Sleepers.{changed_len, marked_changes, marked_set, marked_there}
 use Rattle.net_host.proofs.KeptKeys.{ends_not, watch_keeps}
 use Rattle.net_host.proofs.Places.{unsettled}
@@ -17,4 +19,5 @@ invariant_of-sockets g c = record {
   as_many = ap length c.put_at_once.ensures ∙ length-set c.args.sockets.now.bounds c.args.i at_once ∙ c.args.sockets.now.as_many ∙ sym (changed_len _ c.args.sockets.now.slots.items c.keep_there.new.slots.items c.args.i c.keep_there.ensures);
   kept = unsettled refl;
   as_marked = c.args.sockets.now.as_marked;
+  whole = subst (λ n. IsWhole c.args.sockets.now.complete (places_of c.args.sockets.now.index) n) (sym (changed_len _ c.args.sockets.now.slots.items c.keep_there.new.slots.items c.args.i c.keep_there.ensures)) c.args.sockets.now.whole;
 }

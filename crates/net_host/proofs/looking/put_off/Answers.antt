@@ -19,4 +19,5 @@ invariant_of-sockets g c =
       as_many = ap length c.set.ensures ∙ length-set c.args.sockets.now.bounds c.args.i (to_z w64 (of_z w64 c.bound_of.result)) ∙ c.args.sockets.now.as_many;
       kept = c.args.sockets.now.kept;
       as_marked = c.args.sockets.now.as_marked;
+      whole = c.args.sockets.now.whole;
     }

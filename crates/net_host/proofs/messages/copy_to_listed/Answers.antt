@@ -19,7 +19,7 @@ copy_at-requires g c = omega (arith, c.loop-i.invariant.reached.len, c.in-Some.e
 
 pub loop-i-preserved : goal.loop-i-preserved
 loop-i-preserved g c =
-    let next : IsNextUnder c.args.index.now.entries icmp_key c.loop-i.from c.len-end.result c.in-Some.i = subst (λ key. IsNextUnder c.args.index.now.entries key c.loop-i.from c.len-end.result c.in-Some.i) c.icmp_key-key.ensures c.in-Some.ensures in
+    let next : IsNextUnder c.args.index.now.entries icmp_key c.loop-i.from c.len-end.result c.in-Some.i = subst (λ key. IsNextUnder c.args.index.now.entries key c.loop-i.from c.len-end.result c.in-Some.i) c.icmp_key-key.ensures.value c.in-Some.ensures in
     record {
       reached = goes_on (λ b a. Copies (g.C.Context.facts c.args.cx.now) (mail_of c.args.mail.now) b a) c.args.slots.now.items c.loop-i.from c.loop-i.slots.items c.loop-i.invariant.reached c.in-Some.i c.copy_at.new.slots.items next.behind
           (λ k h l. icmp_idle c.args.slots.now.items c.args.index.now.entries c.requires (g.C.Context.facts c.args.cx.now) (mail_of c.args.mail.now) k (next.before k h l))
@@ -30,6 +30,6 @@ loop-i-preserved g c =
 
 pub returns-clause-copied : goal.returns-clause-copied
 returns-clause-copied g c =
-    let none : FindsUnder c.args.index.now.entries icmp_key c.loop-i.from c.len-end.result None = subst (λ key. FindsUnder c.args.index.now.entries key c.loop-i.from c.len-end.result None) c.icmp_key-key.ensures c.in_default.ensures in
+    let none : FindsUnder c.args.index.now.entries icmp_key c.loop-i.from c.len-end.result None = subst (λ key. FindsUnder c.args.index.now.entries key c.loop-i.from c.len-end.result None) c.icmp_key-key.ensures.value c.in_default.ensures in
     ends (λ b a. Copies (g.C.Context.facts c.args.cx.now) (mail_of c.args.mail.now) b a) c.args.slots.now.items c.loop-i.from c.loop-i.slots.items c.loop-i.invariant.reached
     (λ k h l. icmp_idle c.args.slots.now.items c.args.index.now.entries c.requires (g.C.Context.facts c.args.cx.now) (mail_of c.args.mail.now) k (none k h (omega (arith, l))))

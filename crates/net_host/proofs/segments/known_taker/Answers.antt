@@ -13,7 +13,7 @@ use Rattle.net_host.proofs.segments.known_taker.Goals as goal
 
 pub returns-in-Some-clause-taker : goal.returns-in-Some-clause-taker
 returns-in-Some-clause-taker g c =
-    let key : c.connection_key-key.result ≡ key_of_segment c.args.ip.now (segment_of c.args.repr.now) = c.connection_key-key.ensures ∙ ap (λ a. record { major = number_of a; minor = c.args.repr.now.dst_port * 65536 + c.args.repr.now.src_port; place = 0 }) c.src_addr.ensures in
+    let key : c.connection_key-key.result ≡ key_of_segment c.args.ip.now (segment_of c.args.repr.now) = c.connection_key-key.ensures.value ∙ ap (λ a. record { major = number_of a; minor = c.args.repr.now.dst_port * 65536 + c.args.repr.now.src_port; place = 0 }) c.src_addr.ensures in
     subst (λ v. IsTaker v.items c.args.ip.now (segment_of c.args.repr.now) (taker.Connection c.in-Some.i)) c.known_place.ensures.slots (
       known_connection c.known_place.new.self.slots.items c.known_place.new.self.index.entries c.args.ip.now (segment_of c.args.repr.now) c.in-Some.i
           (c.in-Some.ensures.filed c.if-sockets.true)

@@ -265,14 +265,6 @@ impl Index {
             && !is_less(entry, self.get(place))
     }
 
-    /// Removes an entry, where it is there.
-    pub fn remove(&mut self, entry: Entry) {
-        let place = lower(&self.columns, &self.order, entry);
-        if place < self.order.len() && is_entry(self.get(place), entry) {
-            self.take_out(place);
-        }
-    }
-
     fn take_out(&mut self, place: usize) {
         let number = self.order.remove(place);
         self.sought = least_key();

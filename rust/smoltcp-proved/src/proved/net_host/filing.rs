@@ -11,11 +11,14 @@ use crate::sockets::time::Instant;
 use crate::sockets::wire::IpAddress;
 use crate::sockets::{Socket, tcp};
 
+// No address has a greater number.
+const LAST: u128 = u128::MAX - 1;
+
 // An address as a number.
 pub(crate) fn number_of(addr: &IpAddress) -> u128 {
     match addr {
         IpAddress::Ipv4(addr) => u128::from(u32::from_be_bytes(addr.octets())) + 0xffff_0000_0000,
-        IpAddress::Ipv6(addr) => u128::from_be_bytes(addr.octets()),
+        IpAddress::Ipv6(addr) => u128::from_be_bytes(addr.octets()).min(LAST),
     }
 }
 
@@ -33,10 +36,13 @@ pub(crate) fn listener_key(port: u16) -> Entry {
     Entry { major: 0, minor: u64::from(port), place: 0 }
 }
 
+// The second parts of second keys are from here on, and those of first keys below.
+const HIGH: u64 = 1 << 32;
+
 /// The key of the sockets that were opened on a port: its first part is that of those in TIME-WAIT on port 0, which
 /// there are none of.
 pub(crate) fn server_key(port: u16) -> Entry {
-    Entry { major: 65536, minor: u64::from(port), place: 0 }
+    Entry { major: 65536, minor: u64::from(port) + HIGH, place: 0 }
 }
 
 /// The key of the raw sockets: the least, so that whether there is one is seen at once.
@@ -62,18 +68,31 @@ pub(crate) fn rest_major(port: u16) -> u128 {
 // No moment of a timer is further from zero, in microseconds.
 const FARTHEST: i64 = 1 << 61;
 
-/// The moment as a number of the same order, where it is within 2^61 microseconds of zero.
+// The number of moment 0: that of the first one is 2^32.
+const ZERO: i64 = (1 << 61) + (1 << 32);
+
+/// Whether a moment is within 2^61 microseconds of zero.
+pub(crate) fn is_ordered(moment: Instant) -> bool {
+    -FARTHEST <= moment.micros && moment.micros <= FARTHEST
+}
+
+/// The moment as a number of the same order, from 2^32 on, where it is within 2^61 microseconds of zero.
 pub(crate) fn order(moment: Instant) -> Option<u64> {
     if moment.micros < -FARTHEST || FARTHEST < moment.micros {
         return None;
     }
-    Some((moment.micros + FARTHEST).unsigned_abs())
+    Some((moment.micros + ZERO).unsigned_abs())
+}
+
+// The key of one in TIME-WAIT.
+fn rest_key(minor: u64, port: u16) -> Entry {
+    Entry { major: rest_major(port), minor, place: 0 }
 }
 
 fn rest_by(minor: Option<u64>, port: u16) -> Key {
     match minor {
-        Some(minor) => Key::Under(Entry { major: rest_major(port), minor, place: 0 }),
-        None => Key::Unknown,
+        Some(minor) => Key::Under(rest_key(minor, port)),
+        None => Key::Nothing,
     }
 }
 
@@ -87,13 +106,13 @@ fn tuple_of<G>(tcp: &tcp::Socket<'_, G>) -> Option<Tuple> {
 fn listener_by(tuple: &Option<Tuple>, port: u16) -> Key {
     match tuple {
         None => Key::Under(listener_key(port)),
-        Some(_) => Key::Unknown,
+        Some(tuple) => Key::Under(listener_key(tuple.local.port)),
     }
 }
 
 fn connection_by(tuple: &Option<Tuple>) -> Key {
     match tuple {
-        None => Key::Unknown,
+        None => Key::Nothing,
         Some(tuple) => Key::Under(connection_key(&tuple.remote.addr, tuple.local.port, tuple.remote.port)),
     }
 }
@@ -133,8 +152,8 @@ fn keys_by<G>(tcp: &tcp::Socket<'_, G>) -> Keys {
     }
 }
 
-fn one_key(first: Key) -> Keys {
-    Keys { first, second: Key::Nothing, free: false }
+fn one_key(first: Entry) -> Keys {
+    Keys { first: Key::Under(first), second: Key::Nothing, free: false }
 }
 
 fn no_keys() -> Keys {
@@ -179,7 +198,6 @@ fn is_port_filed<G>(tcp: &tcp::Socket<'_, G>, index: &Index, place: usize) -> bo
 fn is_rest_filed<G>(tcp: &tcp::Socket<'_, G>, index: &Index, place: usize) -> bool {
     match second_by(State::TimeWait, tcp.time_wait_end(), tcp.listen_endpoint().port) {
         Key::Nothing => index.is_filed(Which::Second, place, None),
-        Key::Unknown => false,
         Key::Under(key) => index.is_filed(Which::Second, place, Some(&key)),
     }
 }
@@ -188,9 +206,9 @@ impl<'a, G> Keyed for Slot<'a, G> {
     fn keys(&self) -> Keys {
         match &self.socket {
             Some(Socket::Tcp(tcp)) => keys_by(tcp),
-            Some(Socket::Raw(_)) => one_key(Key::Under(raw_key())),
-            Some(Socket::Icmp(_)) => one_key(Key::Under(icmp_key())),
-            Some(Socket::Udp(udp)) => one_key(Key::Under(udp_key(udp.endpoint().port))),
+            Some(Socket::Raw(_)) => one_key(raw_key()),
+            Some(Socket::Icmp(_)) => one_key(icmp_key()),
+            Some(Socket::Udp(udp)) => one_key(udp_key(udp.endpoint().port)),
             None => no_keys(),
         }
     }

@@ -2,6 +2,7 @@
 //! Walks through the places under a key.
 
 use crate::proved::host_index::{Entry, Index};
+use crate::proved::net_host::asked::Asked;
 use crate::proved::net_host::filing::{order, rest_major};
 use crate::proved::net_host::slot::Slot;
 use crate::sockets::Context;
@@ -58,21 +59,6 @@ impl<'a, G: TsvalSource> Slot<'a, G> {
     }
 }
 
-#[inline(always)]
-fn fits_at<C: Context, G: TsvalSource>(
-    slots: &[Slot<'_, G>],
-    place: usize,
-    cx: &C,
-    sought: Sought,
-    ip: &IpRepr,
-    repr: &TcpRepr<'_>,
-) -> bool {
-    match slots.get(place) {
-        Some(slot) => slot.fits(cx, sought, ip, repr),
-        None => false,
-    }
-}
-
 /// The first place under the key, where that is known and its socket fits.
 #[inline(always)]
 pub(crate) fn known_in<C: Context, G: TsvalSource>(
@@ -83,10 +69,11 @@ pub(crate) fn known_in<C: Context, G: TsvalSource>(
     sought: Sought,
     ip: &IpRepr,
     repr: &TcpRepr<'_>,
+    asked: &mut Asked,
 ) -> Option<usize> {
     match index.known(key) {
         Some(place) => {
-            if fits_at(slots, place, cx, sought, ip, repr) {
+            if asked.fits_at(slots, place, cx, sought, ip, repr) {
                 Some(place)
             } else {
                 None
@@ -106,10 +93,11 @@ pub(crate) fn first_in<C: Context, G: TsvalSource>(
     sought: Sought,
     ip: &IpRepr,
     repr: &TcpRepr<'_>,
+    asked: &mut Asked,
 ) -> Option<usize> {
-    match known_in(slots, index, key, cx, sought, ip, repr) {
+    match known_in(slots, index, key, cx, sought, ip, repr, asked) {
         Some(place) => Some(place),
-        None => first_from(slots, index, index.lower(key), key, cx, sought, ip, repr),
+        None => first_from(slots, index, index.lower(key), key, cx, sought, ip, repr, asked),
     }
 }
 
@@ -124,12 +112,13 @@ pub(crate) fn first_if_any<C: Context, G: TsvalSource>(
     sought: Sought,
     ip: &IpRepr,
     repr: &TcpRepr<'_>,
+    asked: &mut Asked,
 ) -> Option<usize> {
     let _count = slots.len(); // for its bound
     if index.is_behind(key) {
         return None;
     }
-    first_in(slots, index, key, cx, sought, ip, repr)
+    first_in(slots, index, key, cx, sought, ip, repr, asked)
 }
 
 /// The first slot under a key that takes the segment, where the key was sought, and the first slot under it is not
@@ -143,8 +132,10 @@ pub(crate) fn first_sought<C: Context, G: TsvalSource>(
     sought: Sought,
     ip: &IpRepr,
     repr: &TcpRepr<'_>,
+    asked: &mut Asked,
 ) -> Option<usize> {
-    first_from(slots, index, index.lower(key), key, cx, sought, ip, repr)
+    let from = index.lower(key);
+    first_from(slots, index, from, key, cx, sought, ip, repr, asked)
 }
 
 // The first slot under the key that takes the segment, from where the entries under it begin.
@@ -158,6 +149,7 @@ fn first_from<C: Context, G: TsvalSource>(
     sought: Sought,
     ip: &IpRepr,
     repr: &TcpRepr<'_>,
+    asked: &mut Asked,
 ) -> Option<usize> {
     let _count = slots.len(); // for its bound
     for p in from..index.len() {
@@ -165,7 +157,7 @@ fn first_from<C: Context, G: TsvalSource>(
         match stands(entry, key) {
             Side::Before => {}
             Side::Under => {
-                if fits_at(slots, entry.place, cx, sought, ip, repr) {
+                if asked.fits_at(slots, entry.place, cx, sought, ip, repr) {
                     return Some(entry.place);
                 }
             }
@@ -181,16 +173,18 @@ pub(crate) fn earliest_in<G: TsvalSource>(
     index: &Index,
     ip: &IpRepr,
     repr: &TcpRepr<'_>,
+    asked: &mut Asked,
 ) -> Option<(usize, Instant)> {
     let _count = slots.len(); // for its bound
     let major = rest_major(repr.dst_port);
     let key = Entry { major, minor: 0, place: 0 };
-    for p in index.lower(key)..index.len() {
+    let start = index.lower(key);
+    for p in start..index.len() {
         let entry = index.get(p);
         match stands_of(entry, major) {
             Side::Before => {}
             Side::Under => {
-                if let Some(until) = rests_at(slots, entry, ip, repr) {
+                if let Some(until) = rests_at(slots, entry, ip, repr, asked) {
                     return Some((entry.place, until));
                 }
             }
@@ -206,10 +200,11 @@ fn rests_at<G: TsvalSource>(
     entry: Entry,
     ip: &IpRepr,
     repr: &TcpRepr<'_>,
+    asked: &mut Asked,
 ) -> Option<Instant> {
     match slots.get(entry.place) {
         None => None,
-        Some(slot) => match slot.rests_until(ip, repr) {
+        Some(slot) => match asked.rests_until(slot, ip, repr) {
             None => None,
             Some(until) => has_minor(order(until), entry.minor, until),
         },

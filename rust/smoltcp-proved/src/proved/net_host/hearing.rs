@@ -3,6 +3,7 @@
 
 use crate::proved::host_cookies::SynCookies;
 use crate::proved::net_host::answered::hear_out_there;
+use crate::proved::net_host::asked::Asked;
 use crate::proved::net_host::cookies::{
     Course, Told, answer_at, class_if, course_of, opening_of, syn_before,
 };
@@ -36,9 +37,10 @@ fn who_again<C: Context, G: TsvalSource>(
     class: Option<u8>,
     ip: &IpRepr,
     repr: &TcpRepr<'_>,
+    asked: &mut Asked,
 ) -> Taker {
     match class {
-        Some(class) => who_opens(sockets, cx, class, ip, repr),
+        Some(class) => who_opens(sockets, cx, class, ip, repr, asked),
         None => Taker::Nobody,
     }
 }
@@ -52,9 +54,10 @@ fn who_opens<C: Context, G: TsvalSource>(
     class: u8,
     ip: &IpRepr,
     repr: &TcpRepr<'_>,
+    asked: &mut Asked,
 ) -> Taker {
     let syn = syn_before(repr, class);
-    who_takes(sockets, cx, ip, &syn)
+    who_takes(sockets, cx, ip, &syn, asked)
 }
 
 // The socket at this place hears the SYN, and draws this number. Its SYN|ACK has gone out: that it has told its window,
@@ -187,7 +190,8 @@ fn take_heard<C: Context, G: TsvalSource>(
     }
 }
 
-// Who takes the segment, and what becomes of it.
+// Who takes the segment, and what becomes of it. Asked are at most the sockets that can take it or the SYN before it,
+// and six.
 fn heard_by<C: Context, G: TsvalSource>(
     sockets: &SocketSet<'_, G>,
     cx: &C,
@@ -195,10 +199,11 @@ fn heard_by<C: Context, G: TsvalSource>(
     most: usize,
     ip: &IpRepr,
     repr: &TcpRepr<'_>,
+    asked: &mut Asked,
 ) -> Heard {
-    let taker = who_takes(sockets, cx, ip, repr);
+    let taker = who_takes(sockets, cx, ip, repr, asked);
     let class = class_if(cookies, taker, cx, repr);
-    let again = who_again(sockets, cx, class, ip, repr);
+    let again = who_again(sockets, cx, class, ip, repr, asked);
     let own = own_of(&sockets.slots, taker);
     let course = course_of(cookies, own, taker, again, cx, ip, repr);
     let dropped = is_limited(sockets, most, taker, course, ip, repr);
@@ -236,7 +241,8 @@ pub(crate) fn hear_sought<C: Context, G: TsvalSource>(
     let caps = cx.checksum_caps();
     let now = cx.now();
     sockets.settle_for(connection_key(&ip.src_addr(), repr.dst_port, repr.src_port));
-    let heard = heard_by(sockets, cx, cookies, most, ip, repr);
+    let mut asked = Asked::none();
+    let heard = heard_by(sockets, cx, cookies, most, ip, repr, &mut asked);
     let mut reply = None;
     take_heard(sockets, cx, &heard, ip, repr, &mut reply);
     keep_within(limit, now, ip, &mut reply);

@@ -2,7 +2,8 @@
 //! Connections in TIME-WAIT that give way to a SYN, and sockets that serve a port.
 
 use crate::proved::control_wire::TcpSeqNumber;
-use crate::proved::net_host::filing::server_key;
+use crate::proved::net_host::asked::Asked;
+use crate::proved::net_host::filing::{is_ordered, server_key};
 use crate::proved::net_host::find::{Sought, earliest_in, first_in};
 use crate::proved::net_host::set::SocketSet;
 use crate::proved::net_host::slot::Slot;
@@ -38,6 +39,14 @@ fn rests_for<G>(tcp: &tcp::Socket<'_, G>, ip: &IpRepr, repr: &TcpRepr<'_>) -> bo
     tcp.state() == State::TimeWait && !tcp.can_recv() && is_to_listener(&tcp.listen_endpoint(), ip, repr)
 }
 
+// The moment, where it is within 2^61 microseconds of zero.
+fn if_ordered(end: Option<Instant>) -> Option<Instant> {
+    match end {
+        Some(end) if is_ordered(end) => Some(end),
+        _ => None,
+    }
+}
+
 fn is_serving(state: State) -> bool {
     !matches!(state, State::Closed | State::Listen | State::TimeWait)
 }
@@ -58,7 +67,7 @@ impl<'a, G: TsvalSource> Slot<'a, G> {
         match &self.socket {
             Some(Socket::Tcp(tcp)) => {
                 if rests_for(tcp, ip, repr) {
-                    tcp.time_wait_end()
+                    if_ordered(tcp.time_wait_end())
                 } else {
                     None
                 }
@@ -82,9 +91,10 @@ pub(crate) fn oldest<G: TsvalSource>(
     sockets: &SocketSet<'_, G>,
     ip: &IpRepr,
     repr: &TcpRepr<'_>,
+    asked: &mut Asked,
 ) -> Option<(usize, Instant)> {
     if sockets.complete {
-        earliest_in(&sockets.slots, &sockets.index, ip, repr)
+        earliest_in(&sockets.slots, &sockets.index, ip, repr, asked)
     } else {
         walk_for_oldest(&sockets.slots, ip, repr)
     }
@@ -116,10 +126,11 @@ pub(crate) fn any_server<C: Context, G: TsvalSource>(
     cx: &C,
     ip: &IpRepr,
     repr: &TcpRepr<'_>,
+    asked: &mut Asked,
 ) -> Option<usize> {
     if sockets.complete {
         let key = server_key(repr.dst_port);
-        first_in(&sockets.slots, &sockets.index, key, cx, Sought::Server, ip, repr)
+        first_in(&sockets.slots, &sockets.index, key, cx, Sought::Server, ip, repr, asked)
     } else {
         walk_for_server(&sockets.slots, ip, repr)
     }

@@ -2,6 +2,7 @@
 //! Which socket takes a TCP segment, and what becomes of it.
 
 use crate::kit::Vec;
+use crate::proved::net_host::asked::Asked;
 use crate::proved::net_host::filing::{connection_key, listener_key, number_of};
 use crate::proved::net_host::find::{Sought, first_if_any, first_sought};
 use crate::proved::net_host::limit::Limit;
@@ -39,7 +40,11 @@ impl<'a, G: TsvalSource> Slot<'a, G> {
         repr: &TcpRepr<'_>,
     ) -> bool {
         match &self.socket {
-            Some(Socket::Tcp(tcp)) => tcp.is_listening() == listening && tcp.accepts(cx, ip, repr),
+            Some(Socket::Tcp(tcp)) => {
+                tcp.is_listening() == listening
+                    && tcp.accepts(cx, ip, repr)
+                    && (listening || tcp.remote_endpoint().is_some())
+            }
             _ => false,
         }
     }
@@ -95,9 +100,10 @@ pub(crate) fn first_taker<C: Context, G: TsvalSource>(
     listening: bool,
     ip: &IpRepr,
     repr: &TcpRepr<'_>,
+    asked: &mut Asked,
 ) -> Option<usize> {
     if sockets.complete {
-        found_taker(sockets, cx, listening, ip, repr)
+        found_taker(sockets, cx, listening, ip, repr, asked)
     } else {
         walk_for_taker(&sockets.slots, cx, listening, ip, repr)
     }
@@ -111,13 +117,14 @@ fn found_taker<C: Context, G: TsvalSource>(
     listening: bool,
     ip: &IpRepr,
     repr: &TcpRepr<'_>,
+    asked: &mut Asked,
 ) -> Option<usize> {
     if listening {
         let key = listener_key(repr.dst_port);
-        first_if_any(&sockets.slots, &sockets.index, key, cx, Sought::Listener, ip, repr)
+        first_if_any(&sockets.slots, &sockets.index, key, cx, Sought::Listener, ip, repr, asked)
     } else {
         let key = connection_key(&ip.src_addr(), repr.dst_port, repr.src_port);
-        first_sought(&sockets.slots, &sockets.index, key, cx, Sought::Connection, ip, repr)
+        first_sought(&sockets.slots, &sockets.index, key, cx, Sought::Connection, ip, repr, asked)
     }
 }
 
@@ -142,8 +149,9 @@ pub(crate) fn who_takes<C: Context, G: TsvalSource>(
     cx: &C,
     ip: &IpRepr,
     repr: &TcpRepr<'_>,
+    asked: &mut Asked,
 ) -> Taker {
-    match first_taker(sockets, cx, false, ip, repr) {
+    match first_taker(sockets, cx, false, ip, repr, asked) {
         Some(i) => {
             if sockets.slots[i].reopens(ip, repr) {
                 Taker::Reopened(i)
@@ -151,7 +159,7 @@ pub(crate) fn who_takes<C: Context, G: TsvalSource>(
                 Taker::Connection(i)
             }
         }
-        None => listener(sockets, cx, ip, repr),
+        None => listener(sockets, cx, ip, repr, asked),
     }
 }
 
@@ -197,15 +205,16 @@ fn listener<C: Context, G: TsvalSource>(
     cx: &C,
     ip: &IpRepr,
     repr: &TcpRepr<'_>,
+    asked: &mut Asked,
 ) -> Taker {
     if !may_open(repr) {
         return Taker::Nobody;
     }
-    match first_taker(sockets, cx, true, ip, repr) {
+    match first_taker(sockets, cx, true, ip, repr, asked) {
         Some(i) => Taker::Listener(i),
         None => {
             if opens(repr) {
-                rested(sockets, cx, ip, repr)
+                rested(sockets, cx, ip, repr, asked)
             } else {
                 Taker::Nobody
             }
@@ -219,10 +228,11 @@ fn rested<C: Context, G: TsvalSource>(
     cx: &C,
     ip: &IpRepr,
     repr: &TcpRepr<'_>,
+    asked: &mut Asked,
 ) -> Taker {
-    match oldest(sockets, ip, repr) {
+    match oldest(sockets, ip, repr, asked) {
         Some((i, _)) => Taker::Reused(i),
-        None => match any_server(sockets, cx, ip, repr) {
+        None => match any_server(sockets, cx, ip, repr, asked) {
             Some(_) => Taker::Busy,
             None => Taker::Nobody,
         },

@@ -34,6 +34,12 @@ impl<'a, G: TsvalSource> Filed<Slot<'a, G>> {
         Ok(Filed::of_free(slots, index, free, ended, bounds))
     }
 
+    /// Whether the socket of a segment is found by an index of addresses and ports, so that no packet costs a walk
+    /// through the set: always in a set of at most 2^30 sockets.
+    pub fn is_indexed(&self) -> bool {
+        self.complete
+    }
+
     /// How many sockets it has room for.
     pub fn capacity(&self) -> usize {
         self.slots.len()

@@ -12,6 +12,7 @@ invariant_of-self g c = record {
   as_many = c.settle.new.self.as_many;
   kept = unsettled refl;
   as_marked = c.settle.new.self.as_marked;
+  whole = c.settle.new.self.whole;
 }
 
 pub returns-clause-lent : goal.returns-clause-lent

@@ -12,6 +12,7 @@ invariant_of-self g c = record {
   as_many = ap length c.put_at_once.ensures ∙ length-set c.args.self.now.bounds c.args.place at_once ∙ c.args.self.now.as_many;
   kept = c.args.self.now.kept;
   as_marked = c.args.self.now.as_marked;
+  whole = c.args.self.now.whole;
 }
 
 pub returns-clause-marked : goal.returns-clause-marked

@@ -1,6 +1,8 @@
 use Rattle.net_host.specs.Looking.{sleeps}
+use Rattle.host_index.specs.Filing.{places_of}
+use Rattle.net_host.specs.Refiling.{IsWhole}
 use Rattle.net_host.proofs.Sleepers.{changed_len, marked_changes}
-use Rattle.std.proofs.Common.{◌∙◌, sym}
+use Rattle.std.proofs.Common.{◌∙◌, sym, subst}
 use Rattle.net_host.specs.Filing.{keys_of}
 use Rattle.net_host.proofs.Places.{lent_changed, unsettled}
 use Rattle.net_host.proofs.set.Filed+Slot+G.add.Goals as goal
@@ -12,4 +14,5 @@ invariant_of-self g c = record {
   as_many = c.lend_out.new.self.as_many ∙ sym (changed_len _ c.lend_out.new.self.slots.items c.fill.new.slots.items c.in-Some.index c.fill.ensures.filled);
   kept = unsettled c.lend_out.ensures.unsettled;
   as_marked = c.lend_out.new.self.as_marked;
+  whole = subst (λ n. IsWhole c.lend_out.new.self.complete (places_of c.lend_out.new.self.index) n) (sym (changed_len _ c.lend_out.new.self.slots.items c.fill.new.slots.items c.in-Some.index c.fill.ensures.filled)) c.lend_out.new.self.whole;
 }

@@ -1,4 +1,5 @@
 use Rattle.std.proofs.Common.{◌≡◌, ◌∙◌, ◌/◌, ◌<◌, length, rules, sym, subst, ap, arith}
+use Rattle.std.specs.Prelude.{min}
 use Rattle.std.specs.List.{All}
 use Rattle.std.proofs.lemmas.List.Elements.{All-push, All-weaker}
 use Rattle.host_index.specs.Filing.{places_of}
@@ -24,6 +25,9 @@ of_free-requires-clause-noted g c = λ k within.
 
 pub of_free-requires-clause-as_marked : goal.of_free-requires-clause-as_marked
 of_free-requires-clause-as_marked g c = c.clear.ensures.len ∙ c.in_ok-ended.ensures.len ∙ sym c.in_ok-free.ensures.len
+
+pub of_free-requires-clause-places : goal.of_free-requires-clause-places
+of_free-requires-clause-places g c = c.in_ok-index.ensures.places ∙ ap (λ n. min n 1073741824) (sym c.loop.invariant.count)
 
 pub returns-clause-free : goal.returns-clause-free
 returns-clause-free g c = subst (λ v. All (λ s. IsFirstFree s) v.items) (sym c.of_free.ensures.slots) c.loop.invariant.free

@@ -1,6 +1,8 @@
 use Rattle.net_host.specs.Looking.{sleeps}
+use Rattle.host_index.specs.Filing.{places_of}
+use Rattle.net_host.specs.Refiling.{IsWhole}
 use Rattle.net_host.proofs.Sleepers.{changed_len_if, marked_changes_if}
-use Rattle.std.proofs.Common.{◌∙◌, sym}
+use Rattle.std.proofs.Common.{◌∙◌, sym, subst}
 use Rattle.net_host.specs.Filing.{keys_of}
 use Rattle.net_host.specs.Slots.{Empties}
 use Rattle.net_host.proofs.Places.{lent_changed_if, unsettled}
@@ -13,4 +15,5 @@ invariant_of-self g c = record {
   as_many = c.lend_out.new.self.as_many ∙ sym (changed_len_if c.take_at.result (λ s. Empties s) c.lend_out.new.self.slots.items c.take_at.new.slots.items c.args.handle.index c.take_at.ensures.emptied c.take_at.ensures.stale);
   kept = unsettled c.lend_out.ensures.unsettled;
   as_marked = c.lend_out.new.self.as_marked;
+  whole = subst (λ n. IsWhole c.lend_out.new.self.complete (places_of c.lend_out.new.self.index) n) (sym (changed_len_if c.take_at.result (λ s. Empties s) c.lend_out.new.self.slots.items c.take_at.new.slots.items c.args.handle.index c.take_at.ensures.emptied c.take_at.ensures.stale)) c.lend_out.new.self.whole;
 }
