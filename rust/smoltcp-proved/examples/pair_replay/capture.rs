@@ -1,7 +1,7 @@
 // Made from crates/pair_replay/src/capture.rt by rust/translate: change it there.
 //! What is told of a script's events in place of their lines: packets, as a pcap stream, or reasons.
 
-use crate::why::{put_reason, reason_of};
+use crate::why::{put_why, why_of};
 use smoltcp_proved::kit::alloc::Global;
 use smoltcp_proved::kit::io::Write;
 use smoltcp_proved::kit::vec;
@@ -18,7 +18,7 @@ use smoltcp_proved::proved::sock_pair::{Event, Moment, Outcome, Pair, Segment, S
 pub enum Told {
     /// The packets that this side sent and those that came to it, each at its moment.
     Packets(Side),
-    /// What becomes of each segment that is delivered, and why.
+    /// What becomes of each segment that is delivered, and of each dispatch, and why.
     Reasons,
 }
 
@@ -58,13 +58,13 @@ fn capture_events<W: Write>(
         put(out, &stream_header())?;
     }
     for event in events {
-        let reason = reason_of(pair, event);
+        let why = why_of(pair, event);
         let Ok(outcome) = pair.step(event) else {
             return Err(End::Memory);
         };
         match told {
             Told::Packets(side) => put_packets(alloc, pair, event, &outcome, side, out)?,
-            Told::Reasons => put_reason(alloc, reason, out)?,
+            Told::Reasons => put_why(alloc, why, out)?,
         }
     }
     Ok(())

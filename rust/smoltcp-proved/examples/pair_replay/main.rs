@@ -30,8 +30,9 @@ number of its line and what would be right, a stream that fails with 2.
 
 --pcap a|b   writes the packets that this side sent and received in place of
              lines, each at its moment, as a pcap stream
---why        prints of each segment that is delivered, in place of lines, to
-             which side, its number, and what becomes of it
+--why        prints in place of lines of each segment that is delivered, to
+             which side, its number, and what becomes of it, and of each
+             dispatch why it emits, or that it waits
 ";
 
 fn main() -> ExitCode {

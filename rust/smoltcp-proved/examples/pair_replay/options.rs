@@ -14,7 +14,7 @@ pub enum Task {
     Help,
     /// The lines of the script's events.
     Replay(Option<String>),
-    /// What becomes of each segment that is delivered, and why.
+    /// What becomes of each segment that is delivered, and of each dispatch, and why.
     Reasons(Option<String>),
     /// The packets that this side sent and received.
     Capture(Side, Option<String>),

@@ -3,6 +3,6 @@
 
 pub use crate::proved::sock_core::{RttEstimator, before, congestion, later, not_after, window_shift};
 pub use crate::proved::sock_tcp::{
-    CongestionControl, ConnectError, Generator, ListenError, RecvError, Reply, Row, Rules, RulesError,
-    SendError, Socket, SocketBuffer, State,
+    CongestionControl, ConnectError, Generator, ListenError, Reason, RecvError, Reply, Row, Rules,
+    RulesError, SendError, Socket, SocketBuffer, State,
 };

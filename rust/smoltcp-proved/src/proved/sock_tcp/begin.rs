@@ -13,7 +13,7 @@ use crate::proved::sock_tcp::timer::{Timer, is_over};
 use crate::proved::sock_tcp::tuple::Tuple;
 
 // Whether the interface still has the local address of the connection.
-fn has_local_address<C: Context>(cx: &C, tuple: &Tuple) -> bool {
+pub(crate) fn has_local_address<C: Context>(cx: &C, tuple: &Tuple) -> bool {
     cx.has_ip_addr(tuple.local.addr)
 }
 
@@ -124,7 +124,7 @@ impl<'a> ControlBlock<'a> {
     }
 
     // Whether it is a SYN|ACK that waits.
-    fn is_paused(&self) -> bool {
+    pub(crate) fn is_paused(&self) -> bool {
         matches!(self.state, State::SynReceived) && self.synack_paused
     }
 

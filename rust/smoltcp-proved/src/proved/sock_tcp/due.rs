@@ -126,7 +126,7 @@ impl<'a> ControlBlock<'a> {
         self.nagle && self.flight() != 0 && out < mss && !self.state.is_closing()
     }
 
-    fn is_held_back(&self, out: usize, mss: usize) -> bool {
+    pub(crate) fn is_held_back(&self, out: usize, mss: usize) -> bool {
         self.waits_by_nagle(out, mss) || self.is_cut_short(out, mss)
     }
 

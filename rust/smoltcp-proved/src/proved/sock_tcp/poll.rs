@@ -42,7 +42,7 @@ impl<'a> ControlBlock<'a> {
             || self.window_doubled()
     }
 
-    fn poll_at<C: Context>(&self, cx: &C) -> PollAt {
+    pub(crate) fn poll_at<C: Context>(&self, cx: &C) -> PollAt {
         let tuple = match &self.tuple {
             None => return PollAt::Ingress,
             Some(tuple) => tuple,

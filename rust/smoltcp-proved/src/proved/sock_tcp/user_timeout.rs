@@ -79,7 +79,7 @@ impl<'a> ControlBlock<'a> {
     }
 
     // How long the peer may be silent: the user timeout runs while something is owed.
-    fn silence(&self) -> Option<Duration> {
+    pub(crate) fn silence(&self) -> Option<Duration> {
         if self.state.owes_ack(self.tx_buffer.is_empty()) {
             self.timeout()
         } else if self.state.may_be_idle() {
