@@ -11,6 +11,7 @@ ghost use Rattle.net_host.specs.Touching.{Touches};
 ghost use Rattle.sock_tcp.specs.View.{moment_of};
 ghost use Rattle.net_host.specs.Walks.{ChangesAt, Finds};
 
+use crate::asked::Asked;
 use crate::interface::Interface;
 use crate::segments::first_taker;
 use crate::set::SocketSet;
@@ -241,7 +242,8 @@ fn connection_of<C: Context, G: TsvalSource>(
     ensures ended { sockets.new.ended ≡ sockets.old.ended }
 {
     sockets.settle();
-    first_taker(sockets, cx, false, &said.back, &said.answer())
+    let mut asked = Asked::none();
+    first_taker(sockets, cx, false, &said.back, &said.answer(), &mut asked)
 }
 
 // Whether a connection hears it.

@@ -5,6 +5,7 @@ use crate::kit::Vec;
 use crate::proved::host_context::Words;
 use crate::proved::ip_wire::octets::{be16_at, be32_at, behind};
 use crate::proved::ip_wire::sum::{pseudo_sum, sum_after};
+use crate::proved::net_host::asked::Asked;
 use crate::proved::net_host::interface::Interface;
 use crate::proved::net_host::segments::first_taker;
 use crate::proved::net_host::set::SocketSet;
@@ -173,7 +174,8 @@ fn connection_of<C: Context, G: TsvalSource>(
     said: &TooBig,
 ) -> Option<usize> {
     sockets.settle();
-    first_taker(sockets, cx, false, &said.back, &said.answer())
+    let mut asked = Asked::none();
+    first_taker(sockets, cx, false, &said.back, &said.answer(), &mut asked)
 }
 
 // Whether a connection hears it.
