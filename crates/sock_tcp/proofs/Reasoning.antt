@@ -1,26 +1,30 @@
 -- The reason of a dispatch beside what the dispatch does.
-use Rattle.std.proofs.Common.{◌≡◌, ◌∙◌, ℕ, Bool, true, false, not, ◌&&◌, ◌||◌, length, Option, Some, None, refl, sym, ap, subst}
+use Rattle.std.proofs.Common.{◌≡◌, ◌∙◌, ℕ, Bool, true, false, not, ◌&&◌, ◌||◌, length, Option, Some, None, refl, sym, ap, ap₂, subst}
 use Rattle.std.specs.Prelude.{if◌then◌else◌, ◌==◌}
 use Rattle.net_base.specs.declared.time.Instant.{Instant}
+use Rattle.control_wire.specs.declared.seq_number.TcpSeqNumber.{TcpSeqNumber}
 use Rattle.sock_core.specs.Congestion.{pre_transmitted, reno_pre_transmit}
 use Rattle.sock_core.specs.Facts.{Facts}
 use Rattle.sock_core.specs.declared.congestion.AnyController.{AnyController}
 use Rattle.sock_core.specs.declared.congestion.AnyController.TheVariants as controller
 use Rattle.sock_core.specs.declared.context.PollAt.{PollAt}
 use Rattle.sock_tcp.specs.Begin.{Begun, after_timer, after_timers, before_emit, before_emit_to, begun, begun_to, by_due, ended, going_on, is_paused, last_ts_set, last_ts_set_at, nothing_due, peer_of, probing_begun, readied, retransmission_begun, time_wait_ended, timers_by, told_ready, unless_paused}
-use Rattle.sock_tcp.specs.Due.{ack_due, control_due, data_due, effective_mss, flight, held_poll, is_closed, is_due, is_held_back, is_opening, sendable, window_doubled}
+use Rattle.sock_tcp.specs.Due.{ack_due, data_due, data_due_by, effective_mss, flight, held_poll, is_closed, is_due, is_doubled, is_held_back, is_opening, sendable, tells_window, window_doubled}
 use Rattle.sock_tcp.specs.Next.{due_reason, has_fin, is_timed_out, last_or, reason_by, reason_of, reason_to, timer_reason, unpaused_reason}
 use Rattle.sock_tcp.specs.Opening.{renewed}
 use Rattle.sock_tcp.specs.Poll.{poll_moment}
 use Rattle.sock_tcp.specs.Polls.{is_reached, timeout_poll}
 use Rattle.sock_tcp.specs.Reasons.{Follows, ReasonsSay}
-use Rattle.sock_tcp.specs.Rfc.OwnWindow.{is_grown}
+use Rattle.sock_tcp.specs.Rfc.OwnWindow.{is_grown, may_grow}
 use Rattle.sock_tcp.specs.Rfc.TailLoss.{may_speak, probes_tail}
+use Rattle.sock_tcp.specs.Sack.{sack_ranges}
 use Rattle.sock_tcp.specs.Timers.{is_close_over, is_keep_alive_over, is_over, is_probe_over}
 use Rattle.sock_tcp.specs.View.{View, moment_of}
 use Rattle.sock_tcp.specs.Window.{receive_window}
 use Rattle.sock_tcp.specs.declared.next.Reason.{Reason}
 use Rattle.sock_tcp.specs.declared.next.Reason.TheVariants as reason
+use Rattle.sock_tcp.specs.declared.rules.Rules.{Rules}
+use Rattle.sock_tcp.specs.declared.rules.Rules.TheVariants as rules
 use Rattle.sock_tcp.specs.declared.state.State.TheVariants as state
 use Rattle.sock_tcp.specs.declared.timer.Timer.{Timer}
 use Rattle.sock_tcp.specs.declared.timer.Timer.TheVariants as timer
@@ -99,11 +103,38 @@ module _ (v : View) (f : Facts) (t : Tuple) (e : v.tuple ≡ Some t) where
   abbrev on : Begun
   on = record { view = u; goes_on = true }
 
+  data_same : data_due u t f ≡ data_due_by v mss
+  unfolding data_due sack_ranges
+  data_same = refl
+
+  held_same : held_poll u ≡ held_poll v
+  unfolding ack_due
+  held_same = refl
+
+  doubled_same : (o : Option TcpSeqNumber) → is_doubled u o ≡ is_doubled v o
+  doubled_same None = refl
+  doubled_same (Some ack) = refl
+
+  grow_same : (r : Rules) → may_grow r u ≡ may_grow r v
+  unfolding is_grown receive_window
+  grow_same rules.Smoltcp = refl
+  grow_same rules.Rfc = refl
+
+  window_same : window_doubled u ≡ window_doubled v
+  unfolding window_doubled
+  window_same = ap₂ (λ x y. tells_window v.state && (x && y)) (doubled_same v.remote_last_ack) (grow_same v.rules)
+
+  abbrev due : Bool
+  due = data_due_by v mss || is_reached (held_poll v) now || window_doubled v || is_closed v.state || is_keep_alive_over v.timer now || is_probe_over v.timer now
+
+  due_same : is_due u t f ≡ due
+  unfolding is_due
+  due_same = rw (data_same, held_same, window_same) refl
+
   goes : is_probe_over v.timer now ≡ false → Follows v f u (due_reason v mss now poll) on (by_due (is_due u t f) u f)
-  unfolding is_due data_due window_doubled is_grown receive_window
   goes n =
-    let d = table (v.pending_fast_retransmit && not (length v.tx_buffer.bytes == 0)) (not (sendable v == 0) && not (is_held_back v mss)) (is_opening v.state && (flight v == 0)) (has_fin v) (is_reached (held_poll v) now) (window_doubled v) (is_closed v.state) (is_keep_alive_over v.timer now) (is_probe_over v.timer now) (is_close_over v.timer now) on n in
-    subst (λ (x : Begun). Follows v f u (due_reason v mss now poll) on x) (sym (due_is (is_due u t f))) d
+    let d : Follows v f u (due_reason v mss now poll) on (if due then record { view = u; goes_on = true } else record { view = if is_close_over v.timer now then time_wait_ended v.rules u else u; goes_on = false }) = table (v.pending_fast_retransmit && not (length v.tx_buffer.bytes == 0)) (not (sendable v == 0) && not (is_held_back v mss)) (is_opening v.state && (flight v == 0)) (has_fin v) (is_reached (held_poll v) now) (window_doubled v) (is_closed v.state) (is_keep_alive_over v.timer now) (is_probe_over v.timer now) (is_close_over v.timer now) on n in
+    subst (λ (x : Bool). Follows v f u (due_reason v mss now poll) on (by_due x u f)) (sym due_same) (subst (λ (x : Begun). Follows v f u (due_reason v mss now poll) on x) (sym (due_is due)) d)
 
   rest : is_probe_over v.timer now ≡ false → Follows v f u (unpaused_reason v mss now poll) (unless_paused u) (after (unless_paused u) f)
   rest n = go (is_paused v.state v.synack_paused)
