@@ -1,5 +1,5 @@
 //! The settings of a TCP socket.
-ghost use Rattle.std.specs.Prelude.{◌≡◌, ◌==◌, pos, None, Option, Some, true};
+ghost use Rattle.std.specs.Prelude.{◌≡◌, ◌==◌, pos, None, Option, Some, false, true};
 ghost use Rattle.std.specs.Option.{IfSome};
 ghost use Rattle.net_base.specs.declared.time.Duration.{Duration};
 ghost use Rattle.sock_tcp.specs.Closing.{keep_alive_set};
