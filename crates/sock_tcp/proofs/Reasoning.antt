@@ -133,8 +133,8 @@ module _ (v : View) (f : Facts) (t : Tuple) (e : v.tuple ≡ Some t) where
 
   goes : is_probe_over v.timer now ≡ false → Follows v f u (due_reason v mss now poll) on (by_due (is_due u t f) u f)
   goes n =
-    let d : Follows v f u (due_reason v mss now poll) on (if due then record { view = u; goes_on = true } else record { view = if is_close_over v.timer now then time_wait_ended v.rules u else u; goes_on = false }) = table (v.pending_fast_retransmit && not (length v.tx_buffer.bytes == 0)) (not (sendable v == 0) && not (is_held_back v mss)) (is_opening v.state && (flight v == 0)) (has_fin v) (is_reached (held_poll v) now) (window_doubled v) (is_closed v.state) (is_keep_alive_over v.timer now) (is_probe_over v.timer now) (is_close_over v.timer now) on n in
-    subst (λ (x : Bool). Follows v f u (due_reason v mss now poll) on (by_due x u f)) (sym due_same) (subst (λ (x : Begun). Follows v f u (due_reason v mss now poll) on x) (sym (due_is due)) d)
+      let d : Follows v f u (due_reason v mss now poll) on (if due then record { view = u; goes_on = true } else record { view = if is_close_over v.timer now then time_wait_ended v.rules u else u; goes_on = false }) = table (v.pending_fast_retransmit && not (length v.tx_buffer.bytes == 0)) (not (sendable v == 0) && not (is_held_back v mss)) (is_opening v.state && (flight v == 0)) (has_fin v) (is_reached (held_poll v) now) (window_doubled v) (is_closed v.state) (is_keep_alive_over v.timer now) (is_probe_over v.timer now) (is_close_over v.timer now) on n in
+      subst (λ (x : Bool). Follows v f u (due_reason v mss now poll) on (by_due x u f)) (sym due_same) (subst (λ (x : Begun). Follows v f u (due_reason v mss now poll) on x) (sym (due_is due)) d)
 
   rest : is_probe_over v.timer now ≡ false → Follows v f u (unpaused_reason v mss now poll) (unless_paused u) (after (unless_paused u) f)
   rest n = go (is_paused v.state v.synack_paused)
@@ -167,7 +167,7 @@ module _ (v : View) (f : Facts) (t : Tuple) (e : v.tuple ≡ Some t) where
   closed_due = with_reset (data_due closed t f || is_reached (held_poll closed) now || window_doubled closed) (is_keep_alive_over v.timer now) (is_probe_over v.timer now)
 
   said : Follows v f u (reason_by v mss now poll) (unless_paused (after_timers u now)) (after (unless_paused (after_timers u now)) f)
-  unfolding after_timers may_speak
+  unfolding after_timers may_speak reason_by
   said = by (is_timed_out v now)
     where
       late : (b : Bool) → Follows v f u (if b then reason.TailLossProbe else timer_reason v.timer v mss now poll) (unless_paused (timers_by b u now)) (after (unless_paused (timers_by b u now)) f)

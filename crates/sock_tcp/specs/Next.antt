@@ -68,7 +68,7 @@ last_or (Some last) now = last
 abbrev pub is_timed_out : View → Instant → Bool
 is_timed_out v now = is_reached (timeout_poll (timeout_of v) (Some (last_or v.remote_last_ts now))) now
 
-abbrev pub reason_by : View → ℕ → Instant → PollAt → Reason
+unfoldable pub reason_by : View → ℕ → Instant → PollAt → Reason
 reason_by v mss now poll =
     if is_timed_out v now then reason.UserTimeout
     else (if probes_tail v now then reason.TailLossProbe

@@ -2,10 +2,12 @@
 ghost use Rattle.std.specs.Prelude.{◌≡◌, Some, length};
 ghost use Rattle.sock_core.specs.Bounds.{IsMoment};
 ghost use Rattle.sock_tcp.specs.Next.{due_reason, has_fin, is_timed_out, last_or, reason_by, reason_of, reason_text};
+ghost use Rattle.sock_tcp.specs.Next.{reason_to};
 ghost use Rattle.sock_tcp.specs.Next.{timed_reason, timer_reason, unpaused_reason, waiting_reason};
 ghost use Rattle.sock_tcp.specs.Rfc.TailLoss.{probes_tail};
 ghost use Rattle.sock_tcp.specs.Rfc.UserTimeout.{timeout_of};
-ghost use Rattle.sock_tcp.specs.View.{IsShort};
+ghost use Rattle.sock_tcp.specs.Poll.{poll_moment};
+ghost use Rattle.sock_tcp.specs.View.{IsShort, moment_of};
 
 use crate::begin::has_local_address;
 use crate::control_block::ControlBlock;
@@ -13,6 +15,7 @@ use crate::poll::is_reached;
 use crate::rules::Rules;
 use crate::socket::Socket;
 use crate::timer::{Timer, after, is_over};
+use crate::tuple::Tuple;
 use net_base::time::{Duration, Instant};
 use sock_core::{Context, PollAt};
 use std::fmt;
@@ -212,6 +215,7 @@ impl<'a> ControlBlock<'a> {
         }
     }
 
+    #[tactic(auto, unfolding(crate::specs::Next::reason_by))]
     fn reason(&self, mss: usize, now: Instant, poll: PollAt) -> Reason
         requires { IsMoment now.micros }
         ensures { result ≡ reason_by self.now mss now poll }
@@ -224,24 +228,40 @@ impl<'a> ControlBlock<'a> {
         }
         self.timer_reason(mss, now, poll)
     }
+
+    fn reason_here<C: Context>(&self, cx: &C, mss: usize) -> Reason
+        ensures { result ≡ reason_by self.now mss (moment_of (C.facts cx.now)) (poll_moment self.now (C.facts cx.now)) }
+    {
+        let poll = self.poll_at(cx);
+        self.reason(mss, cx.now(), poll)
+    }
+
+    fn reason_toward<C: Context>(&self, cx: &C, tuple: &Tuple) -> Reason
+        ensures { result ≡ reason_to (Some tuple.now) self.now (C.facts cx.now) }
+    {
+        if !has_local_address(cx, tuple) {
+            return Reason::AddressGone;
+        }
+        self.reason_here(cx, self.effective_mss(cx, tuple))
+    }
+
+    #[tactic(auto, unfolding(crate::specs::Next::reason_of))]
+    fn next<C: Context>(&self, cx: &C) -> Reason
+        ensures { result ≡ reason_of self.now (C.facts cx.now) }
+    {
+        match &self.tuple {
+            None => Reason::NoPeer,
+            Some(tuple) => self.reason_toward(cx, tuple),
+        }
+    }
 }
 
 impl<'a, G> Socket<'a, G> {
     /// What [`Socket::dispatch`] does next in this context, and why. Nothing changes. What a reason says of `dispatch`:
     /// `reasons::reasons_say_what_goes_out`.
-    #[tactic(auto, unfolding(crate::specs::Next::reason_of))]
     pub fn next<C: Context>(&self, cx: &C) -> Reason
         ensures { result ≡ reason_of self.now.control_block (C.facts cx.now) }
     {
-        let block = &self.control_block;
-        let tuple = match &block.tuple {
-            None => return Reason::NoPeer,
-            Some(tuple) => tuple,
-        };
-        if !has_local_address(cx, tuple) {
-            return Reason::AddressGone;
-        }
-        let mss = block.effective_mss(cx, tuple);
-        block.reason(mss, cx.now(), block.poll_at(cx))
+        self.control_block.next(cx)
     }
 }
