@@ -1,5 +1,5 @@
 //! How many places are asked for a segment.
-ghost use Rattle.std.specs.Prelude.{◌≡◌, ◌≤◌, ◌+◌, ◌↔◌, IsTrue};
+ghost use Rattle.std.specs.Prelude.{◌≡◌, ◌≤◌, ◌+◌, ◌-◌, ◌^◌, ◌↔◌, IsTrue, min};
 ghost use Rattle.control_wire.specs.Segment.{segment_of};
 ghost use Rattle.net_host.specs.Finding.{Fits};
 ghost use Rattle.net_host.specs.Resting.{OnlyOf, RestsUntil};
@@ -28,7 +28,7 @@ impl Asked {
 
     #[inline(always)]
     fn add(&mut self)
-        ensures { self.new.count ≤ self.old.count + 1 }
+        ensures { self.new.count ≡ min (self.old.count + 1) (2 ^ 64 - 1) }
     {
         self.count = self.count.saturating_add(1);
     }
@@ -46,6 +46,7 @@ impl Asked {
     ) -> bool
         ensures fits { IsTrue result ↔ IsAt (Fits sought ip.now (segment_of repr.now)) slots.now place }
         ensures counted { self.new.count ≤ self.old.count + 1 }
+        ensures exact { self.new.count ≡ min (self.old.count + 1) (2 ^ 64 - 1) }
     {
         self.add();
         match slots.get(place) {
@@ -64,6 +65,7 @@ impl Asked {
     ) -> Option<Instant>
         ensures until { OnlyOf (λ t. RestsUntil ip.now (segment_of repr.now) t slot.now) result }
         ensures counted { self.new.count ≤ self.old.count + 1 }
+        ensures exact { self.new.count ≡ min (self.old.count + 1) (2 ^ 64 - 1) }
     {
         self.add();
         slot.rests_until(ip, repr)

@@ -101,6 +101,7 @@ impl<'a> ControlBlock<'a> {
         }
     }
 
+    #[inline(never)]
     fn timeout_poll_by_rfc(&self) -> PollAt
         requires { self.now.rules ≡ Rfc }
         ensures { result ≡ timeout_poll (timeout_of self.now) self.now.remote_last_ts }
