@@ -75,24 +75,33 @@ impl State {
 impl<'a> ControlBlock<'a> {
     // When the user timeout is over. By smoltcp's rules it stands in line, as each dispatch asks.
     #[inline(always)]
-    #[tactic(auto, using(crate::proofs::UserTimeout::nothing_runs))]
+    #[tactic(auto, unfolding(crate::specs::Rfc::UserTimeout::timeout_by))]
     pub(crate) fn timeout_poll(&self) -> PollAt
         ensures { result ≡ timeout_poll (timeout_of self.now) self.now.remote_last_ts }
     {
         if !self.has_timeout {
-            return PollAt::Ingress;
+            return self.no_timeout_poll();
         }
         match self.rules {
-            Rules::Smoltcp => self.timeout_poll_by_smoltcp(),
+            Rules::Smoltcp => self.set_timeout_poll(),
             Rules::Rfc => self.timeout_poll_by_rfc(),
         }
     }
 
+    // None is set.
     #[inline(always)]
-    #[tactic(auto, unfolding(crate::specs::Rfc::UserTimeout::timeout_by))]
-    fn timeout_poll_by_smoltcp(&self) -> PollAt
-        requires { self.now.rules ≡ Smoltcp }
+    #[tactic(auto, using(crate::proofs::UserTimeout::nothing_runs))]
+    fn no_timeout_poll(&self) -> PollAt
+        requires { self.now.timeout ≡ None }
         ensures { result ≡ timeout_poll (timeout_of self.now) self.now.remote_last_ts }
+    {
+        PollAt::Ingress
+    }
+
+    // The one that is set, where it runs.
+    #[inline(always)]
+    fn set_timeout_poll(&self) -> PollAt
+        ensures { result ≡ timeout_poll self.now.timeout self.now.remote_last_ts }
     {
         if self.has_timeout && self.has_remote_last_ts {
             PollAt::Time(after(self.remote_last_ts, self.timeout))
@@ -102,7 +111,21 @@ impl<'a> ControlBlock<'a> {
     }
 
     #[inline(never)]
+    #[tactic(auto, unfolding(crate::specs::Rfc::UserTimeout::timeout_by))]
     fn timeout_poll_by_rfc(&self) -> PollAt
+        requires { self.now.rules ≡ Rfc }
+        ensures { result ≡ timeout_poll (timeout_of self.now) self.now.remote_last_ts }
+    {
+        if self.state.owes_ack(self.tx_buffer.is_empty()) {
+            self.set_timeout_poll()
+        } else {
+            self.idle_timeout_poll()
+        }
+    }
+
+    // Apart, as most connections that are asked owe something, or have no keep-alives.
+    #[inline(never)]
+    fn idle_timeout_poll(&self) -> PollAt
         requires { self.now.rules ≡ Rfc }
         ensures { result ≡ timeout_poll (timeout_of self.now) self.now.remote_last_ts }
     {

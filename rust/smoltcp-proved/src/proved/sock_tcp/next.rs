@@ -9,6 +9,7 @@ use crate::proved::sock_tcp::poll::is_reached;
 use crate::proved::sock_tcp::rules::Rules;
 use crate::proved::sock_tcp::socket::Socket;
 use crate::proved::sock_tcp::timer::{Timer, after, is_over};
+use crate::proved::sock_tcp::tuple::Tuple;
 use core::fmt;
 
 /// What the next `dispatch` does, and why. Up to `WindowProbe` it is what comes before the reasons to emit: what goes
@@ -178,21 +179,31 @@ impl<'a> ControlBlock<'a> {
         }
         self.timer_reason(mss, now, poll)
     }
+
+    fn reason_here<C: Context>(&self, cx: &C, mss: usize) -> Reason {
+        let poll = self.poll_at(cx);
+        self.reason(mss, cx.now(), poll)
+    }
+
+    fn reason_toward<C: Context>(&self, cx: &C, tuple: &Tuple) -> Reason {
+        if !has_local_address(cx, tuple) {
+            return Reason::AddressGone;
+        }
+        self.reason_here(cx, self.effective_mss(cx, tuple))
+    }
+
+    fn next<C: Context>(&self, cx: &C) -> Reason {
+        match &self.tuple {
+            None => Reason::NoPeer,
+            Some(tuple) => self.reason_toward(cx, tuple),
+        }
+    }
 }
 
 impl<'a, G> Socket<'a, G> {
     /// What [`Socket::dispatch`] does next in this context, and why. Nothing changes. What a reason says of `dispatch`:
     /// `reasons::reasons_say_what_goes_out`.
     pub fn next<C: Context>(&self, cx: &C) -> Reason {
-        let block = &self.control_block;
-        let tuple = match &block.tuple {
-            None => return Reason::NoPeer,
-            Some(tuple) => tuple,
-        };
-        if !has_local_address(cx, tuple) {
-            return Reason::AddressGone;
-        }
-        let mss = block.effective_mss(cx, tuple);
-        block.reason(mss, cx.now(), block.poll_at(cx))
+        self.control_block.next(cx)
     }
 }

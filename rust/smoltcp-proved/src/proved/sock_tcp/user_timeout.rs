@@ -54,16 +54,23 @@ impl<'a> ControlBlock<'a> {
     #[inline(always)]
     pub(crate) fn timeout_poll(&self) -> PollAt {
         if !self.has_timeout {
-            return PollAt::Ingress;
+            return self.no_timeout_poll();
         }
         match crate::kit::in_force(self.rules) {
-            Rules::Smoltcp => self.timeout_poll_by_smoltcp(),
+            Rules::Smoltcp => self.set_timeout_poll(),
             Rules::Rfc => self.timeout_poll_by_rfc(),
         }
     }
 
+    // None is set.
     #[inline(always)]
-    fn timeout_poll_by_smoltcp(&self) -> PollAt {
+    fn no_timeout_poll(&self) -> PollAt {
+        PollAt::Ingress
+    }
+
+    // The one that is set, where it runs.
+    #[inline(always)]
+    fn set_timeout_poll(&self) -> PollAt {
         if self.has_timeout && self.has_remote_last_ts {
             PollAt::Time(after(self.remote_last_ts, self.timeout))
         } else {
@@ -71,7 +78,18 @@ impl<'a> ControlBlock<'a> {
         }
     }
 
+    #[inline(never)]
     fn timeout_poll_by_rfc(&self) -> PollAt {
+        if self.state.owes_ack(self.tx_buffer.is_empty()) {
+            self.set_timeout_poll()
+        } else {
+            self.idle_timeout_poll()
+        }
+    }
+
+    // Apart, as most connections that are asked owe something, or have no keep-alives.
+    #[inline(never)]
+    fn idle_timeout_poll(&self) -> PollAt {
         match (self.silence(), self.remote_last_ts()) {
             (Some(timeout), Some(last)) => PollAt::Time(after(last, timeout)),
             _ => PollAt::Ingress,
