@@ -1,11 +1,12 @@
-use Rattle.std.proofs.Common.{rules, to_z, of_z, w64, ◌≡◌, ◌∙◌, ◌<◌, min, length, refl, sym, subst, arith}
+use Rattle.std.proofs.Common.{rules, to_z, of_z, w64, ◌≡◌, ◌∙◌, ◌<◌, min, length, Some, refl, sym, subst, arith}
 use Rattle.std.specs.Prelude.{◌<ℤ◌}
 use Rattle.host_bounds.specs.Bounding.{bound_at}
 use Rattle.sock_tcp.specs.View.{moment_of}
-use Rattle.net_host.specs.Looking.{LooksIn, MayLook}
+use Rattle.net_host.specs.Looking.{Astir, LooksIn, MayLook}
 use Rattle.net_host.specs.Touching.{UnmarksIn}
 use Rattle.net_host.proofs.Sleepers.{each_len}
 use Rattle.net_host.proofs.Telling.{tells_none, tells_then}
+use Rattle.net_host.proofs.Turning.{first_found}
 use Rattle.net_host.proofs.Unmarked.{after_now, all_unmarked}
 use Rattle.net_host.proofs.Walking.{all_rest, over_now, second_goes}
 use Rattle.net_host.proofs.looking.next_due.Goals as goal
@@ -50,3 +51,16 @@ returns-then-are_after-clause-unmarked g c =
     let now_is : to_z w64 (of_z w64 c.now.result.micros) ≡ c.now.result.micros = search rules in
     λ e k l. after_now (g.C.Context.facts c.args.cx.now).now (bound_at c.args.sockets.now.bounds k) c.now.ensures.lawful.0
     (subst (λ z. z <ℤ bound_at c.args.sockets.now.bounds k) (now_is ∙ c.now.ensures.value) (c.are_after.ensures c.if-are_after.true k l))
+
+pub returns-in-Some-clause-looked : goal.returns-in-Some-clause-looked
+returns-in-Some-clause-looked g c =
+    let f = g.C.Context.facts c.args.cx.now in
+    let st = c.args.sockets.now.terms.guards in
+    let looked : LooksIn f st c.min-start.result c.len-count.result c.args.sockets.now.slots.items (Some c.in-Some.i) c.due_between.new.sockets.slots.items = c.in-Some.ensures.looked in
+    let len : length c.due_between.new.sockets.slots.items ≡ length c.args.sockets.now.slots.items = each_len (MayLook st (moment_of f)) _ _ looked.changed in
+    let least : c.min-start.result ≡ min c.args.turn (length c.args.sockets.now.slots.items) = search rules in
+    record {
+      changed = looked.changed;
+      found = first_found (Astir f st) c.due_between.new.sockets.slots.items c.args.turn c.min-start.result c.in-Some.i (subst (λ n. c.min-start.result ≡ min c.args.turn n) (sym len) least) looked.found.0;
+      due = looked.due;
+    }

@@ -1,5 +1,6 @@
 use Rattle.std.proofs.Common.{rules, ◌≡◌, true, refl, subst}
 use Rattle.std.specs.Prelude.{IfSome, slice_get}
+use Rattle.net_host.specs.Looking.{is_seen}
 use Rattle.net_host.specs.Turns.{Watches}
 use Rattle.net_host.proofs.Polls.{seen_there}
 use Rattle.net_host.proofs.Each.{changes_nothing}
@@ -25,3 +26,6 @@ returns-then-not-is_idle_at-clause-bounds g c = keeps_set c.args.i _ _ _ c.watch
 
 pub returns-else-not-is_idle_at-clause-bounds : goal.returns-else-not-is_idle_at-clause-bounds
 returns-else-not-is_idle_at-clause-bounds g c = keeps_same c.args.i _ _ refl
+
+pub returns-else-not-is_idle_at-clause-seen : goal.returns-else-not-is_idle_at-clause-seen
+returns-else-not-is_idle_at-clause-seen g c = subst (λ ss. IfSome (slice_get ss c.args.i) (λ s. is_seen c.args.sockets.now.terms.guards s ≡ true)) c.deref.ensures.value (c.if-not-is_idle_at.ensures.seen refl)

@@ -1,6 +1,8 @@
-use Rattle.std.proofs.Common.{◌∙◌, ap, sym}
+use Rattle.std.proofs.Common.{◌∙◌, ap, sym, subst}
 use Rattle.net_host.specs.Filing.{keys_of}
 use Rattle.net_host.specs.Looking.{sleeps}
+use Rattle.host_index.specs.Filing.{places_of}
+use Rattle.net_host.specs.Refiling.{IsWhole}
 use Rattle.net_host.proofs.Places.{lent_changed, unsettled}
 use Rattle.net_host.proofs.Sleepers.{changed_len, marked_changes}
 use Rattle.net_host.proofs.Touching.{touches_lent}
@@ -13,6 +15,7 @@ invariant_of-sockets g c = record {
   as_many = c.lend.new.self.as_many ∙ sym (changed_len _ c.lend.new.self.slots.items c.narrow_there.new.slots.items c.args.i c.narrow_there.ensures);
   kept = unsettled c.lend.ensures.unsettled;
   as_marked = c.lend.new.self.as_marked;
+  whole = subst (λ n. IsWhole c.lend.new.self.complete (places_of c.lend.new.self.index) n) (sym (changed_len _ c.lend.new.self.slots.items c.narrow_there.new.slots.items c.args.i c.narrow_there.ensures)) c.lend.new.self.whole;
 }
 
 pub returns-clause-touched : goal.returns-clause-touched

@@ -27,7 +27,9 @@ pub of_free-requires-clause-as_marked : goal.of_free-requires-clause-as_marked
 of_free-requires-clause-as_marked g c = c.clear.ensures.len ∙ c.in_ok-ended.ensures.len ∙ sym c.in_ok-free.ensures.len
 
 pub of_free-requires-clause-places : goal.of_free-requires-clause-places
-of_free-requires-clause-places g c = c.in_ok-index.ensures.places ∙ ap (λ n. min n 1073741824) (sym c.loop.invariant.count)
+of_free-requires-clause-places g c =
+    let count : c.args.capacity ≡ length c.loop.slots.items = omega (arith, c.loop.auto.counter-end, c.loop-test.false, c.loop.invariant.count) in
+    c.in_ok-index.ensures.places ∙ ap (λ n. min n 1073741824) count
 
 pub returns-clause-free : goal.returns-clause-free
 returns-clause-free g c = subst (λ v. All (λ s. IsFirstFree s) v.items) (sym c.of_free.ensures.slots) c.loop.invariant.free
