@@ -103,9 +103,9 @@ fn lose_of(cubic: &mut Cubic, in_flight: usize) {
     cubic.on_loss(NOW, in_flight);
 }
 
-// The window once a whole one is acknowledged, so many milliseconds after the start.
-fn acked_at(cubic: &mut Cubic, millis: u64) -> usize {
-    let now = Instant { micros: millis as i64 * 1000 };
+// The window once a whole one is acknowledged, so many microseconds after the start.
+fn acked_at(cubic: &mut Cubic, micros: i64) -> usize {
+    let now = Instant { micros };
     let len = cubic.window();
     cubic.on_ack(now, len, 0, &RttEstimator::default());
     cubic.window()
@@ -119,8 +119,8 @@ fn cubic_returns_to_where_it_was(rt: HostRuntime) -> Result<(), Fail> {
     let mut cubic = cubic(100000);
     assert!(rt; (cubic.ssthresh(), cubic.window()) == (70000, 70000));
     assert!(rt; acked_at(&mut cubic, 0) == 70529);
-    assert!(rt; acked_at(&mut cubic, 4217) == 100000);
-    assert!(rt; acked_at(&mut cubic, 6217) == 103200);
+    assert!(rt; acked_at(&mut cubic, 4217000) == 100000);
+    assert!(rt; acked_at(&mut cubic, 6217000) == 103200);
     Ok(())
 }
 
@@ -133,6 +133,6 @@ fn cubic_gives_way(rt: HostRuntime) -> Result<(), Fail> {
     ack(&mut cubic, 1000);
     assert!(rt; (cubic.ssthresh(), cubic.window()) == (56000, 56000));
     acked_at(&mut cubic, 0);
-    assert!(rt; acked_at(&mut cubic, 3107) == 68000);
+    assert!(rt; acked_at(&mut cubic, 3107000) == 68000);
     Ok(())
 }
