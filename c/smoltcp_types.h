@@ -108,7 +108,7 @@ struct smoltcp_context {
 
 /* Memory for a TCP socket, for these calls alone. It may lie in an array, in another struct or on the stack; from
  * smoltcp_tcp_init on it stays where it is. */
-enum { SMOLTCP_TCP_SIZE = 560 };
+enum { SMOLTCP_TCP_SIZE = 584 };
 struct smoltcp_tcp { uint64_t opaque[SMOLTCP_TCP_SIZE / 8]; };
 
 /* The size of each kind of socket, and of a place of its queues, in bytes. */
