@@ -143,11 +143,7 @@ fn too_big_v6(tested: bool, ip: &Ipv6Repr, bytes: &[u8]) -> Option<TooBig>
 
 /// What the message behind the header says of a packet that was too long, if that is what it says.
 #[tactic(auto, unfolding(crate::specs::PathMtu::too_big_in))]
-pub(crate) fn too_big_in(
-    caps: &ChecksumCapabilities,
-    ip: &IpRepr,
-    bytes: &[u8],
-) -> Option<TooBig>
+pub(crate) fn too_big_in(caps: &ChecksumCapabilities, ip: &IpRepr, bytes: &[u8]) -> Option<TooBig>
     ensures { result ≡ too_big_in caps.now ip.now bytes.now }
 {
     match ip {
