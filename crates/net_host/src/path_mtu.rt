@@ -248,7 +248,8 @@ fn hear_too_big<C: Context, G: TsvalSource>(
     cx: &C,
     said: &TooBig,
 ) -> bool
-    ensures heard { HearsTooBig (moment_of (C.facts cx.now)) said.now sockets.old.slots.items result sockets.new.slots.items }
+    ensures heard { HearsTooBig (moment_of (C.facts cx.now)) said.now sockets.old.slots.items result
+        sockets.new.slots.items }
     ensures touched { Touches sockets.old.bounds sockets.old.slots.items sockets.new.bounds
         sockets.new.slots.items }
     ensures ended { sockets.new.ended ≡ sockets.old.ended }
@@ -266,7 +267,8 @@ pub(crate) fn hear_said<C: Context, G: TsvalSource>(
     cx: &C,
     said: &Option<TooBig>,
 ) -> bool
-    ensures heard { HearsSaid (moment_of (C.facts cx.now)) said.now sockets.old.slots.items result sockets.new.slots.items }
+    ensures heard { HearsSaid (moment_of (C.facts cx.now)) said.now sockets.old.slots.items result
+        sockets.new.slots.items }
     ensures touched { Touches sockets.old.bounds sockets.old.slots.items sockets.new.bounds
         sockets.new.slots.items }
     ensures ended { sockets.new.ended ≡ sockets.old.ended }

@@ -72,8 +72,9 @@ pub extern "C" fn smoltcp_raw_ask_nonnull(h: &mut RawHandle, what: u32) -> i64
 
 /// Answers what a TCP socket is asked: 2 to 5 as a UDP socket, 12 `is_listening`, 13 `is_active`, 14 `has_work`,
 /// 15 `may_recv`, 16 `send_capacity`, 17 `recv_capacity`, 18 `timeout`, 19 `keep_alive`, 20 `ack_delay` (all three in
-/// microseconds, or -1 for none), 21 `nagle_enabled`, 22 `congestion_control` (0 none, 1 Reno, 2 CUBIC), 23 `timestamp_enabled`,
-/// 24 `rules` (0 smoltcp's, 1 the RFCs'), 25 `min_rto` in microseconds. `ERROR_RANGE` for another question.
+/// microseconds, or -1 for none), 21 `nagle_enabled`, 22 `congestion_control` (0 none, 1 Reno, 2 CUBIC), 23
+/// `timestamp_enabled`, 24 `rules` (0 smoltcp's, 1 the RFCs'), 25 `min_rto` in microseconds. `ERROR_RANGE` for another
+/// question.
 #[unsafe(no_mangle)]
 pub extern "C" fn smoltcp_tcp_ask_nonnull(h: &mut TcpHandle, what: u32) -> i64
     ensures answer { result ≡ tcp_told what (view h.old) }

@@ -192,9 +192,9 @@ pub extern "C" fn smoltcp_tcp_set_hop_limit_nonnull(h: &mut TcpHandle, hop_limit
     OK
 }
 
-/// Tells the path MTU: the length in bytes of the longest packet that reaches the peer, of which less than 576 counts as
-/// 576 over IPv4, and less than 1280 as 1280 over IPv6 (RFC 1191, RFC 8201). Where segments get shorter and bytes are in
-/// flight, these go out again at once. 0, or `ERROR_CONTEXT` out of the context's ranges, where nothing changes.
+/// Tells the path MTU: the length in bytes of the longest packet that reaches the peer, where less than 576 counts as
+/// 576 over IPv4, and less than 1280 as 1280 over IPv6 (RFC 1191, RFC 8201). Where segments get shorter and bytes are
+/// in flight, these go out again at once. 0, or `ERROR_CONTEXT` out of the context's ranges, where nothing changes.
 #[unsafe(no_mangle)]
 pub extern "C" fn smoltcp_tcp_set_path_mtu_nonnull(h: &mut TcpHandle, cx: &Cx, mtu: u32) -> i64
     ensures context { is_context cx.entry.now ≡ false → Refuses error_context h.old result h.new }

@@ -28,4 +28,5 @@ Follows v f r (reason.Waits poll) b e = (e ≡ ended r) × (poll ≡ poll_moment
 Follows v f r _ b e = e ≡ going_on r
 
 abbrev pub ReasonsSay : Type 0
-ReasonsSay = (v : View) (f : Facts) → Follows v f (readied v (moment_of f)) (reason_of v f) (begun v f) (before_emit v f)
+ReasonsSay = (v : View) (f : Facts)
+    → Follows v f (readied v (moment_of f)) (reason_of v f) (begun v f) (before_emit v f)

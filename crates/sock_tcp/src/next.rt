@@ -50,8 +50,8 @@ pub enum Reason {
     Syn,
     /// The FIN, with the bytes before it (RFC 9293, section 3.6).
     Fin,
-    /// An acknowledgement whose delay is over (RFC 9293, section 3.8.6.3), or by the RFCs' rules bytes that waited for a
-    /// larger window (section 3.8.6.2.1).
+    /// An acknowledgement whose delay is over (RFC 9293, section 3.8.6.3), or by the RFCs' rules bytes that waited for
+    /// a larger window (section 3.8.6.2.1).
     Delayed,
     /// A receive window that has doubled since it was sent (RFC 9293, section 3.8.6). As smoltcp.
     WindowUpdate,

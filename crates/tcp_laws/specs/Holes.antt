@@ -1,4 +1,4 @@
--- By the RFCs' rules what is told of a loss lets the hole go out next (RFC 5681, section 3.2; RFC 6675, sections 4 and 5).
+-- By the RFCs' rules what is told of a loss lets the hole go out next (RFC 5681, section 3.2; RFC 6675, 4 and 5).
 use Rattle.std.specs.Prelude.{ℕ, ◌≡◌, ◌<◌, ◌*◌, ◌^◌, ◌⊎◌, length, Some, Bool, true, false}
 use Rattle.ip_wire.specs.declared.repr.IpRepr.{IpRepr}
 use Rattle.net_base.specs.declared.time.Instant.{Instant}

@@ -3,8 +3,8 @@
 
 /// By either rules, where `next` returned a reason:
 ///
-/// - `Reset`, `Retransmission`, `Data`, `Syn`, `Fin`, `Delayed`, `WindowUpdate`, `KeepAlive`: a segment of the socket as
-///   it is goes to the peer.
+/// - `Reset`, `Retransmission`, `Data`, `Syn`, `Fin`, `Delayed`, `WindowUpdate`, `KeepAlive`: a segment of the socket
+///   as it is goes to the peer.
 /// - `NoPeer`, `AddressGone`, `Paused`, `TimeWaitOver`, `Waits`: `emit` is not called. `AddressGone` resets the socket,
 ///   `TimeWaitOver` ends the connection; a socket that waits is left alone, and its moment is that of `poll_at`.
 /// - `UserTimeout`: the socket is CLOSED, and its RST goes to the peer.
