@@ -112,8 +112,8 @@ fn acked_at(cubic: &mut Cubic, micros: i64) -> usize {
 }
 
 // The threshold is 0.7 of 100 segments (RFC 9438, section 4.6). At first W_est is beyond W_cubic, 9/17 of a segment
-// more (section 4.3); after K, the cube root of 30 / 0.4, which is 4.217 s, the window is what it was (section 4.2), and two
-// seconds later 0.4 * 8 segments more.
+// more (section 4.3); after K, the cube root of 30 / 0.4, which is 4.217 s, the window is what it was (section 4.2),
+// and two seconds later 0.4 * 8 segments more.
 #[test]
 fn cubic_returns_to_where_it_was(rt: HostRuntime) -> Result<(), Fail> {
     let mut cubic = cubic(100000);
